@@ -37,9 +37,11 @@ pub whole_none : (xs : List ℕ) → IsWholeLines xs → LineFeedAt xs None → 
 whole_none [] whole none = refl
 whole_none (x ∷ xs) whole none =
     absurd
-        (omega
-            (arith, whole_feeds (x ∷ xs) whole (omega arith),
-                line_feeds-unbroken (x ∷ xs) (unbroken-all (x ∷ xs) none)))
+    (omega (
+      arith,
+      whole_feeds (x ∷ xs) whole (omega arith),
+      line_feeds-unbroken (x ∷ xs) (unbroken-all (x ∷ xs) none),
+    ))
 
 -- the same bytes in front of both
 pub Keeps-front : (front w w' : List ℕ) (left left' : Option (List ℕ))
@@ -64,14 +66,14 @@ next_between : (known left left' : Option (List ℕ)) (room : ℕ) (front : List
     → IsBetweenLines known new.line new.kept (front ++ new.block.waiting) left'
 next_between known left left' room front old middle new u added same re waits =
     let there : IsBetweenLines known middle.line middle.kept (front ++ old.block.waiting) left =
-        added.between waits.bytes (front ++ old.block.waiting) known left room waits.judged waits.few
-            waits.between in
+    added.between waits.bytes (front ++ old.block.waiting) known left room waits.judged waits.few
+    waits.between in
     let keeps : Keeps (prepend_known old.block.waiting left) (prepend_known new.block.waiting left') =
-        rw same.block at re.keeps in
+    rw same.block at re.keeps in
     rw (re.lines.line, re.lines.kept)
-        (IsBetween-keeps (traces newest_version) known middle.line middle.kept (front ++ old.block.waiting)
-            (front ++ new.block.waiting) left left'
-            (Keeps-front front old.block.waiting new.block.waiting left left' keeps) there)
+    (IsBetween-keeps (traces newest_version) known middle.line middle.kept (front ++ old.block.waiting)
+    (front ++ new.block.waiting) left left'
+    (Keeps-front front old.block.waiting new.block.waiting left left' keeps) there)
 
 next_few : (known left left' : Option (List ℕ)) (room limit : ℕ) (front : List ℕ) (old middle new : Ahead)
     (asks : Bool)
@@ -83,10 +85,15 @@ next_few known left left' room limit front old middle new true is few same_limit
     omega (arith, filled, re.limit, ap (λ b. b.limit) same.block, length-append front new.block.waiting)
 next_few known left left' room limit front old middle new false is few same_limit all same re waits =
     let none = re.unasked (same.asks ∙ sym is) in
-    omega
-        (arith, waits.few, length-append waits.bytes (front ++ old.block.waiting),
-            length-append front old.block.waiting, length-append front new.block.waiting,
-            ap (λ b. length b.waiting) none.0.block, ap (λ b. length b.waiting) same.block)
+    omega (
+      arith,
+      waits.few,
+      length-append waits.bytes (front ++ old.block.waiting),
+      length-append front old.block.waiting,
+      length-append front new.block.waiting,
+      ap (λ b. length b.waiting) none.0.block,
+      ap (λ b. length b.waiting) same.block,
+    )
 
 next_end : (known left left' : Option (List ℕ)) (room : ℕ) (front : List ℕ) (old middle new : Ahead)
     (asks : Bool)
@@ -107,7 +114,7 @@ next_waits known left left' room limit front old new u few same_limit all worked
   between = next_between known left left' room front old worked.0 new u worked.1 worked.2 worked.3 waits;
   few =
       next_few known left left' room limit front old worked.0 new old.asks refl few same_limit all worked.2
-          worked.3 waits;
+      worked.3 waits;
   end = next_end known left left' room front old worked.0 new old.asks refl worked.2 worked.3 waits;
 }
 
@@ -118,7 +125,7 @@ pub waits_memory : (known left : Option (List ℕ)) (room : ℕ) (front : List �
     → Waits known left room front ahead → IsToldNext Memory known left room ahead
 waits_memory known left room front ahead waits =
     no_memory known ahead.line room ahead.kept (waits.bytes ++ (front ++ ahead.block.waiting)) left waits.few
-        waits.between
+    waits.between
 
 pub next_memory : (known left : Option (List ℕ)) (room : ℕ) (front : List ℕ) (new : Ahead)
     → Next known left room front new → IsToldNext Memory known left room new
@@ -132,7 +139,7 @@ pub waits_parted : (known left : Option (List ℕ)) (room : ℕ) (front front' :
     → new.filled ≡ old.filled → Waits known left room front old → Waits known left room front' new
 waits_parted known left room front front' old new none parts same filled waits =
     let all : front ++ old.block.waiting ≡ front' ++ new.block.waiting =
-        ap (λ xs. front ++ xs) none ∙ append-nil front ∙ parts in
+    ap (λ xs. front ++ xs) none ∙ append-nil front ∙ parts in
     record {
       bytes = waits.bytes;
       judged = rw (same.kept, same.pieces) waits.judged;
@@ -151,7 +158,7 @@ pub waits_first : (known left : Option (List ℕ)) (room : ℕ) (front : List �
     → ahead.pieces.items ≡ [] → Waits known left room front ahead → First known left room front ahead
 waits_first known left room front ahead none waits =
     let empty : waits.bytes ≡ [] =
-        subst (λ (ps : List Piece). AreJudged ahead.kept.version ps waits.bytes) none waits.judged in
+    subst (λ (ps : List Piece). AreJudged ahead.kept.version ps waits.bytes) none waits.judged in
     record { between = rw empty at waits.between; few = rw empty at waits.few }
 
 -- ---- the source
@@ -168,10 +175,10 @@ pub HasMet-more : (old new : Ahead) (a a' b b' : ℕ) → old.filled ≡ Ok true
     → MeetsMore old new a a' b b'
 HasMet-more old new a a' b b' more taken broken t first_a first_b met =
     let before : TakesTurns None t old.turns first_a a =
-        subst (λ (f : Result Bool ReadCause). TakesTurns (result_err f) t old.turns first_a a) more
-            met.taken in
+    subst (λ (f : Result Bool ReadCause). TakesTurns (result_err f) t old.turns first_a a) more
+    met.taken in
     let unbroken : b ≡ first_b =
-        subst (λ (f : Result Bool ReadCause). b ≡ breaks_told (result_err f) first_b) more met.broken in
+    subst (λ (f : Result Bool ReadCause). b ≡ breaks_told (result_err f) first_b) more met.broken in
     record {
       taken = TakesTurns-more (result_err new.filled) t old.turns new.turns first_a a a' before taken;
       broken = broken ∙ ap (breaks_told (result_err new.filled)) unbroken;
@@ -193,23 +200,26 @@ pub added_last : (known left : Option (List ℕ)) (room : ℕ) (front : List ℕ
 added_last known left room front old new u none added waits =
     let all : front ++ old.block.waiting ≡ front = ap (λ xs. front ++ xs) none ∙ append-nil front in
     rw all
-        at
-            (added.between waits.bytes (front ++ old.block.waiting) known left room waits.judged waits.few
-                waits.between)
+    at
+    (added.between waits.bytes (front ++ old.block.waiting) known left room waits.judged waits.few
+    waits.between)
 
 pub front_few : (known left : Option (List ℕ)) (room : ℕ) (front : List ℕ) (old : Ahead)
     → Waits known left room front old → length front ≤ room
 front_few known left room front old waits =
-    omega
-        (arith, waits.few, length-append waits.bytes (front ++ old.block.waiting),
-            length-append front old.block.waiting)
+    omega (
+      arith,
+      waits.few,
+      length-append waits.bytes (front ++ old.block.waiting),
+      length-append front old.block.waiting,
+    )
 
 pub added_fault : (known left : Option (List ℕ)) (room : ℕ) (front : List ℕ) (old new : Ahead)
     (cause : ReadCause)
     → IsAdded (Err cause) old new → Waits known left room front old → IsToldNext cause known left room new
 added_fault known left room front old new cause added waits =
     added.between waits.bytes (front ++ old.block.waiting) known left room waits.judged waits.few
-        waits.between
+    waits.between
 
 -- ---- the start
 
@@ -220,8 +230,8 @@ pub start_waits : (known left : Option (List ℕ)) (room : ℕ) (front : List �
 start_waits known left room front ahead line kept pieces none keeps few end =
     let all : front ++ ahead.block.waiting ≡ front = ap (λ xs. front ++ xs) none ∙ append-nil front in
     let there : IsBetweenLines known 1 no_trace front left =
-        IsBetween-keeps (traces newest_version) known 1 no_trace [] front known left keeps
-            (IsBetween-start (traces newest_version) known) in
+    IsBetween-keeps (traces newest_version) known 1 no_trace [] front known left keeps
+    (IsBetween-start (traces newest_version) known) in
     record {
       bytes = [];
       judged = subst (λ (ps : List Piece). AreJudged ahead.kept.version ps []) (sym pieces) refl;
@@ -239,7 +249,7 @@ pub turned_waits : (known left : Option (List ℕ)) (room : ℕ) (front : List �
     → Waits known left room new.block.waiting last
 turned_waits known left room front new last next judged line kept none filled =
     let all : new.block.waiting ++ last.block.waiting ≡ new.block.waiting =
-        ap (λ xs. new.block.waiting ++ xs) none ∙ append-nil new.block.waiting in
+    ap (λ xs. new.block.waiting ++ xs) none ∙ append-nil new.block.waiting in
     record {
       bytes = front;
       judged = rw kept judged;
@@ -264,10 +274,12 @@ added_fault_known known left left' room front old new cause worked waits =
 -- what the source did, at the end of a reading
 pub reads_ahead : (told : Option ReadCause) (ahead : Ahead) (a b a' b' : ℕ) → HasMet ahead 0 a b a' b'
     → IsToldAfter (result_err ahead.filled) told → (turns : ℕ) × ReadsAhead told 0 turns a a' b b'
-reads_ahead told ahead a b a' b' met after =
-    (ahead.turns, record {
-      met = result_err ahead.filled;
-      taken = met.taken;
-      broken = met.broken;
-      told_after = after;
-    })
+reads_ahead told ahead a b a' b' met after = (
+  ahead.turns,
+  record {
+    met = result_err ahead.filled;
+    taken = met.taken;
+    broken = met.broken;
+    told_after = after;
+  },
+)

@@ -14,7 +14,7 @@ use Rattle.certificate.proofs.WindowLemmas.{slice_range-more}
 pub is_below : (n bound : ℕ) (full : Bool) → n ≤ bound → full ≡ (n == bound) → full ≡ false → n < bound
 is_below n bound full low is not_full =
     let other : n ≢ bound =
-        λ same. (let h : true ≡ false = sym (eq-eqb n bound same) ∙ sym is ∙ not_full in cc) in
+    λ same. (let h : true ≡ false = sym (eq-eqb n bound same) ∙ sym is ∙ not_full in cc) in
     omega arith
 
 -- ---- whole lines
@@ -33,7 +33,7 @@ pub IsPiece-rest : (xs : List ℕ) (start : ℕ) → IsWholeLines xs → start �
 IsPiece-rest xs start whole within =
     let size : length (drop start xs) ≡ length xs - start = length-drop start xs in
     let all : slice_range xs start (length xs) ≡ drop start xs =
-        take_all (length xs - start) (drop start xs) (omega arith) in
+    take_all (length xs - start) (drop start xs) (omega arith) in
     record { low = within; high = omega arith; whole = rw all (whole_drop xs start whole) }
 
 -- up to behind a line feed
@@ -43,15 +43,16 @@ IsPiece-line xs start least at low found =
     let within : least + at < length xs = omega (arith, found.0.high, length-drop least xs) in
     let line_feed : get_or xs (least + at) 0 ≡ 10 = sym (get_or-drop least xs at 0) ∙ eqb-true _ _ found.1 in
     let one : take 1 (drop (least + at) xs) ≡ 10 ∷ [] =
-        ap (take 1) (drop_more xs (least + at) 0 within) ∙ ap (λ b. b ∷ []) line_feed in
+    ap (take 1) (drop_more xs (least + at) 0 within) ∙ ap (λ b. b ∷ []) line_feed in
     record {
       low = omega arith;
       high = omega arith;
       whole =
-          inr
-              (slice_range xs start (least + at),
-                  slice_range-more xs start (least + at) 1 (omega arith)
-                      ∙ ap (λ ys. slice_range xs start (least + at) ++ ys) one);
+          inr (
+            slice_range xs start (least + at),
+            slice_range-more xs start (least + at) 1 (omega arith)
+                ∙ ap (λ ys. slice_range xs start (least + at) ++ ys) one,
+          );
     }
 
 -- ---- pieces one behind another

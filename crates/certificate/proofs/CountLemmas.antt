@@ -23,13 +23,13 @@ unfolding count_more
 count_more-both count n zero = ap (count_more count) (let same : n ≡ 0 + n = omega arith in same)
 count_more-both count n (suc m) =
     ap next_count (count_more-both count n m)
-        ∙ ap (count_more count) (let same : suc (m + n) ≡ suc m + n = omega arith in same)
+    ∙ ap (count_more count) (let same : suc (m + n) ≡ suc m + n = omega arith in same)
 
 pub count_more-more : (count from mid to : ℕ) → from ≤ mid → mid ≤ to
     → count_more (count_more count (mid - from)) (to - mid) ≡ count_more count (to - from)
 count_more-more count from mid to low high =
     count_more-both count (mid - from) (to - mid)
-        ∙ ap (count_more count) (let same : (to - mid) + (mid - from) ≡ to - from = omega arith in same)
+    ∙ ap (count_more count) (let same : (to - mid) + (mid - from) ≡ to - from = omega arith in same)
 
 -- turns after turns
 pub TakesTurns-more : (told : Option ReadCause) (t t' t'' a a' a'' : ℕ) → TakesTurns None t t' a a'
@@ -39,7 +39,7 @@ TakesTurns-more told t t' t'' a a' a'' first more = record {
   within = more.within;
   counted =
       more.counted ∙ ap (λ c. count_more c (t'' - t')) first.counted
-          ∙ count_more-more a t t' t'' first.later more.later;
+      ∙ count_more-more a t t' t'' first.later more.later;
   spent = more.spent;
 }
 
@@ -58,9 +58,10 @@ TakesTurns-other told t t' a a' other taken = record {
   later = taken.later;
   within = taken.within;
   counted = taken.counted;
-  spent =
-      ((λ spent. absurd (other spent)),
-          (λ last. absurd (let h : None ≡ Some TurnsSpent = taken.spent.1 last in cc)));
+  spent = (
+    (λ spent. absurd (other spent)),
+    (λ last. absurd (let h : None ≡ Some TurnsSpent = taken.spent.1 last in cc)),
+  );
 }
 
 pub TakesTurns-left : (t t' a a' : ℕ) → TakesTurns None t t' a a' → t' ≤ max_turns
@@ -95,12 +96,13 @@ pub TakesStalls-ok : (turns start stalls : ℕ) → turns ≤ max_turns → stal
 TakesStalls-ok turns start stalls few is = record {
   within = omega arith;
   counted = is;
-  spent =
-      ((λ spent.
-           absurd
-               (let h : ◌≡◌ { A = Result (Unit {0}) WriteFault } (Ok tt) (Err write.TurnsSpent) = spent in
-                cc)),
-          (λ last. absurd (omega arith)));
+  spent = (
+    (λ spent.
+        absurd
+        (let h : ◌≡◌ {A = Result (Unit {0}) WriteFault} (Ok tt) (Err write.TurnsSpent) = spent in
+        cc)),
+    (λ last. absurd (omega arith)),
+  );
 }
 
 pub TakesStalls-memory : (turns start stalls : ℕ) → turns ≤ max_turns → stalls ≡ count_more start turns
@@ -108,11 +110,12 @@ pub TakesStalls-memory : (turns start stalls : ℕ) → turns ≤ max_turns → 
 TakesStalls-memory turns start stalls few is = record {
   within = omega arith;
   counted = is;
-  spent =
-      ((λ spent.
-           absurd
-               (let h : ◌≡◌ { A = Result (Unit {0}) WriteFault } (Err write.Memory) (Err write.TurnsSpent) =
-                    spent in
-                cc)),
-          (λ last. absurd (omega arith)));
+  spent = (
+    (λ spent.
+        absurd
+        (let h : ◌≡◌ {A = Result (Unit {0}) WriteFault} (Err write.Memory) (Err write.TurnsSpent) =
+        spent in
+        cc)),
+    (λ last. absurd (omega arith)),
+  );
 }

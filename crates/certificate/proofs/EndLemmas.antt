@@ -28,7 +28,7 @@ pub waiting_long : (known : Option (List ℕ)) (n : ℕ) (kept : TraceView) (wai
     → IfSome known (λ all. said (traces newest_version) all ≡ Err (fault_in n LineTooLong))
 waiting_long known n kept waiting left long none now =
     IsAfter-long (traces newest_version) known n kept waiting left
-        (λ k low. (omega arith, λ is. none k (omega arith) (omega arith) (eq-eqb _ _ is))) now
+    (λ k low. (omega arith, λ is. none k (omega arith) (omega arith) (eq-eqb _ _ is))) now
 
 pub waiting_unended : (known : Option (List ℕ)) (n : ℕ) (kept : TraceView) (waiting : List ℕ)
     (left : Option (List ℕ))

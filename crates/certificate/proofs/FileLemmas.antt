@@ -29,7 +29,7 @@ unfolding cut
 cut-front [] bytes all = by_lines (cut bytes).lines (cut bytes).rest
   where
     by_lines : (lines : List (List ℕ)) (rest : List ℕ)
-        → ◌≡◌ { A = Cut } (record { lines = lines; rest = rest }) (with_front [] lines rest)
+        → ◌≡◌ {A = Cut} (record { lines = lines; rest = rest }) (with_front [] lines rest)
     by_lines [] rest = refl
     by_lines (line ∷ lines) rest = refl
 cut-front (b ∷ front) bytes all =
@@ -37,7 +37,7 @@ cut-front (b ∷ front) bytes all =
   where
     by_lines : (lines : List (List ℕ)) (rest : List ℕ)
         → with_byte b (with_front front lines rest).lines (with_front front lines rest).rest
-            ≡ with_front (b ∷ front) lines rest
+        ≡ with_front (b ∷ front) lines rest
     by_lines [] rest = refl
     by_lines (line ∷ lines) rest = refl
 
@@ -64,7 +64,7 @@ pub unbroken-before : (window : List ℕ) (len : ℕ) → LineFeedAt window (Som
     → IsUnbroken (take len window)
 unbroken-before window len at =
     unbroken-front window len (omega (arith, at.0.high))
-        (λ i h is. at.0.before i (omega arith) h (eq-eqb _ _ is))
+    (λ i h is. at.0.before i (omega arith) h (eq-eqb _ _ is))
 
 pub unbroken-all : (window : List ℕ) → LineFeedAt window None → IsUnbroken window
 unbroken-all window none = unbroken-from window (λ i h is. none i (omega arith) h (eq-eqb _ _ is))
@@ -75,8 +75,8 @@ window-parts window len at =
     let within : len < length window = at.0.high in
     let line_feed : get_or window len 0 ≡ 10 = eqb-true _ _ at.1 in
     sym (take-append-drop len window)
-        ∙ ap (λ bytes. take len window ++ bytes)
-            (drop_more window len 0 within ∙ ap (λ b. b ∷ drop (len + 1) window) line_feed)
+    ∙ ap (λ bytes. take len window ++ bytes)
+    (drop_more window len 0 within ∙ ap (λ b. b ∷ drop (len + 1) window) line_feed)
 
 pub cut-line : (line bytes : List ℕ) → IsUnbroken line
     → cut (line ++ (10 ∷ bytes)) ≡ record { lines = line ∷ (cut bytes).lines; rest = (cut bytes).rest }
@@ -90,7 +90,7 @@ cut-unbroken bytes all = ap cut (sym (append-nil bytes)) ∙ cut-front bytes [] 
 pub rest_says-line : {X : Type 0} (format : Format X) (n : ℕ) (before : X) (line bytes : List ℕ)
     → IsUnbroken line → length line ≤ max_line
     → rest_says format n before (line ++ (10 ∷ bytes))
-        ≡ go_on n (format.adds n before line) (λ after. rest_says format (n + 1) after bytes)
+    ≡ go_on n (format.adds n before line) (λ after. rest_says format (n + 1) after bytes)
 unfolding from_line
 rest_says-line format n before line bytes all short =
     let not_long : is_long line ≡ false = grind arith in
@@ -113,7 +113,7 @@ rest_says-long format n before front bytes all long =
 
     by_lines : (lines : List (List ℕ)) (rest : List ℕ)
         → from_line format n before (with_front front lines rest).lines (with_front front lines rest).rest
-            ≡ Err (fault_in n LineTooLong)
+        ≡ Err (fault_in n LineTooLong)
     by_lines [] rest = rw (over rest) refl
     by_lines (line ∷ lines) rest = rw (over line) refl
 
@@ -125,11 +125,11 @@ line_feeds-lines [] = refl
 line_feeds-lines (b ∷ bytes) =
     sum_by-cons (λ (b : ℕ). cond (b == 10) 1 0) b bytes
     ∙ elim (b == 10) as
-        (λ t.
-            cond t 1 0 + line_feeds bytes
-                ≡ length
-                    (cond t (record { lines = [] ∷ (cut bytes).lines; rest = (cut bytes).rest })
-                        (with_byte b (cut bytes).lines (cut bytes).rest)).lines) [
+    (λ t.
+    cond t 1 0 + line_feeds bytes
+    ≡ length
+    (cond t (record { lines = [] ∷ (cut bytes).lines; rest = (cut bytes).rest })
+    (with_byte b (cut bytes).lines (cut bytes).rest)).lines) [
       | true ↦ omega (arith, line_feeds-lines bytes)
       | false ↦ omega (arith, line_feeds-lines bytes, by_lines (cut bytes).lines (cut bytes).rest)
     ]
@@ -158,4 +158,4 @@ said_later format n before [] rest f e =
     go_on-later n (end_adds n before rest) Ok f e (λ x more. absurd (fault_not_ok x f more))
 said_later format n before (line ∷ lines) rest f e =
     go_on-later n (line_adds format n before line) (λ x. from_line format (n + 1) x lines rest) f e
-        (λ x more. let low = said_later format (n + 1) x lines rest f more in omega arith)
+    (λ x more. let low = said_later format (n + 1) x lines rest f more in omega arith)

@@ -43,8 +43,8 @@ pub item-more : {X : Type 0} (f : X → Data) (x : X) (left : List X) (later : B
 item-more f x left later done whole rest =
     append_assoc done (comma_if later ++ compact_text (f x)) (items_text true (items_of (map f left)))
     ∙ ap (λ bytes. done ++ bytes)
-        (append_assoc (comma_if later) (compact_text (f x)) (items_text true (items_of (map f left))))
-        ∙ rest
+    (append_assoc (comma_if later) (compact_text (f x)) (items_text true (items_of (map f left))))
+    ∙ rest
 
 pub Puts-both : (old mid new a b : List ℕ) → Puts old mid a → Puts mid new b → Puts old new (a ++ b)
 Puts-both old mid new a b first next = record {
@@ -69,12 +69,12 @@ IsPut-more f x left later start now new whole before puts = record {
 
 pub names-left : (table : List Row) (bits i : ℕ) (row : Row) → i < length table → get_or table i row ≡ row
     → flag_names (drop i table) bits
-        ≡ cond (has_flag bits row.1) (row.0 ∷ flag_names (drop (i + 1) table) bits)
-            (flag_names (drop (i + 1) table) bits)
+    ≡ cond (has_flag bits row.1) (row.0 ∷ flag_names (drop (i + 1) table) bits)
+    (flag_names (drop (i + 1) table) bits)
 unfolding flag_names
 names-left table bits i row within here =
     let left : drop i table ≡ row ∷ drop (i + 1) table =
-        drop_more table i row within ∙ ap (λ y. y ∷ drop (i + 1) table) here in
+    drop_more table i row within ∙ ap (λ y. y ∷ drop (i + 1) table) here in
     ap (λ (rows : List Row). flag_names rows bits) left
 
 -- the next flag is among the bits
@@ -82,35 +82,35 @@ pub IsPut-with : {X : Type 0} (row : X → Row) (flags : List X) (table : List R
     (later : Bool) (start now new whole : List ℕ)
     → map row flags ≡ table → i < length flags → x ≡ get_or flags i x
     → IsPut string (flag_names (drop i table) bits) later start now whole → has_flag bits (row x).1 ≡ true
-        → Puts now new (comma_if later ++ quoted (row x).0)
-        → IsPut string (flag_names (drop (i + 1) table) bits) true start new whole
+    → Puts now new (comma_if later ++ quoted (row x).0)
+    → IsPut string (flag_names (drop (i + 1) table) bits) true start new whole
 IsPut-with row flags table bits i x later start now new whole same within here before has puts =
     let at = row-at row flags table i x same within here in
     let left : flag_names (drop i table) bits ≡ (row x).0 ∷ flag_names (drop (i + 1) table) bits =
-        names-left table bits i (row x) at.0 at.1
-            ∙ ap
-                (λ b.
-                    cond b ((row x).0 ∷ flag_names (drop (i + 1) table) bits)
-                        (flag_names (drop (i + 1) table) bits))
-                has in
+    names-left table bits i (row x) at.0 at.1
+    ∙ ap
+    (λ b.
+    cond b ((row x).0 ∷ flag_names (drop (i + 1) table) bits)
+    (flag_names (drop (i + 1) table) bits))
+    has in
     IsPut-more string (row x).0 (flag_names (drop (i + 1) table) bits) later start now new whole
-        (rw left at before) puts
+    (rw left at before) puts
 
 -- the next flag is not
 pub IsPut-without : {X : Type 0} (row : X → Row) (flags : List X) (table : List Row) (bits i : ℕ) (x : X)
     (later : Bool) (start now whole : List ℕ)
     → map row flags ≡ table → i < length flags → x ≡ get_or flags i x
     → IsPut string (flag_names (drop i table) bits) later start now whole → has_flag bits (row x).1 ≡ false
-        → IsPut string (flag_names (drop (i + 1) table) bits) later start now whole
+    → IsPut string (flag_names (drop (i + 1) table) bits) later start now whole
 IsPut-without row flags table bits i x later start now whole same within here before lacks =
     let at = row-at row flags table i x same within here in
     let left : flag_names (drop i table) bits ≡ flag_names (drop (i + 1) table) bits =
-        names-left table bits i (row x) at.0 at.1
-            ∙ ap
-                (λ b.
-                    cond b ((row x).0 ∷ flag_names (drop (i + 1) table) bits)
-                        (flag_names (drop (i + 1) table) bits))
-                lacks in
+    names-left table bits i (row x) at.0 at.1
+    ∙ ap
+    (λ b.
+    cond b ((row x).0 ∷ flag_names (drop (i + 1) table) bits)
+    (flag_names (drop (i + 1) table) bits))
+    lacks in
     (rw left at before)
 
 pub no_flag_left : (table : List Row) (bits i : ℕ) → length table ≤ i → flag_names (drop i table) bits ≡ []
@@ -122,7 +122,7 @@ pub all_names_put : (left : List (List ℕ)) (later : Bool) (start now new whole
 all_names_put left later start now new whole none before puts =
     let all : IsPut string [] later start now whole = (rw none at before) in
     Puts-same start new (all.done ++ (93 ∷ [])) whole (sym all.rest)
-        (Puts-both start now new all.done (93 ∷ []) all.puts puts)
+    (Puts-both start now new all.done (93 ∷ []) all.puts puts)
 
 -- what holds of each row
 pub row-plain : {X : Type 0} (row : X → Row) (flags : List X) (table : List Row) (i : ℕ) (x : X)

@@ -37,7 +37,7 @@ why_told : (known : Option (List ℕ)) (n room : ℕ) (kept : TraceView) (cause 
     → 2 ≤ n → length (bytes ++ more) ≤ room → IsWhyNot (Some cause) kept.records rest
     → BeginsWithRecords kept.version rest later bytes
     → IsBetweenLines known n kept (bytes ++ more) left
-        → IfSome known (λ all. IsToldWithin room cause n all left)
+    → IfSome known (λ all. IsToldWithin room cause n all left)
 why_told known n room kept Memory rest later bytes more left low few why begins now =
     no_memory known n room kept (bytes ++ more) left few now
 why_told known n room kept Limit rest later bytes more left low few why begins now =
@@ -57,21 +57,21 @@ pub kept_some : (known : Option (List ℕ)) (n room count : ℕ) (old new : Trac
     → 2 ≤ n → KeepsFirst old rs count (Some cause) new → AreRecordsOf old.version bytes rs fault
     → length (bytes ++ more) ≤ room
     → IsBetweenLines known n old (bytes ++ more) left
-        → IfSome known (λ all. IsToldWithin room cause (n + count) all left)
+    → IfSome known (λ all. IsToldWithin room cause (n + count) all left)
 kept_some known n room count old new rs fault cause bytes more left low keeps read few now =
     let lines = lines_of old.version bytes rs fault read in
     let all =
-        BeginsWithRecords-split old.version keeps.first keeps.rest bytes lines.later
-            (subst (λ (xs : List Record). BeginsWithRecords old.version xs lines.later bytes) keeps.parts
-                lines.begins) in
+    BeginsWithRecords-split old.version keeps.first keeps.rest bytes lines.later
+    (subst (λ (xs : List Record). BeginsWithRecords old.version xs lines.later bytes) keeps.parts
+    lines.begins) in
     let there = IsBetween-records known n old keeps.first all.0 bytes more left low all.1 keeps.room now in
     let shorter = BeginsWithRecords-length old.version keeps.first bytes all.0 all.1 in
     let few_left : length (all.0 ++ more) ≤ room =
-        omega (arith, length-append bytes more, length-append all.0 more) in
+    omega (arith, length-append bytes more, length-append all.0 more) in
     let told =
-        why_told known (n + length keeps.first) room
-            (record { version = old.version; records = old.records ++ keeps.first }) cause keeps.rest
-            lines.later all.0 more left (omega arith) few_left keeps.why_not all.2 there in
+    why_told known (n + length keeps.first) room
+    (record { version = old.version; records = old.records ++ keeps.first }) cause keeps.rest
+    lines.later all.0 more left (omega arith) few_left keeps.why_not all.2 there in
     rw keeps.counted told
 
 -- all records of a piece are kept
@@ -84,9 +84,9 @@ kept_all : (old new : TraceView) (rs : List Record) (count : ℕ) → KeepsFirst
     → KeptAll old rs count new
 kept_all old new rs count keeps =
     let same : keeps.first ≡ rs =
-        sym
-            (keeps.parts ∙ ap (λ (xs : List Record). keeps.first ++ xs) keeps.why_not
-                ∙ append-nil keeps.first) in
+    sym
+    (keeps.parts ∙ ap (λ (xs : List Record). keeps.first ++ xs) keeps.why_not
+    ∙ append-nil keeps.first) in
     record {
       all = keeps.counted ∙ ap length same;
       room = rw same at keeps.room;
@@ -106,17 +106,17 @@ pub kept_fault : (known : Option (List ℕ)) (n room count : ℕ) (old new : Tra
     → 2 ≤ n → KeepsFirst old rs count None new → AreRecordsOf old.version bytes rs (Some cause)
     → length (bytes ++ more) ≤ room
     → IsBetweenLines known n old (bytes ++ more) left
-        → IfSome known (λ all. IsToldWithin room cause (n + count) all left)
+    → IfSome known (λ all. IsToldWithin room cause (n + count) all left)
 kept_fault known n room count old new rs cause bytes more left low keeps read few now =
     let all = kept_all old new rs count keeps in
     let there = IsBetween-records known n old rs read.0 bytes more left low read.1 all.room now in
     let shorter = BeginsWithRecords-length old.version rs bytes read.0 read.1 in
     let few_left : length (read.0 ++ more) ≤ room =
-        omega (arith, length-append bytes more, length-append read.0 more) in
+    omega (arith, length-append bytes more, length-append read.0 more) in
     rw all.all
-        (piece_fault known (n + length rs) room
-            (record { version = old.version; records = old.records ++ rs }) cause read.0 more left
-            (λ same. absurd (omega arith)) few_left read.2 there)
+    (piece_fault known (n + length rs) room
+    (record { version = old.version; records = old.records ++ rs }) cause read.0 more left
+    (λ same. absurd (omega arith)) few_left read.2 there)
 
 -- as many lines as line feeds
 pub kept_lines : (count : ℕ) (old new : TraceView) (rs : List Record) (bytes : List ℕ)
@@ -134,10 +134,10 @@ pub piece_told : (known : Option (List ℕ)) (n room count : ℕ) (old new : Tra
     → IsBetweenLines known n old (bytes ++ more) left → IsJudgedUpTo r known (n + count) new more room left
 piece_told known n room count old new rs fault (Ok u) bytes more left low keeps same read few now =
     kept_whole known n count old new rs bytes more left low keeps
-        (subst (λ (f : Option ReadCause). AreRecordsOf old.version bytes rs f) same read) now
+    (subst (λ (f : Option ReadCause). AreRecordsOf old.version bytes rs f) same read) now
 piece_told known n room count old new rs fault (Err cause) bytes more left low keeps same read few now =
     kept_fault known n room count old new rs cause bytes more left low keeps
-        (subst (λ (f : Option ReadCause). AreRecordsOf old.version bytes rs f) same read) few now
+    (subst (λ (f : Option ReadCause). AreRecordsOf old.version bytes rs f) same read) few now
 
 pub piece_lines : (n count : ℕ) (old new : TraceView) (piece : Piece) (r : Result (Unit {0}) ReadCause)
     → KeepsFirst old piece.records.items count None new → piece.fault ≡ result_err r
@@ -145,9 +145,9 @@ pub piece_lines : (n count : ℕ) (old new : TraceView) (piece : Piece) (r : Res
 piece_lines n count old new piece (Err cause) keeps same = tt
 piece_lines n count old new piece (Ok u) keeps same = λ bytes judged.
     ap (λ k. n + k)
-        (kept_lines count old new piece.records.items bytes keeps
-            (subst (λ (f : Option ReadCause). AreRecordsOf old.version bytes piece.records.items f) same
-                judged.read))
+    (kept_lines count old new piece.records.items bytes keeps
+    (subst (λ (f : Option ReadCause). AreRecordsOf old.version bytes piece.records.items f) same
+    judged.read))
 
 -- the records of a piece can stand in the file
 pub piece_sound : (version : ℕ) (bytes : List ℕ) (rs : List Record) (fault : Option ReadCause)
@@ -174,8 +174,8 @@ pub Joins-piece : (n : ℕ) (kept : TraceView) (bytes : List ℕ) (n' n'' : ℕ)
     → kept''.version ≡ kept'.version
     → ((front : List ℕ) → IsJudged kept'.version front piece → n'' ≡ n' + line_feeds front)
     → ((front more : List ℕ) (known left : Option (List ℕ)) (room : ℕ) → IsJudged kept'.version front piece
-          → length (front ++ more) ≤ room → IsBetweenLines known n' kept' (front ++ more) left
-          → IsBetweenLines known n'' kept'' more left)
+    → length (front ++ more) ≤ room → IsBetweenLines known n' kept' (front ++ more) left
+    → IsBetweenLines known n'' kept'' more left)
     → Joins n kept bytes n' kept' (piece ∷ pieces) → Joins n kept bytes n'' kept'' pieces
 Joins-piece n kept bytes n' n'' kept' kept'' piece pieces version lines between now =
     let front = now.judged.0 in
@@ -186,14 +186,18 @@ Joins-piece n kept bytes n' n'' kept' kept'' piece pieces version lines between 
       judged = rw version now.judged.4;
       shorter = omega (arith, ap length whole, length-append front later, now.shorter);
       lines =
-          omega
-              (arith, lines front now.judged.3, ap line_feeds whole, line_feeds-append front later,
-                  now.lines);
+          omega (
+            arith,
+            lines front now.judged.3,
+            ap line_feeds whole,
+            line_feeds-append front later,
+            now.lines,
+          );
       between = λ more known left before.
           let there : IsBetweenLines known n' kept' (front ++ (later ++ more)) left =
-              rw (whole, append_assoc front later more) at (now.between more known left before) in
+          rw (whole, append_assoc front later more) at (now.between more known left before) in
           between front (later ++ more) known left (length (front ++ (later ++ more))) now.judged.3
-              (omega arith) there;
+          (omega arith) there;
     }
 
 -- what waits before the next piece is judged
@@ -202,15 +206,25 @@ pub Joins-next : (n : ℕ) (kept : TraceView) (bytes : List ℕ) (n' : ℕ) (kep
     → Joins n kept bytes n' kept' (piece ∷ pieces) → length (bytes ++ more) ≤ room
     → IsBetweenLines known n kept (bytes ++ more) left
     → (front : List ℕ) × (later : List ℕ) × IsJudged kept'.version front piece
-        × (length (front ++ (later ++ more)) ≤ room)
-        × IsBetweenLines known n' kept' (front ++ (later ++ more)) left
+    × (length (front ++ (later ++ more)) ≤ room)
+    × IsBetweenLines known n' kept' (front ++ (later ++ more)) left
 Joins-next n kept bytes n' kept' piece pieces more known left room now few before =
     let front = now.judged.0 in
     let later = now.judged.1 in
     let whole : now.later ≡ front ++ later = now.judged.2 in
     let few_left : length (front ++ (later ++ more)) ≤ room =
-        omega
-            (arith, ap length whole, length-append front later, length-append front (later ++ more),
-                length-append later more, length-append bytes more, now.shorter) in
-    (front, later, now.judged.3, few_left,
-        rw (whole, append_assoc front later more) at (now.between more known left before))
+    omega (
+      arith,
+      ap length whole,
+      length-append front later,
+      length-append front (later ++ more),
+      length-append later more,
+      length-append bytes more,
+      now.shorter,
+    ) in (
+      front,
+      later,
+      now.judged.3,
+      few_left,
+      rw (whole, append_assoc front later more) at (now.between more known left before),
+    )

@@ -54,7 +54,7 @@ mutual
   of_members-outline no_members found n h = refl
   of_members-outline (member k d ms) found n h =
       ap (option_and_then (λ e. of_members (members_outline ms) (put k e found))) (of_json-outline d n h.1)
-          ∙ of_members-outline ms (put k d found) n h.2
+      ∙ of_members-outline ms (put k d found) n h.2
 
 mutual
   shallow : (d : Data) (n : ℕ) → IsPlain d n → tree.depth (outline d) ≤ n
@@ -103,12 +103,12 @@ read-compact_text d n h low =
     let o = outline d in
     ap (λ text. read text) (sym (print-outline d))
     ∙ ap
-        (λ ts.
-            option_and_then of_json (option_and_then (λ p. json.if_last p.0 p.1) (json.value max_depth ts)))
-        (tokens-print (tree.json_tokens o) (ArePrintable-json_tokens o (has_numbers d n h))
-            ∙ sym (append-nil (tree.json_tokens o)))
+    (λ ts.
+    option_and_then of_json (option_and_then (λ p. json.if_last p.0 p.1) (json.value max_depth ts)))
+    (tokens-print (tree.json_tokens o) (ArePrintable-json_tokens o (has_numbers d n h))
+    ∙ sym (append-nil (tree.json_tokens o)))
     ∙ ap (λ r. option_and_then of_json (option_and_then (λ p. json.if_last p.0 p.1) r))
-        (value-json_tokens o max_depth [] (omega (arith, shallow d n h)))
+    (value-json_tokens o max_depth [] (omega (arith, shallow d n h)))
     ∙ of_json-outline d n h
 
 -- an object whose members stand in any order
@@ -118,12 +118,12 @@ read-members ms n h low =
     let o = outline (object ms) in
     ap (λ text. read text) (sym (print-outline (object ms)))
     ∙ ap
-        (λ ts.
-            option_and_then of_json (option_and_then (λ p. json.if_last p.0 p.1) (json.value max_depth ts)))
-        (tokens-print (tree.json_tokens o) (ArePrintable-json_tokens o (members_have_numbers ms n h))
-            ∙ sym (append-nil (tree.json_tokens o)))
+    (λ ts.
+    option_and_then of_json (option_and_then (λ p. json.if_last p.0 p.1) (json.value max_depth ts)))
+    (tokens-print (tree.json_tokens o) (ArePrintable-json_tokens o (members_have_numbers ms n h))
+    ∙ sym (append-nil (tree.json_tokens o)))
     ∙ ap (λ r. option_and_then of_json (option_and_then (λ p. json.if_last p.0 p.1) r))
-        (value-json_tokens o max_depth [] (omega (arith, members_shallow ms n h)))
+    (value-json_tokens o max_depth [] (omega (arith, members_shallow ms n h)))
     ∙ ap (option_map object) (of_members-outline ms no_members n h)
 
 -- ---- its bytes
@@ -160,9 +160,10 @@ printed-plain (b ∷ s) h =
 
 printed-quoted : (s : List ℕ) → is_plain_text s ≡ true → ArePrinted (quoted s)
 printed-quoted s h =
-    rw (escape-plain s h)
-        ((omega arith, omega arith),
-            printed-append s (34 ∷ []) (printed-plain s h) ((omega arith, omega arith), tt))
+    rw (escape-plain s h) (
+      (omega arith, omega arith),
+      printed-append s (34 ∷ []) (printed-plain s h) ((omega arith, omega arith), tt),
+    )
 
 printed-comma : (later : Bool) → ArePrinted (comma_if later)
 printed-comma true = ((omega arith, omega arith), tt)
@@ -188,18 +189,19 @@ mutual
   printed-items_text later no_items n h = ((omega arith, omega arith), tt)
   printed-items_text later (item d ds) n h =
       printed-append (comma_if later) _ (printed-comma later)
-          (printed-append (compact_text d) _ (printed-compact_text d n h.0)
-              (printed-items_text true ds n h.1))
+      (printed-append (compact_text d) _ (printed-compact_text d n h.0)
+      (printed-items_text true ds n h.1))
 
   printed-members_text : (later : Bool) (ms : Members) (n : ℕ) → MembersArePlain ms n
       → ArePrinted (members_text later ms)
   printed-members_text later no_members n h = ((omega arith, omega arith), tt)
   printed-members_text later (member k d ms) n h =
       printed-append (comma_if later) _ (printed-comma later)
-      (printed-append (quoted k) _ (printed-quoted k h.0)
-          ((omega arith, omega arith),
-              printed-append (compact_text d) _ (printed-compact_text d n h.1)
-                  (printed-members_text true ms n h.2)))
+      (printed-append (quoted k) _ (printed-quoted k h.0) (
+        (omega arith, omega arith),
+        printed-append (compact_text d) _ (printed-compact_text d n h.1)
+            (printed-members_text true ms n h.2),
+      ))
 
 ascii-printed : (bytes : List ℕ) → ArePrinted bytes → are_ascii bytes ≡ true
 ascii-printed [] h = refl
@@ -229,11 +231,11 @@ pub value_of-members : (ms : Members) (n : ℕ) → MembersArePlain ms n → n <
     → value_of (compact_text (object ms)) ≡ Some (object (puts ms no_members))
 value_of-members ms n h low =
     let printed : ArePrinted (compact_text (object ms)) =
-        ((omega arith, omega arith), printed-members_text false ms n h) in
+    ((omega arith, omega arith), printed-members_text false ms n h) in
     let utf8 : is_utf8 (compact_text (object ms)) ≡ true =
-        is_utf8-from_IsUtf8 _
-            (IsUtf8-are_ascii (compact_text (object ms))
-                (ascii-printed (compact_text (object ms)) printed)) in
+    is_utf8-from_IsUtf8 _
+    (IsUtf8-are_ascii (compact_text (object ms))
+    (ascii-printed (compact_text (object ms)) printed)) in
     rw utf8 (read-members ms n h low)
 
 -- ---- how many bytes there are
@@ -281,10 +283,14 @@ mutual
       → length (items_text later ds) ≤ items_size ds + 1
   length-items_text later no_items n h = omega arith
   length-items_text later (item d ds) n h =
-      omega
-          (arith, length-append (comma_if later) (compact_text d ++ items_text true ds), length-comma later,
-              length-append (compact_text d) (items_text true ds), length-compact_text d n h.0,
-              length-items_text true ds n h.1)
+      omega (
+        arith,
+        length-append (comma_if later) (compact_text d ++ items_text true ds),
+        length-comma later,
+        length-append (compact_text d) (items_text true ds),
+        length-compact_text d n h.0,
+        length-items_text true ds n h.1,
+      )
 
   length-members_text : (later : Bool) (ms : Members) (n : ℕ) → MembersArePlain ms n
       → length (members_text later ms) ≤ members_size ms + 1

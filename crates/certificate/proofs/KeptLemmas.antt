@@ -15,7 +15,7 @@ pub IsKept-more : (version : ℕ) (rs : List Record) (r : Record) (tasks more : 
     → more ≡ tasks + cond (is_some (made r.body)) 1 0 → more ≤ max_tasks → IsKept version (rs ++ r ∷ []) more
 IsKept-more version rs r tasks more kept sound in_range room counted few =
     let same : tasks_in (rs ++ r ∷ []) ≡ tasks_in rs + cond (is_some (made r.body)) 1 0 =
-        sum_by_push (λ (x : Record). cond (is_some (made x.body)) 1 0) rs r in
+    sum_by_push (λ (x : Record). cond (is_some (made x.body)) 1 0) rs r in
     record {
       trace = record {
         known = kept.trace.known;

@@ -30,7 +30,7 @@ Walked newest all rest k (Ok rs) =
     ((j : ℕ) → k ≤ j → j ≤ length all → cause_in newest all rest j ≡ None) × (rs ≡ trace_of newest all)
 Walked newest all rest k (Err f) =
     (j : ℕ) × (f.line ≡ j + 1) × (k ≤ j) × (j ≤ length all) × (cause_in newest all rest j ≡ Some f.cause)
-        × ((i : ℕ) → k ≤ i → i < j → cause_in newest all rest i ≡ None)
+    × ((i : ℕ) → k ≤ i → i < j → cause_in newest all rest i ≡ None)
 
 Walked-back : (newest : ℕ) (all : List (List ℕ)) (rest : List ℕ) (k : ℕ) (said : Result TraceView ReadFault)
     → cause_in newest all rest k ≡ None → Walked newest all rest (k + 1) said → Walked newest all rest k said
@@ -66,15 +66,15 @@ slice_get-seam (d ∷ done) line lines = slice_get-seam done line lines
 end_adds-ok : (n : ℕ) (before rs : TraceView) (rest : List ℕ) → end_adds n before rest ≡ Ok rs → rs ≡ before
 end_adds-ok n before rs rest h =
     elim (is_long rest) as
-        (λ b.
-            cond b (Err LineTooLong)
-                (cond (nat_lt 0 (length rest)) (Err Unended) (cond (n == 1) (Err Header) (Ok before)))
-                ≡ Ok rs
-                → rs ≡ before) [
+    (λ b.
+    cond b (Err LineTooLong)
+    (cond (nat_lt 0 (length rest)) (Err Unended) (cond (n == 1) (Err Header) (Ok before)))
+    ≡ Ok rs
+    → rs ≡ before) [
       | true ↦ λ e. absurd (ok_not_err rs LineTooLong (sym e))
       | false ↦ λ e.
           elim (nat_lt 0 (length rest)) as
-              (λ b. cond b (Err Unended) (cond (n == 1) (Err Header) (Ok before)) ≡ Ok rs → rs ≡ before) [
+          (λ b. cond b (Err Unended) (cond (n == 1) (Err Header) (Ok before)) ≡ Ok rs → rs ≡ before) [
             | true ↦ λ e. absurd (ok_not_err rs Unended (sym e))
             | false ↦ λ e.
                 elim (n == 1) as (λ b. cond b (Err Header) (Ok before) ≡ Ok rs → rs ≡ before) [
@@ -90,9 +90,9 @@ records_of-more : (newest : ℕ) (done : List (List ℕ)) (before after : TraceV
     → after ≡ trace_of newest (done ++ (line ∷ []))
 records_of-more newest done before after line is h =
     elim (is_long line) as
-        (λ b.
-            cond b (Err LineTooLong) (text_adds newest (length done + 1) before line) ≡ Ok after
-                → after ≡ trace_of newest (done ++ (line ∷ []))) [
+    (λ b.
+    cond b (Err LineTooLong) (text_adds newest (length done + 1) before line) ≡ Ok after
+    → after ≡ trace_of newest (done ++ (line ∷ []))) [
       | true ↦ λ e. absurd (ok_not_err after LineTooLong (sym e))
       | false ↦ λ e. by_done done is e
     ] h
@@ -102,11 +102,11 @@ records_of-more newest done before after line is h =
 
     by_record : (before : TraceView) (o : Result Record ReadCause) → with_record before o ≡ Ok after
         → after
-            ≡ record {
-              version = before.version;
-              records =
-                  before.records ++ (filter_map (λ (x : Result Record ReadCause). result_ok x) (o ∷ []));
-            }
+        ≡ record {
+          version = before.version;
+          records =
+              before.records ++ (filter_map (λ (x : Result Record ReadCause). result_ok x) (o ∷ []));
+        }
     by_record before (Err e) h = absurd (ok_not_err after e (sym h))
     by_record before (Ok r) h =
         let more : TraceView = record { version = before.version; records = before.records ++ r ∷ [] } in
@@ -129,9 +129,9 @@ records_of-more newest done before after line is h =
         let version = version_of newest (d ∷ done) in
         by_record before (line_says before.version line) (rw later at e) ∙ ap one_more is
         ∙ ap
-            (λ (rs : List Record).
-                let grown : TraceView = record { version = version; records = rs } in grown)
-            (sym (filter_map-append (λ l. result_ok (line_says version l)) done (line ∷ [])))
+        (λ (rs : List Record).
+        let grown : TraceView = record { version = version; records = rs } in grown)
+        (sym (filter_map-append (λ l. result_ok (line_says version l)) done (line ∷ [])))
 
 -- the walk goes over each line once
 walk : (newest : ℕ) (all : List (List ℕ)) (rest : List ℕ) (lines done : List (List ℕ)) (before : TraceView)
@@ -146,13 +146,13 @@ walk newest all rest [] done before whole is = by_end (end_adds (length done + 1
     front : trace_of newest (take (length done) all) ≡ before
     front =
         ap (λ ls. trace_of newest (take (length done) ls)) whole
-            ∙ ap (trace_of newest) (take-append_seam done []) ∙ sym is
+        ∙ ap (trace_of newest) (take-append_seam done []) ∙ sym is
 
     at : cause_in newest all rest (length done) ≡ result_err (end_adds (length done + 1) before rest)
     at =
         ap (λ (t : TraceView). fault_of newest t (length done) rest (slice_get all (length done))) front
         ∙ ap (λ (o : Option (List ℕ)). fault_of newest before (length done) rest o)
-            (slice_get_past all (length done) (omega (arith, ap length same)))
+        (slice_get_past all (length done) (omega (arith, ap length same)))
 
     by_end : (r : Result TraceView ReadCause) → end_adds (length done + 1) before rest ≡ r
         → Walked newest all rest (length done) (go_on (length done + 1) r Ok)
@@ -164,42 +164,42 @@ walk newest all rest [] done before whole is = by_end (end_adds (length done + 1
     )
     by_end (Err cause) e =
         Walked-fault newest all rest (length done) cause (omega (arith, ap length same))
-            (at ∙ ap result_err e)
+        (at ∙ ap result_err e)
 walk newest all rest (line ∷ lines) done before whole is =
     by_line (line_adds (traces newest) (length done + 1) before line) refl
-        (λ after e.
-            walk newest all rest lines (done ++ (line ∷ [])) after
-                (whole ∙ sym (append_assoc done (line ∷ []) lines))
-                (records_of-more newest done before after line is e))
+    (λ after e.
+    walk newest all rest lines (done ++ (line ∷ [])) after
+    (whole ∙ sym (append_assoc done (line ∷ []) lines))
+    (records_of-more newest done before after line is e))
   where
     front : trace_of newest (take (length done) all) ≡ before
     front =
         ap (λ ls. trace_of newest (take (length done) ls)) whole
-            ∙ ap (trace_of newest) (take-append_seam done (line ∷ lines)) ∙ sym is
+        ∙ ap (trace_of newest) (take-append_seam done (line ∷ lines)) ∙ sym is
 
     at : cause_in newest all rest (length done)
         ≡ result_err (line_adds (traces newest) (length done + 1) before line)
     at =
         ap (λ (t : TraceView). fault_of newest t (length done) rest (slice_get all (length done))) front
         ∙ ap (λ (o : Option (List ℕ)). fault_of newest before (length done) rest o)
-            (ap (λ ls. slice_get ls (length done)) whole ∙ slice_get-seam done line lines)
+        (ap (λ ls. slice_get ls (length done)) whole ∙ slice_get-seam done line lines)
 
     one_more : length (done ++ (line ∷ [])) ≡ length done + 1
     one_more = length-append done (line ∷ [])
 
     by_line : (r : Result TraceView ReadCause) → line_adds (traces newest) (length done + 1) before line ≡ r
         → ((after : TraceView) → line_adds (traces newest) (length done + 1) before line ≡ Ok after
-              → Walked newest all rest (length (done ++ (line ∷ [])))
-                  (from_line (traces newest) (length (done ++ (line ∷ [])) + 1) after lines rest))
+        → Walked newest all rest (length (done ++ (line ∷ [])))
+        (from_line (traces newest) (length (done ++ (line ∷ [])) + 1) after lines rest))
         → Walked newest all rest (length done)
-            (go_on (length done + 1) r (λ rs. from_line (traces newest) (length done + 1 + 1) rs lines rest))
+        (go_on (length done + 1) r (λ rs. from_line (traces newest) (length done + 1 + 1) rs lines rest))
     by_line (Err cause) e later =
         Walked-fault newest all rest (length done) cause
-            (omega (arith, ap length whole, length-append done (line ∷ lines))) (at ∙ ap result_err e)
+        (omega (arith, ap length whole, length-append done (line ∷ lines))) (at ∙ ap result_err e)
     by_line (Ok after) e later =
         Walked-back newest all rest (length done) _ (at ∙ ap result_err e)
-            (subst (λ (n : ℕ). Walked newest all rest n (from_line (traces newest) (n + 1) after lines rest))
-                one_more (later after e))
+        (subst (λ (n : ℕ). Walked newest all rest n (from_line (traces newest) (n + 1) after lines rest))
+        one_more (later after e))
 
 walk_file : (newest : ℕ) (bytes : List ℕ)
     → Walked newest (cut bytes).lines (cut bytes).rest 0 (trace_said newest bytes)
@@ -212,16 +212,16 @@ pub said_stands : (newest : ℕ) (bytes : List ℕ) (trace : TraceView) → trac
     → StandsFor newest bytes trace
 said_stands newest bytes trace e =
     let walked : Walked newest (cut bytes).lines (cut bytes).rest 0 (Ok trace) =
-        subst (λ (said : Result TraceView ReadFault). Walked newest (cut bytes).lines (cut bytes).rest 0 said)
-            e (walk_file newest bytes) in
+    subst (λ (said : Result TraceView ReadFault). Walked newest (cut bytes).lines (cut bytes).rest 0 said)
+    e (walk_file newest bytes) in
     record { no_fault = λ k within. walked.0 k (omega arith) within; each = walked.1 }
 
 pub said_first : (newest : ℕ) (bytes : List ℕ) (f : ReadFault) → trace_said newest bytes ≡ Err f
     → IsFirstFault newest bytes f
 said_first newest bytes f e =
     let walked : Walked newest (cut bytes).lines (cut bytes).rest 0 (Err f) =
-        subst (λ (said : Result TraceView ReadFault). Walked newest (cut bytes).lines (cut bytes).rest 0 said)
-            e (walk_file newest bytes) in
+    subst (λ (said : Result TraceView ReadFault). Walked newest (cut bytes).lines (cut bytes).rest 0 said)
+    e (walk_file newest bytes) in
     record {
       place = walked.0;
       line = walked.1;
@@ -240,31 +240,31 @@ first_said newest bytes f fault = by_said (trace_said newest bytes) refl
     by_said : (said : Result TraceView ReadFault) → trace_said newest bytes ≡ said → said ≡ Err f
     by_said (Ok rs) e =
         absurd
-            (let none : None ≡ Some f.cause =
-                 sym ((said_stands newest bytes rs e).no_fault fault.place fault.within) ∙ fault.has in
-             cc)
+        (let none : None ≡ Some f.cause =
+        sym ((said_stands newest bytes rs e).no_fault fault.place fault.within) ∙ fault.has in
+        cc)
     by_said (Err f') e =
         let other = said_first newest bytes f' e in
         elim (cases_lt other.place fault.place) [
           | inl before ↦
               absurd
-                  (let none : None ≡ Some f'.cause =
-                       sym (fault.earlier other.place (omega (arith, before, fault.line))) ∙ other.has in
-                   cc)
+              (let none : None ≡ Some f'.cause =
+              sym (fault.earlier other.place (omega (arith, before, fault.line))) ∙ other.has in
+              cc)
           | inr not_before ↦ elim (cases_lt fault.place other.place) [
             | inl after ↦
                 absurd
-                    (let none : None ≡ Some f.cause =
-                         sym (other.earlier fault.place (omega (arith, after, other.line))) ∙ fault.has in
-                     cc)
+                (let none : None ≡ Some f.cause =
+                sym (other.earlier fault.place (omega (arith, after, other.line))) ∙ fault.has in
+                cc)
             | inr not_after ↦
                 let same : other.place ≡ fault.place = omega arith in
                 let line : f'.line ≡ f.line = other.line ∙ ap (λ n. n + 1) same ∙ sym fault.line in
                 let cause : f'.cause ≡ f.cause =
-                    (let both : Some f'.cause ≡ Some f.cause =
-                         sym other.has ∙ ap (cause_in newest (cut bytes).lines (cut bytes).rest) same
-                             ∙ fault.has in
-                     cc) in
+                (let both : Some f'.cause ≡ Some f.cause =
+                sym other.has ∙ ap (cause_in newest (cut bytes).lines (cut bytes).rest) same
+                ∙ fault.has in
+                cc) in
                 ap Err (same_fault f f' line cause)
           ]
         ]
@@ -278,8 +278,8 @@ stands_said newest bytes trace stands = by_said (trace_said newest bytes) refl
     by_said (Err f) e =
         let fault = said_first newest bytes f e in
         absurd
-            (let none : None ≡ Some f.cause = sym (stands.no_fault fault.place fault.within) ∙ fault.has in
-             cc)
+        (let none : None ≡ Some f.cause = sym (stands.no_fault fault.place fault.within) ∙ fault.has in
+        cc)
 
 -- ---- the same of what a file says
 
@@ -313,10 +313,10 @@ faultless-before newest n bytes reached = by_said (trace_said newest bytes) refl
         → IsFaultlessBefore newest n bytes
     by_said (Ok rs) e =
         λ k below.
-            (said_stands newest bytes rs e).no_fault k
-                (omega
-                    (arith, below, IsReached-within (traces newest) n bytes reached, line_feeds-lines bytes))
+        (said_stands newest bytes rs e).no_fault k
+        (omega
+        (arith, below, IsReached-within (traces newest) n bytes reached, line_feeds-lines bytes))
     by_said (Err f) e =
         λ k below.
-            (said_first newest bytes f e).earlier k
-                (omega (arith, below, IsReached-later (traces newest) n bytes f reached e))
+        (said_first newest bytes f e).earlier k
+        (omega (arith, below, IsReached-later (traces newest) n bytes f reached e))

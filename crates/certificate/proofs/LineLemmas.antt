@@ -67,20 +67,20 @@ plain-flag_names (row ∷ rows) bits each =
     by_flag : (b : Bool) → is_plain_text row.0 ≡ true
         → AllByRecursion (λ name. is_plain_text name ≡ true) (flag_names rows bits)
         → AllByRecursion (λ name. is_plain_text name ≡ true)
-            (cond b (row.0 ∷ flag_names rows bits) (flag_names rows bits))
+        (cond b (row.0 ∷ flag_names rows bits) (flag_names rows bits))
     by_flag true first rest = (first, rest)
     by_flag false first rest = rest
 
 pub plain-task_flags : (bits n : ℕ) → ArePlain (items_of (map string (flag_names task_flags bits))) n
 plain-task_flags bits n =
     ArePlain-items_of string (flag_names task_flags bits) n
-        (plain-flag_names task_flags bits
-            (refl, (refl, (refl, (refl, (refl, (refl, (refl, (refl, (refl, (refl, tt)))))))))))
+    (plain-flag_names task_flags bits
+    (refl, (refl, (refl, (refl, (refl, (refl, (refl, (refl, (refl, (refl, tt)))))))))))
 
 plain-cancel_flags : (bits n : ℕ) → ArePlain (items_of (map string (flag_names cancel_flags bits))) n
 plain-cancel_flags bits n =
     ArePlain-items_of string (flag_names cancel_flags bits) n
-        (plain-flag_names cancel_flags bits (refl, (refl, (refl, (refl, (refl, (refl, (refl, tt))))))))
+    (plain-flag_names cancel_flags bits (refl, (refl, (refl, (refl, (refl, (refl, (refl, tt))))))))
 
 pub plain-number_or_null : (o : Option ℕ) (n : ℕ) → IfSome o (λ m. m < 2 ^ 64) → IsPlain (number_or_null o) n
 plain-number_or_null None n h = tt
@@ -129,12 +129,19 @@ plain-thread_kind Unknown = refl
 plain-claim : (share : Option Claim) → IfSome share ClaimInRange
     → AllByRecursion (IsPlainMember 2) (claim_members share)
 plain-claim None h = tt
-plain-claim (Some c) h =
-    ((refl, omega (arith, h.0)),
-        ((refl, h.1),
-            ((refl,
-                 ArePlain-wholes c.path 1 (AllByRecursion-from _ c.path (λ k d l. omega (arith, h.2 k d l)))),
-                tt)))
+plain-claim (Some c) h = (
+  (refl, omega (arith, h.0)),
+  (
+    (refl, h.1),
+    (
+      (
+        refl,
+        ArePlain-wholes c.path 1 (AllByRecursion-from _ c.path (λ k d l. omega (arith, h.2 k d l))),
+      ),
+      tt,
+    ),
+  ),
+)
 
 plain-turns : (turns : Option Turns) (share : Option Claim) → IfSome turns TurnsInRange
     → AllByRecursion (IsPlainMember 2) (claim_members share)
@@ -145,12 +152,12 @@ plain-turns (Some t) share h rest = ((refl, omega (arith, h.0)), ((refl, omega (
 plain-dep : (d : Dep) → d.var < 2 ^ 64 → IsPlain (dep_data d) 1
 plain-dep d h =
     IsPlain-object_of ((member.type, string (dep_kind_name d.kind)) ∷ (member.var, whole_number d.var) ∷ []) 0
-        ((refl, plain-dep_kind d.kind), ((refl, h), tt))
+    ((refl, plain-dep_kind d.kind), ((refl, h), tt))
 
 pub plain-deps : (ds : List Dep) → All (λ d. d.var < 2 ^ 64) ds → ArePlain (items_of (map dep_data ds)) 1
 plain-deps ds h =
     ArePlain-items_of dep_data ds 1
-        (AllByRecursion-from (λ d. IsPlain (dep_data d) 1) ds (λ k d l. plain-dep (get_or ds k d) (h k d l)))
+    (AllByRecursion-from (λ d. IsPlain (dep_data d) 1) ds (λ k d l. plain-dep (get_or ds k d) (h k d l)))
 
 plain-body : (b : Body) → BodyInRange b → AllByRecursion (IsPlainMember 2) (body_members b)
 plain-body (ThreadBegin kind) h = ((refl, refl), ((refl, plain-thread_kind kind), tt))
@@ -160,33 +167,52 @@ plain-body (ParallelBegin requested task parallel) h =
 plain-body (ParallelEnd task parallel) h = ((refl, refl), ((refl, h.0), ((refl, h.1), tt)))
 plain-body (ImplicitTask endpoint actual index flags parallel task) h = (
   (refl, refl),
-  ((refl, plain-endpoint endpoint),
-      ((refl, omega (arith, h.0)),
-          ((refl, omega (arith, h.1)),
-              ((refl, plain-task_flags flags.0 1), ((refl, h.2), ((refl, h.3), tt)))))),
+  (
+    (refl, plain-endpoint endpoint),
+    (
+      (refl, omega (arith, h.0)),
+      (
+        (refl, omega (arith, h.1)),
+        ((refl, plain-task_flags flags.0 1), ((refl, h.2), ((refl, h.3), tt))),
+      ),
+    ),
+  ),
 )
 plain-body (TaskCreate deps flags task child) h =
     ((refl, refl), ((refl, tt), ((refl, plain-task_flags flags.0 1), ((refl, h.0), ((refl, h.1), tt)))))
 plain-body (Dependences task list) h = ((refl, refl), ((refl, h.0), ((refl, plain-deps list h.1), tt)))
-plain-body (TaskSchedule status turns prior next share) h =
-    ((refl, refl),
-        ((refl, plain-status status),
-            ((refl, h.1),
-                ((refl, plain-number_or_null next 2 h.2),
-                    plain-turns turns share h.0 (plain-claim share h.3)))))
-plain-body (SyncRegion kind endpoint parallel task) h =
-    ((refl, refl),
-        ((refl, plain-sync_kind kind),
-            ((refl, plain-endpoint endpoint),
-                ((refl, plain-number_or_null parallel 2 h.0), ((refl, h.1), tt)))))
+plain-body (TaskSchedule status turns prior next share) h = (
+  (refl, refl),
+  (
+    (refl, plain-status status),
+    (
+      (refl, h.1),
+      (
+        (refl, plain-number_or_null next 2 h.2),
+        plain-turns turns share h.0 (plain-claim share h.3),
+      ),
+    ),
+  ),
+)
+plain-body (SyncRegion kind endpoint parallel task) h = (
+  (refl, refl),
+  (
+    (refl, plain-sync_kind kind),
+    (
+      (refl, plain-endpoint endpoint),
+      ((refl, plain-number_or_null parallel 2 h.0), ((refl, h.1), tt)),
+    ),
+  ),
+)
 plain-body (body.Cancel flags task share) h =
     ((refl, refl), ((refl, plain-cancel_flags flags.0 1), ((refl, h.0), plain-claim share h.1)))
 
 pub plain-data_of : (r : Record) → IsInRange r → IsPlain (data_of r) 3
 plain-data_of r h =
-    IsPlain-object_of (record_members r) 2
-        ((refl, omega (arith, h.thread)),
-            ((refl, omega (arith, h.seq)), ((refl, omega (arith, h.seen)), plain-body r.body h.body)))
+    IsPlain-object_of (record_members r) 2 (
+      (refl, omega (arith, h.thread)),
+      ((refl, omega (arith, h.seq)), ((refl, omega (arith, h.seen)), plain-body r.body h.body)),
+    )
 
 rows_size : List Row → ℕ
 rows_size [] = 0
@@ -200,7 +226,7 @@ size-flag_names (row ∷ rows) bits = by_flag (has_flag bits row.1) (size-flag_n
   where
     by_flag : (b : Bool) → items_size (items_of (map string (flag_names rows bits))) ≤ rows_size rows
         → items_size (items_of (map string (cond b (row.0 ∷ flag_names rows bits) (flag_names rows bits))))
-            ≤ length row.0 + 3 + rows_size rows
+        ≤ length row.0 + 3 + rows_size rows
     by_flag true rest = omega arith
     by_flag false rest = omega arith
 
@@ -268,18 +294,20 @@ size-turns (Some t) share h = omega arith
 
 size-dep : (d : Dep) → size (dep_data d) ≤ 80
 size-dep d =
-    omega
-        (arith,
-            size-object_of
-                ((member.type, string (dep_kind_name d.kind)) ∷ (member.var, whole_number d.var) ∷ []),
-            size-dep_kind d.kind)
+    omega (
+      arith,
+      size-object_of
+          ((member.type, string (dep_kind_name d.kind)) ∷ (member.var, whole_number d.var) ∷ []),
+      size-dep_kind d.kind,
+    )
 
 size-deps : (ds : List Dep) → length ds ≤ max_dependences → items_size (items_of (map dep_data ds)) ≤ 6000
 size-deps ds few =
-    omega
-        (arith,
-            items_size-items_of dep_data ds 80
-                (AllByRecursion-from (λ d. size (dep_data d) ≤ 80) ds (λ k d l. size-dep (get_or ds k d))))
+    omega (
+      arith,
+      items_size-items_of dep_data ds 80
+          (AllByRecursion-from (λ d. size (dep_data d) ≤ 80) ds (λ k d l. size-dep (get_or ds k d))),
+    )
 
 size-body : (b : Body) → IsSound b → added_size (body_members b) ≤ 60000
 size-body (ThreadBegin kind) sound = omega (arith, size-thread_kind kind)
@@ -291,9 +319,12 @@ size-body (ImplicitTask endpoint actual index flags parallel task) sound =
 size-body (TaskCreate deps flags task child) sound = omega (arith, size-task_flags flags.0)
 size-body (Dependences task list) sound = omega (arith, size-deps list sound.few_dependences)
 size-body (TaskSchedule status turns prior next share) sound =
-    omega
-        (arith, size-status status, size-number_or_null next,
-            size-turns turns share (size-claim share sound.short_path))
+    omega (
+      arith,
+      size-status status,
+      size-number_or_null next,
+      size-turns turns share (size-claim share sound.short_path),
+    )
 size-body (SyncRegion kind endpoint parallel task) sound =
     omega (arith, size-sync_kind kind, size-endpoint endpoint, size-number_or_null parallel)
 size-body (body.Cancel flags task share) sound =
@@ -313,14 +344,16 @@ header_says-header_line : (newest version : ℕ) → 1 ≤ version → version �
 unfolding with_member
 header_says-header_line newest version low few known =
     ap (λ (o : Option Data). ok_or (option_and_then (version_in newest) o) Header)
-        (value_of-compact_text (header_data version) 1 (header_plain version few) (omega arith))
+    (value_of-compact_text (header_data version) 1 (header_plain version few) (omega arith))
     ∙ rw (le-leb 1 version low, le-leb version newest known) refl
 
 header_short : (version : ℕ) → version ≤ 2 → length (header_line version) ≤ max_line
 header_short version few =
-    omega
-        (arith, length-compact_text (header_data version) 1 (header_plain version few),
-            size-object_of (header_members version))
+    omega (
+      arith,
+      length-compact_text (header_data version) 1 (header_plain version few),
+      size-object_of (header_members version),
+    )
 
 -- the line of the record can be read, and says the record in a file of this version
 pub record IsWritten (version : ℕ) (r : Record) : Type 0 where
@@ -342,7 +375,7 @@ fits-claim : (share : Option Claim) → IfSome share ClaimInRange
 fits-claim None range few = refl
 fits-claim (Some c) range few =
     rw (le-leb (length c.path) max_depth few, fits-path c.path (AllByRecursion-from _ c.path range.2))
-        (short c.kept range.0)
+    (short c.kept range.0)
 
 fits-turns : (turns : Option Turns) → IfSome turns TurnsInRange → turns_fit turns ≡ true
 fits-turns None range = refl
@@ -365,7 +398,7 @@ fits-body (body.Cancel flags task share) range sound = fits-claim share range.1 
 pub fits : (r : Record) → IsInRange r → IsSound r.body → record_fits r ≡ true
 fits r range sound =
     rw (fits-body r.body range.body sound, lt-ltb r.thread max_threads range.thread, short r.seq range.seq)
-        (short r.seen range.seen)
+    (short r.seen range.seen)
 
 -- a record of a trace
 pub IsWritten-sound : (version : ℕ) (r : Record) → IsInRange r → IsSoundIn version r.body
@@ -375,7 +408,7 @@ IsWritten-sound version r range sound = record {
   short = size-data_of r sound.0;
   says =
       ap (bounded record_fits) (Says-sound version r sound)
-          ∙ ap (λ b. cond b (Ok r) (Err Limit)) (fits r range sound.0);
+      ∙ ap (λ b. cond b (Ok r) (Err Limit)) (fits r range sound.0);
 }
 
 pub line_says-line_of : (version : ℕ) (r : Record) → IsInRange r → IsSoundIn version r.body
@@ -396,12 +429,12 @@ trace_said-text newest trace known is =
     let rs = trace.records in
     let range = version-range version is.known in
     trace_said-trace newest version (header_line version) line_of rs
-        (header_says-header_line newest version range.0 range.1 known) (header_short version range.1)
-        (unbroken-compact_text (header_data version) 1 (header_plain version range.1))
+    (header_says-header_line newest version range.0 range.1 known) (header_short version range.1)
+    (unbroken-compact_text (header_data version) 1 (header_plain version range.1))
     (λ k d h.
-        let written =
-            IsWritten-sound version (get_or rs k d) (is.is_trace.in_range k d h)
-                (is.is_trace.sound k d h, is.turns k d h) in
-        IsLineOf-plain version (data_of (get_or rs k d)) 3 (get_or rs k d) written.plain (omega arith)
-            written.short written.says)
-        is.is_trace
+    let written =
+    IsWritten-sound version (get_or rs k d) (is.is_trace.in_range k d h)
+    (is.is_trace.sound k d h, is.turns k d h) in
+    IsLineOf-plain version (data_of (get_or rs k d)) 3 (get_or rs k d) written.plain (omega arith)
+    written.short written.says)
+    is.is_trace

@@ -66,20 +66,20 @@ mutual
       what_is_made array (of_items js) (items_meant js) d e (meant-of_items js)
   meant-of_json (json.object ms) d e =
       what_is_made object (of_members ms no_members) (members_meant ms no_members) d e
-          (meant-of_members ms no_members)
+      (meant-of_members ms no_members)
 
   meant-of_items : (js : json.Items) (ds : Items) → of_items js ≡ Some ds → items_meant js ≡ ds
   meant-of_items json.no_items ds e = cc
   meant-of_items (json.item j js) ds e =
       both_items (of_json j) (of_items js) (meant j) (items_meant js) ds e (meant-of_json j)
-          (meant-of_items js)
+      (meant-of_items js)
 
   meant-of_members : (ms : json.Members) (found all : Members) → of_members ms found ≡ Some all
       → members_meant ms found ≡ all
   meant-of_members json.no_members found all e = cc
   meant-of_members (json.member k j ms) found all e =
       meant-of_members ms (put k (meant j) found) all
-          (next_member ms k found all (of_json j) (meant j) e (meant-of_json j))
+      (next_member ms k found all (of_json j) (meant j) e (meant-of_json j))
 
 -- ---- numbers within a double's range
 
@@ -112,7 +112,7 @@ mutual
   of_members-ranged (json.member k j ms) found h =
       let both = ranged-parts (json_tokens j) (members_tokens ms) h.1 in
       ap (option_and_then (λ d. of_members ms (put k d found))) (of_json-ranged j both.0)
-          ∙ of_members-ranged ms (put k (meant j) found) both.1
+      ∙ of_members-ranged ms (put k (meant j) found) both.1
 
 -- ---- nesting
 
@@ -138,7 +138,7 @@ mutual
   members_depth-opened json.no_members = omega arith
   members_depth-opened (json.member k j ms) =
       omega
-          (arith, depth-opened j, members_depth-opened ms, opened-append (json_tokens j) (members_tokens ms))
+      (arith, depth-opened j, members_depth-opened ms, opened-append (json_tokens j) (members_tokens ms))
 
 opening-one : (t : Token) → opening t ≤ 1
 opening-one token.begin_object = omega arith
@@ -170,9 +170,13 @@ unfolding meant_at
 meant_at-BeginsWith ts j (d, rest, is) =
     let spelled : ts ≡ json_tokens j ++ rest = value-json_tokens_back d ts rest j is in
     let deep : depth j ≤ length ts =
-        omega
-            (arith, depth-opened j, opened-length (json_tokens j), ap length spelled,
-                length-append (json_tokens j) rest) in
+    omega (
+      arith,
+      depth-opened j,
+      opened-length (json_tokens j),
+      ap length spelled,
+      length-append (json_tokens j) rest,
+    ) in
     ap meant_read (read_at ts rest j d (length ts) is deep)
 
 -- ---- the value of a text
@@ -200,8 +204,8 @@ document-read : (text : List ℕ) (j : json.Json) → json.value max_depth (toke
     → json.document text ≡ Some j
 document-read text j is =
     ap (option_and_then (λ p. json.if_last p.0 p.1))
-        (read_at (tokens text) [] j max_depth json.max_depth is
-            (omega (arith, value-depth max_depth (tokens text) [] j is)))
+    (read_at (tokens text) [] j max_depth json.max_depth is
+    (omega (arith, value-depth max_depth (tokens text) [] j is)))
 
 -- the document, where it is read, is what it means
 pub read-meant : (text : List ℕ) (j : json.Json) (d : Data) → json.document text ≡ Some j → read text ≡ Some d
@@ -219,8 +223,8 @@ not_read text none = go (read text) refl
     go None e = refl
     go (Some d) e =
         absurd
-            (let p = read-parts text d e in
-             let no : None ≡ Some p.0 = sym none ∙ document-read text p.0 p.1 in cc)
+        (let p = read-parts text d e in
+        let no : None ≡ Some p.0 = sym none ∙ document-read text p.0 p.1 in cc)
 
 -- a document that nests at most 127 deep, and whose numbers are within a double's range, is read
 pub read-ranged : (text : List ℕ) (j : json.Json) → json.document text ≡ Some j → AreRanged (tokens text)
@@ -229,7 +233,7 @@ read-ranged text j is ranged few =
     let spelled : tokens text ≡ json_tokens j = tokens-document text j is in
     let deep : depth j ≤ max_depth = omega (arith, depth-opened j, ap opened spelled, few) in
     ap (λ o. option_and_then of_json (option_and_then (λ p. json.if_last p.0 p.1) o))
-        (read_at (tokens text) [] j json.max_depth max_depth (last _ j is) deep)
+    (read_at (tokens text) [] j json.max_depth max_depth (last _ j is) deep)
     ∙ of_json-ranged j (subst (λ ts. AreRanged ts) spelled ranged)
 
 -- ---- members
@@ -240,7 +244,7 @@ or_earlier (Some d) o = Some d
 
 with_later : (later : Option json.Json) (here : Bool) (j : json.Json) (o : Option Data)
     → or_earlier (option_map meant (later_or later (cond here (Some j) None))) o
-        ≡ or_earlier (option_map meant later) (cond here (Some (meant j)) o)
+    ≡ or_earlier (option_map meant later) (cond here (Some (meant j)) o)
 with_later None true j o = refl
 with_later None false j o = refl
 with_later (Some g) here j o = refl
@@ -250,9 +254,9 @@ pub get_member-put_either : (name k : List ℕ) (d : Data) (found : Members)
 get_member-put_either name k d found =
     let decides = bytes_eq-Decides k name in
     elim (bytes_eq k name) as
-        (λ b.
-            (b ≡ true → k ≡ name) → (k ≡ name → b ≡ true)
-                → get_member name (put k d found) ≡ cond b (Some d) (get_member name found)) [
+    (λ b.
+    (b ≡ true → k ≡ name) → (k ≡ name → b ≡ true)
+    → get_member name (put k d found) ≡ cond b (Some d) (get_member name found)) [
       | true ↦ λ is _. subst (λ q. get_member q (put k d found) ≡ Some d) (is refl) (get_member-put k d found)
       | false ↦
           λ _ is. get_member-put_other name k d found (λ same. let no : false ≡ true = is (sym same) in cc)
@@ -260,12 +264,12 @@ get_member-put_either name k d found =
 
 get_member-meant : (name : List ℕ) (ms : json.Members) (found : Members)
     → get_member name (members_meant ms found)
-        ≡ or_earlier (option_map meant (find.get_member name ms)) (get_member name found)
+    ≡ or_earlier (option_map meant (find.get_member name ms)) (get_member name found)
 get_member-meant name json.no_members found = refl
 get_member-meant name (json.member k j ms) found =
     get_member-meant name ms (put k (meant j) found)
     ∙ ap (or_earlier (option_map meant (find.get_member name ms)))
-        (get_member-put_either name k (meant j) found)
+    (get_member-put_either name k (meant j) found)
     ∙ sym (with_later (find.get_member name ms) (bytes_eq k name) j (get_member name found))
 
 no_earlier : (o : Option Data) → or_earlier o None ≡ o
@@ -295,7 +299,7 @@ pub member-says : (name : List ℕ) (value : List Token) (h : HasValue value) (r
     → Finds r (find.get name h.0) → option_map meant_at r ≡ get name (meant_at value)
 member-says name value h r found =
     meant_at-Finds r _ found ∙ sym (get-meant name h.0)
-        ∙ ap (get name) (sym (meant_at-BeginsWith value h.0 h.1))
+    ∙ ap (get name) (sym (meant_at-BeginsWith value h.0 h.1))
 
 -- ---- single values
 
@@ -364,7 +368,7 @@ pub id-says : (ts : List Token) (h : HasValue ts) (r : Option ℕ) → find.is_n
 id-says ts h r other is =
     let same : meant_at ts ≡ meant h.0 = meant_at-BeginsWith ts h.0 h.1 in
     ap (option_map Some) (is ∙ ap whole_of same) ∙ sym (nullable-other h.0 other)
-        ∙ ap (λ d. nullable (Some d)) (sym same)
+    ∙ ap (λ d. nullable (Some d)) (sym same)
 
 -- ---- lists
 
@@ -393,27 +397,27 @@ prepended xs x (Some ys) = ap Some (sym (append_assoc xs (x ∷ []) ys))
 pub each-more : {X : Type 0} (says : Data → Option X) (all : Option (List X)) (xs : List X) (x : X)
     (left rest : json.Items) (j : json.Json) (ts : List Token)
     → all ≡ option_map (λ ys. xs ++ ys) (each says (items_meant left)) → left ≡ json.item j rest
-        → BeginsWith ts j → Some x ≡ says (meant_at ts)
+    → BeginsWith ts j → Some x ≡ says (meant_at ts)
     → all ≡ option_map (λ ys. (xs ++ x ∷ []) ++ ys) (each says (items_meant rest))
 each-more {X} says all xs x left rest j ts read is begins said =
     let here : says (meant j) ≡ Some x = ap says (sym (meant_at-BeginsWith ts j begins)) ∙ sym said in
     let E : Option X → Option (List X) =
-        λ o.
-            option_map (λ ys. xs ++ ys)
-                (option_and_then (λ y. option_map (λ ys. y ∷ ys) (each says (items_meant rest))) o) in
+    λ o.
+    option_map (λ ys. xs ++ ys)
+    (option_and_then (λ y. option_map (λ ys. y ∷ ys) (each says (items_meant rest))) o) in
     read ∙ ap (λ js. option_map (λ ys. xs ++ ys) (each says (items_meant js))) is ∙ ap E here
-        ∙ prepended xs x (each says (items_meant rest))
+    ∙ prepended xs x (each says (items_meant rest))
 
 pub each-none : {X : Type 0} (says : Data → Option X) (all : Option (List X)) (xs : List X)
     (left rest : json.Items) (j : json.Json) (ts : List Token)
     → all ≡ option_map (λ ys. xs ++ ys) (each says (items_meant left)) → left ≡ json.item j rest
-        → BeginsWith ts j → None ≡ says (meant_at ts) → all ≡ None
+    → BeginsWith ts j → None ≡ says (meant_at ts) → all ≡ None
 each-none {X} says all xs left rest j ts read is begins said =
     let here : says (meant j) ≡ None = ap says (sym (meant_at-BeginsWith ts j begins)) ∙ sym said in
     let E : Option X → Option (List X) =
-        λ o.
-            option_map (λ ys. xs ++ ys)
-                (option_and_then (λ y. option_map (λ ys. y ∷ ys) (each says (items_meant rest))) o) in
+    λ o.
+    option_map (λ ys. xs ++ ys)
+    (option_and_then (λ y. option_map (λ ys. y ∷ ys) (each says (items_meant rest))) o) in
     read ∙ ap (λ js. option_map (λ ys. xs ++ ys) (each says (items_meant js))) is ∙ ap E here
 
 pub each-all : {X : Type 0} (says : Data → Option X) (all : Option (List X)) (xs : List X) (left : json.Items)
@@ -433,23 +437,23 @@ each-start {X} says o js is = ap (option_and_then (each says)) is ∙ same (each
 pub flags-more : (table : List (List ℕ × ℕ)) (all : Option ℕ) (found bit : ℕ) (left rest : json.Items)
     (j : json.Json) (ts : List Token)
     → all ≡ flags_from table found (items_meant left) → left ≡ json.item j rest → BeginsWith ts j
-        → Some bit ≡ flag_of table (meant_at ts)
+    → Some bit ≡ flag_of table (meant_at ts)
     → all ≡ flags_from table (bit_or found bit) (items_meant rest)
 flags-more table all found bit left rest j ts read is begins said =
     let here : flag_of table (meant j) ≡ Some bit =
-        ap (flag_of table) (sym (meant_at-BeginsWith ts j begins)) ∙ sym said in
+    ap (flag_of table) (sym (meant_at-BeginsWith ts j begins)) ∙ sym said in
     read ∙ ap (λ js. flags_from table found (items_meant js)) is
-        ∙ ap (option_and_then (λ b. flags_from table (bit_or found b) (items_meant rest))) here
+    ∙ ap (option_and_then (λ b. flags_from table (bit_or found b) (items_meant rest))) here
 
 pub flags-none : (table : List (List ℕ × ℕ)) (all : Option ℕ) (found : ℕ) (left rest : json.Items)
     (j : json.Json) (ts : List Token)
     → all ≡ flags_from table found (items_meant left) → left ≡ json.item j rest → BeginsWith ts j
-        → None ≡ flag_of table (meant_at ts) → all ≡ None
+    → None ≡ flag_of table (meant_at ts) → all ≡ None
 flags-none table all found left rest j ts read is begins said =
     let here : flag_of table (meant j) ≡ None =
-        ap (flag_of table) (sym (meant_at-BeginsWith ts j begins)) ∙ sym said in
+    ap (flag_of table) (sym (meant_at-BeginsWith ts j begins)) ∙ sym said in
     read ∙ ap (λ js. flags_from table found (items_meant js)) is
-        ∙ ap (option_and_then (λ b. flags_from table (bit_or found b) (items_meant rest))) here
+    ∙ ap (option_and_then (λ b. flags_from table (bit_or found b) (items_meant rest))) here
 
 pub flags-all : (table : List (List ℕ × ℕ)) (all : Option ℕ) (found : ℕ) (left : json.Items)
     → all ≡ flags_from table found (items_meant left) → left ≡ json.no_items → all ≡ Some found
@@ -489,11 +493,11 @@ pub value_or_cause-tape : (line text : List ℕ) (ts : List Token) → text ≡ 
     → is_some (read text) ≡ true → Ok (meant_at ts) ≡ value_or_cause line
 value_or_cause-tape line text ts same utf8 some begins readable =
     sym
-        (value_or_cause-json line (meant_at ts) utf8
-            (ap read (sym same) ∙ read-tape text ts some begins readable))
+    (value_or_cause-json line (meant_at ts) utf8
+    (ap read (sym same) ∙ read-tape text ts some begins readable))
 
 pub value_or_cause-not_read : (line text : List ℕ) → text ≡ line → json.document text ≡ None
-    → ◌≡◌ { A = Result Data ReadCause } (Err NotJson) (value_or_cause line)
+    → ◌≡◌ {A = Result Data ReadCause} (Err NotJson) (value_or_cause line)
 value_or_cause-not_read line text same none =
     sym (value_or_cause-none line (λ _. ap read (sym same) ∙ not_read text none))
 
@@ -515,7 +519,7 @@ ranged-more ns i d within here all later =
 pub counted-more : (ns : List Node) (i : ℕ) (d : Node) (count : ℕ) → i < length ns
     → count + opened (map node_token (drop i ns)) ≡ opened (map node_token ns)
     → (count + opening (node_token (get_or ns i d))) + opened (map node_token (drop (i + 1) ns))
-        ≡ opened (map node_token ns)
+    ≡ opened (map node_token ns)
 counted-more ns i d count within all = omega (arith, all, ap opened (next_tokens ns i d within))
 
 pub opening-bound : (n : Node) → opening (node_token n) ≤ 1
@@ -525,6 +529,7 @@ pub plain-all : (ns : List Node) (i count : ℕ) → length ns ≤ i
     → (AreRanged (map node_token (drop i ns)) → AreRanged (map node_token ns))
     → count + opened (map node_token (drop i ns)) ≡ opened (map node_token ns)
     → count ≤ max_depth → ArePlain (map node_token ns)
-plain-all ns i count past ranged counted few =
-    (ranged (subst (λ ts. AreRanged ts) (sym (no_tokens ns i past)) tt),
-        omega (arith, counted, ap opened (no_tokens ns i past), few))
+plain-all ns i count past ranged counted few = (
+  ranged (subst (λ ts. AreRanged ts) (sym (no_tokens ns i past)) tt),
+  omega (arith, counted, ap opened (no_tokens ns i past), few),
+)

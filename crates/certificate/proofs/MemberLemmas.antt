@@ -21,14 +21,14 @@ named-is name_of [] name r found rest = rest tt
 named-is {X} name_of (x ∷ xs) name r found rest =
     let decides = bytes_eq-Decides (name_of x) name in
     elim (bytes_eq (name_of x) name) as
-        (λ b.
-            (b ≡ true → name_of x ≡ name) → (name_of x ≡ name → b ≡ true)
-                → r ≡ cond b (Some x) (named name_of xs name)) [
+    (λ b.
+    (b ≡ true → name_of x ≡ name) → (name_of x ≡ name → b ≡ true)
+    → r ≡ cond b (Some x) (named name_of xs name)) [
       | true ↦ λ is _. (found x).1 (is refl)
       | false ↦
           λ _ is.
-              named-is name_of xs name r found
-                  (λ others. rest ((λ same. absurd (let h : false ≡ true = is same in cc)), others))
+          named-is name_of xs name r found
+          (λ others. rest ((λ same. absurd (let h : false ≡ true = is same in cc)), others))
     ] decides.0 decides.1
 
 pub none_named : {X : Type 0} (name_of : X → List ℕ) (name : List ℕ) (r : Option X)
@@ -44,14 +44,14 @@ ok_or-some (Some y) x e = cc
 pub ok_or-named : {X : Type 0} (name_of : X → List ℕ) (xs : List X)
     → ((P : X → Type 0) → AllByRecursion P xs → (x : X) → P x)
     → (o : Option (List ℕ)) (name : List ℕ) (r : Option X) → Ok name ≡ ok_or o Field
-        → ((x : X) → (r ≡ Some x) ↔ (name_of x ≡ name))
+    → ((x : X) → (r ≡ Some x) ↔ (name_of x ≡ name))
     → ok_or r Field ≡ ok_or (option_and_then (named name_of xs) o) Field
 ok_or-named {X} name_of xs every o name r is found =
     let Other : X → Type 0 = λ x. name_of x ≢ name in
     rw (ok_or-some o name is)
-        (ap (λ q. ok_or q Field)
-            (named-is name_of xs name r found
-                (λ others. none_named name_of name r found (every Other others))))
+    (ap (λ q. ok_or q Field)
+    (named-is name_of xs name r found
+    (λ others. none_named name_of name r found (every Other others))))
 
 -- the value of a line
 pub value_or_cause-json : (line : List ℕ) (d : Data) → IsUtf8 line → read line ≡ Some d
@@ -62,7 +62,7 @@ pub value_or_cause-none : (line : List ℕ) → (IsUtf8 line → read line ≡ N
     → value_or_cause line ≡ Err NotJson
 value_or_cause-none line none =
     elim (is_utf8 line) as
-        (λ b. (b ≡ true → read line ≡ None) → ok_or (cond b (read line) None) NotJson ≡ Err NotJson) [
+    (λ b. (b ≡ true → read line ≡ None) → ok_or (cond b (read line) None) NotJson ≡ Err NotJson) [
       | true ↦ λ h. rw (h refl)
       | false ↦ λ _. refl
     ] (λ is. none (IsUtf8-from_is_utf8 line is))

@@ -15,7 +15,7 @@ front_given xs copied rest at n m is least =
     let least' : n ≡ min m (length (drop at xs)) = rw take_rest at least in
     let len : length copied ≡ n = ap length copy ∙ omega (arith, length-take n (drop at xs)) in
     let front : take n (copied ++ rest) ≡ take n (drop at xs) =
-        ap (λ k. take k (copied ++ rest)) (sym len) ∙ take-append_seam copied rest ∙ copy in
+    ap (λ k. take k (copied ++ rest)) (sym len) ∙ take-append_seam copied rest ∙ copy in
     rw (front, ← drop-drop n at xs) (sym (take-append-drop n (drop at xs)))
 
 -- nothing is given only at the end

@@ -16,7 +16,7 @@ pub number_of-taken : (text : List ℕ) (n : ℕ) (behind : List ℕ) → Takes 
     → n < 2 ^ 64 → number_of text ≡ Some (unsigned n)
 number_of-taken text n behind takes none fits =
     let is : text ≡ decimal n =
-        takes.is ∙ ap (λ (s : List ℕ). decimal n ++ s) none ∙ append-nil (decimal n) in
+    takes.is ∙ ap (λ (s : List ℕ). decimal n ++ s) none ∙ append-nil (decimal n) in
     ap number_of is ∙ number_of-decimal n fits
 
 pub number_of-alone : (text : List ℕ) (n : ℕ) (behind : List ℕ) (r : Option ℕ) → Takes text (decimal n) behind
@@ -39,7 +39,7 @@ float_no_id sign p = either (float_is_finite (nearest binary64 sign p)) _ None r
 negative_no_id : (p : Parts) → id_of (number_from true p) ≡ None
 negative_no_id p =
     either (is_integer p && nat_lt 0 (digits_of p) && nat_le (digits_of p) (2 ^ 63))
-        (Some (negative (with_sign true (digits_of p)))) (float_of true p) refl (float_no_id true p)
+    (Some (negative (with_sign true (digits_of p)))) (float_of true p) refl (float_no_id true p)
 
 pub number_of-negative : (s : List ℕ) → (slice_index s 0 == minus) ≡ true → None ≡ id_of (number_of s)
 unfolding number_of
@@ -68,7 +68,7 @@ by_test p true (Some x) is h = ap Some h.1
 by_test p false None is none = sym (float_no_id false p)
 by_test p false (Some x) is h =
     let yes : (is_integer p && nat_lt (digits_of p) (2 ^ 64)) ≡ true =
-        rw (is_integer-IsInteger p h.0.0, lt-ltb (digits_of p) (2 ^ 64) h.0.1) refl in
+    rw (is_integer-IsInteger p h.0.0, lt-ltb (digits_of p) (2 ^ 64) h.0.1) refl in
     absurd (let no : true ≡ false = sym yes ∙ is in cc)
 
 pub number_of-unsigned : (s : List ℕ) (r : Option ℕ) → (slice_index s 0 == minus) ≡ false

@@ -36,7 +36,7 @@ IsBelowEach-put l k d (member j e ms) less below =
     by_order : slice_cmp nat_cmp l j ≡ Less → IsBelowEach l ms → slice_cmp nat_cmp l k ≡ Less
         → IsBelowEach l (put k d ms) → (o : Ordering)
         → IsBelowEach l
-            (match_ordering o (member k d (member j e ms)) (member j d ms) (member j e (put k d ms)))
+        (match_ordering o (member k d (member j e ms)) (member j d ms) (member j e (put k d ms)))
     by_order first rest here more Less = (here, (first, rest))
     by_order first rest here more Equal = (first, rest)
     by_order first rest here more Greater = (first, more)
@@ -78,8 +78,8 @@ put_last : (done : Members) (k : List ℕ) (d : Data) (more : Members)
 put_last no_members k d more rising = refl
 put_last (member first e done) k d more rising =
     let above : slice_cmp nat_cmp k first ≡ Greater =
-        nat_list_cmp_total.antisymm k first
-            ∙ ap ordering_reverse (below_middle first done k d more rising.0) in
+    nat_list_cmp_total.antisymm k first
+    ∙ ap ordering_reverse (below_middle first done k d more rising.0) in
     rw above (ap (member first e) (put_last done k d more rising.1))
 
 puts-followed : (ms done : Members) → IsRising (followed done ms) → puts ms done ≡ followed done ms
@@ -99,12 +99,12 @@ MembersArePlain-put : (k : List ℕ) (d : Data) (ms : Members) (n : ℕ) → is_
 MembersArePlain-put k d no_members n name plain all = (name, plain, tt)
 MembersArePlain-put k d (member l e ms) n name plain all =
     by_order name plain all.0 all.1 all.2 (MembersArePlain-put k d ms n name plain all.2)
-        (slice_cmp nat_cmp k l)
+    (slice_cmp nat_cmp k l)
   where
     by_order : is_plain_text k ≡ true → IsPlain d n → is_plain_text l ≡ true → IsPlain e n
         → MembersArePlain ms n → MembersArePlain (put k d ms) n → (o : Ordering)
         → MembersArePlain
-            (match_ordering o (member k d (member l e ms)) (member l d ms) (member l e (put k d ms))) n
+        (match_ordering o (member k d (member l e ms)) (member l d ms) (member l e (put k d ms))) n
     by_order name plain first old rest more Less = (name, plain, (first, old, rest))
     by_order name plain first old rest more Equal = (first, plain, rest)
     by_order name plain first old rest more Greater = (first, old, more)
@@ -116,8 +116,8 @@ members_size-put k d (member l e ms) = by_order (members_size-put k d ms) (slice
   where
     by_order : members_size (put k d ms) ≤ length k + 4 + size d + members_size ms → (o : Ordering)
         → members_size
-            (match_ordering o (member k d (member l e ms)) (member l d ms) (member l e (put k d ms)))
-            ≤ length k + 4 + size d + (length l + 4 + size e + members_size ms)
+        (match_ordering o (member k d (member l e ms)) (member l d ms) (member l e (put k d ms)))
+        ≤ length k + 4 + size d + (length l + 4 + size e + members_size ms)
     by_order more Less = omega arith
     by_order more Equal = omega arith
     by_order more Greater = omega arith
@@ -140,7 +140,7 @@ unfolding with_member
 with_members-plain [] ms n each rising all = (rising, all)
 with_members-plain (m ∷ added) ms n each rising all =
     with_members-plain added (put m.0 m.1 ms) n each.1 (IsRising-put m.0 m.1 ms rising)
-        (MembersArePlain-put m.0 m.1 ms n each.0.0 each.0.1 all)
+    (MembersArePlain-put m.0 m.1 ms n each.0.0 each.0.1 all)
 
 pub IsPlain-object_of : (added : List (List ℕ × Data)) (n : ℕ) → AllByRecursion (IsPlainMember n) added
     → IsPlain (object_of added) (suc n)

@@ -210,6 +210,6 @@ text-dep d = refl
 
 pub text-header : (version : ℕ)
     → header_line version
-        ≡ (codes "{\"format\":\"task-credit-audit\",\"version\":" ++ decimal version) ++ codes "}"
+    ≡ (codes "{\"format\":\"task-credit-audit\",\"version\":" ++ decimal version) ++ codes "}"
 unfolding with_member escape_byte
 text-header version = refl

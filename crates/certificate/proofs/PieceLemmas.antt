@@ -42,14 +42,14 @@ begins_parts line later bytes more begins =
 
 says_line : (n : ℕ) (kept : TraceView) (line later bytes more left : List ℕ) → BeginsWith line later bytes
     → rest_says (traces newest_version) n kept ((bytes ++ more) ++ left)
-        ≡ go_on n ((traces newest_version).adds n kept line)
-            (λ after. rest_says (traces newest_version) (n + 1) after ((later ++ more) ++ left))
+    ≡ go_on n ((traces newest_version).adds n kept line)
+    (λ after. rest_says (traces newest_version) (n + 1) after ((later ++ more) ++ left))
 says_line n kept line later bytes more left begins =
     ap (rest_says (traces newest_version) n kept)
-        (ap (λ (xs : List ℕ). xs ++ left) (begins_parts line later bytes more begins)
-            ∙ append_assoc line (10 ∷ (later ++ more)) left)
+    (ap (λ (xs : List ℕ). xs ++ left) (begins_parts line later bytes more begins)
+    ∙ append_assoc line (10 ∷ (later ++ more)) left)
     ∙ rest_says-line (traces newest_version) n kept line ((later ++ more) ++ left) begins.unbroken
-        begins.short
+    begins.short
 
 -- what the text of a line behind the header adds
 adds_record : (n : ℕ) (kept : TraceView) (line : List ℕ) → n ≢ 1
@@ -61,19 +61,18 @@ pub IsBetween-text : (known : Option (List ℕ)) (n : ℕ) (kept after : TraceVi
     (line later bytes more : List ℕ) (left : Option (List ℕ))
     → BeginsWith line later bytes → text_adds newest_version n kept line ≡ Ok after
     → IsBetweenLines known n kept (bytes ++ more) left
-        → IsBetweenLines known (n + 1) after (later ++ more) left
+    → IsBetweenLines known (n + 1) after (later ++ more) left
 IsBetween-text None n kept after line later bytes more left begins adds now = tt
 IsBetween-text (Some all) n kept after line later bytes more None begins adds now = absurd now
 IsBetween-text (Some all) n kept after line later bytes more (Some l) begins adds now =
     let whole : (bytes ++ more) ++ l ≡ line ++ (10 ∷ ((later ++ more) ++ l)) =
-        ap (λ (xs : List ℕ). xs ++ l) (begins_parts line later bytes more begins)
-            ∙ append_assoc line (10 ∷ (later ++ more)) l in
-    (
+    ap (λ (xs : List ℕ). xs ++ l) (begins_parts line later bytes more begins)
+    ∙ append_assoc line (10 ∷ (later ++ more)) l in (
       now.0 ∙ says_line n kept line later bytes more l begins
           ∙ ap
-              (λ r.
-                  go_on n r (λ after. rest_says (traces newest_version) (n + 1) after ((later ++ more) ++ l)))
-              adds,
+          (λ r.
+          go_on n r (λ after. rest_says (traces newest_version) (n + 1) after ((later ++ more) ++ l)))
+          adds,
       from_next n all line ((later ++ more) ++ l) begins.unbroken
           (subst (λ (rest : List ℕ). IsFromLine n all rest) whole now.1),
     )
@@ -82,12 +81,12 @@ IsBetween-record : (known : Option (List ℕ)) (n : ℕ) (kept : TraceView) (r :
     (later bytes more : List ℕ) (left : Option (List ℕ))
     → n ≢ 1 → BeginsWithRecord kept.version r later bytes → has_room kept.records r ≡ true
     → IsBetweenLines known n kept (bytes ++ more) left
-        → IsBetweenLines known (n + 1) (record { version = kept.version; records = kept.records ++ r ∷ [] })
-            (later ++ more) left
+    → IsBetweenLines known (n + 1) (record { version = kept.version; records = kept.records ++ r ∷ [] })
+    (later ++ more) left
 IsBetween-record known n kept r later bytes more left other begins room now =
     let after : TraceView = record { version = kept.version; records = kept.records ++ r ∷ [] } in
     let adds : text_adds newest_version n kept begins.line ≡ Ok after =
-        adds_record n kept begins.line other ∙ ap (with_record kept) begins.says ∙ rw room refl in
+    adds_record n kept begins.line other ∙ ap (with_record kept) begins.says ∙ rw room refl in
     IsBetween-text known n kept after begins.line later bytes more left begins.begins adds now
 
 -- the line has a fault of its text
@@ -95,51 +94,51 @@ fault_line : (known : Option (List ℕ)) (n : ℕ) (kept : TraceView) (cause : R
     (line later bytes more : List ℕ) (left : Option (List ℕ))
     → BeginsWith line later bytes → text_adds newest_version n kept line ≡ Err cause
     → IsBetweenLines known n kept (bytes ++ more) left
-        → IfSome known (λ all. said (traces newest_version) all ≡ Err (fault_in n cause))
+    → IfSome known (λ all. said (traces newest_version) all ≡ Err (fault_in n cause))
 fault_line None n kept cause line later bytes more left begins adds now = tt
 fault_line (Some all) n kept cause line later bytes more None begins adds now = absurd now
 fault_line (Some all) n kept cause line later bytes more (Some l) begins adds now =
     now.0 ∙ says_line n kept line later bytes more l begins
-        ∙ ap
-            (λ r. go_on n r (λ after. rest_says (traces newest_version) (n + 1) after ((later ++ more) ++ l)))
-            adds
+    ∙ ap
+    (λ r. go_on n r (λ after. rest_says (traces newest_version) (n + 1) after ((later ++ more) ++ l)))
+    adds
 
 -- there is no room for the record of the line
 pub no_room_line : (known : Option (List ℕ)) (n : ℕ) (kept : TraceView) (r : Record)
     (later bytes more : List ℕ) (left : Option (List ℕ))
     → n ≢ 1 → BeginsWithRecord kept.version r later bytes → has_room kept.records r ≡ false
     → IsBetweenLines known n kept (bytes ++ more) left
-        → IfSome known (λ all. said (traces newest_version) all ≡ Err (fault_in n Limit))
+    → IfSome known (λ all. said (traces newest_version) all ≡ Err (fault_in n Limit))
 no_room_line known n kept r later bytes more left other begins full now =
     fault_line known n kept Limit begins.line later bytes more left begins.begins
-        (adds_record n kept begins.line other ∙ ap (with_record kept) begins.says ∙ rw full refl) now
+    (adds_record n kept begins.line other ∙ ap (with_record kept) begins.says ∙ rw full refl) now
 
 -- the line stands for no record
 pub faulty_line : (known : Option (List ℕ)) (n : ℕ) (kept : TraceView) (cause : ReadCause)
     (bytes more : List ℕ) (left : Option (List ℕ))
     → n ≢ 1 → BeginsWithFault kept.version cause bytes
     → IsBetweenLines known n kept (bytes ++ more) left
-        → IfSome known (λ all. said (traces newest_version) all ≡ Err (fault_in n cause))
+    → IfSome known (λ all. said (traces newest_version) all ≡ Err (fault_in n cause))
 faulty_line known n kept cause bytes more left other begins now =
     fault_line known n kept cause begins.line begins.later bytes more left begins.begins
-        (adds_record n kept begins.line other ∙ ap (with_record kept) begins.says) now
+    (adds_record n kept begins.line other ∙ ap (with_record kept) begins.says) now
 
 -- the line is too long
 pub long_line : (known : Option (List ℕ)) (n : ℕ) (kept : TraceView) (bytes more : List ℕ)
     (left : Option (List ℕ))
     → BeginsTooLong bytes
     → IsBetweenLines known n kept (bytes ++ more) left
-        → IfSome known (λ all. said (traces newest_version) all ≡ Err (fault_in n LineTooLong))
+    → IfSome known (λ all. said (traces newest_version) all ≡ Err (fault_in n LineTooLong))
 long_line None n kept bytes more left begins now = tt
 long_line (Some all) n kept bytes more None begins now = absurd now
 long_line (Some all) n kept bytes more (Some l) begins now =
     let whole : (bytes ++ more) ++ l ≡ begins.front ++ ((begins.later ++ more) ++ l) =
     ap (λ (xs : List ℕ). xs ++ l)
-        (ap (λ (xs : List ℕ). xs ++ more) begins.parts ∙ append_assoc begins.front begins.later more)
-        ∙ append_assoc begins.front (begins.later ++ more) l in
+    (ap (λ (xs : List ℕ). xs ++ more) begins.parts ∙ append_assoc begins.front begins.later more)
+    ∙ append_assoc begins.front (begins.later ++ more) l in
     now.0 ∙ ap (rest_says (traces newest_version) n kept) whole
-        ∙ rest_says-long (traces newest_version) n kept begins.front ((begins.later ++ more) ++ l)
-            begins.unbroken begins.long
+    ∙ rest_says-long (traces newest_version) n kept begins.front ((begins.later ++ more) ++ l)
+    begins.unbroken begins.long
 
 -- no memory was found for what waits from a line on
 pub no_memory : (known : Option (List ℕ)) (n room : ℕ) (kept : TraceView) (waiting : List ℕ)
@@ -158,14 +157,14 @@ pub no_text_cause : (n : ℕ) (kept : TraceView) (cause : ReadCause) (bytes : Li
     → BeginsWithFault kept.version cause bytes → IsTextCause cause
 no_text_cause n kept cause bytes other begins =
     traces-text_causes newest_version n kept begins.line cause
-        (sym (adds_record n kept begins.line other ∙ ap (with_record kept) begins.says))
+    (sym (adds_record n kept begins.line other ∙ ap (with_record kept) begins.says))
 
 -- the fault that a piece has
 pub piece_fault : (known : Option (List ℕ)) (n room : ℕ) (kept : TraceView) (cause : ReadCause)
     (bytes more : List ℕ) (left : Option (List ℕ))
     → n ≢ 1 → length (bytes ++ more) ≤ room → IsFaultOf kept.version cause bytes
     → IsBetweenLines known n kept (bytes ++ more) left
-        → IfSome known (λ all. IsToldWithin room cause n all left)
+    → IfSome known (λ all. IsToldWithin room cause n all left)
 piece_fault known n room kept Memory bytes more left other few is now =
     no_memory known n room kept (bytes ++ more) left few now
 piece_fault known n room kept LineTooLong bytes more left other few is now =
@@ -198,7 +197,7 @@ BeginsWithRecords-append version (r ∷ first) rest bytes middle later now more 
 pub BeginsWithRecords-split : (version : ℕ) (first rest : List Record) (bytes later : List ℕ)
     → BeginsWithRecords version (first ++ rest) later bytes
     → (middle : List ℕ) × BeginsWithRecords version first middle bytes
-        × BeginsWithRecords version rest later middle
+    × BeginsWithRecords version rest later middle
 BeginsWithRecords-split version [] rest bytes later now = (bytes, refl, now)
 BeginsWithRecords-split version (r ∷ first) rest bytes later now =
     let more = BeginsWithRecords-split version first rest now.0 later now.2 in
@@ -211,7 +210,7 @@ BeginsWithRecords-line_feeds version [] bytes later same = omega (arith, ap line
 BeginsWithRecords-line_feeds version (r ∷ rs) bytes later now =
     let begins = now.1.begins in
     let one : line_feeds bytes ≡ line_feeds now.0 + 1 =
-        ap line_feeds begins.parts ∙ line_feeds-one now.1.line now.0 begins.unbroken in
+    ap line_feeds begins.parts ∙ line_feeds-one now.1.line now.0 begins.unbroken in
     omega (arith, one, BeginsWithRecords-line_feeds version rs now.0 later now.2)
 
 -- what is left is no longer
@@ -220,9 +219,12 @@ pub BeginsWithRecords-length : (version : ℕ) (rs : List Record) (bytes later :
 BeginsWithRecords-length version [] bytes later same = omega (arith, ap length same)
 BeginsWithRecords-length version (r ∷ rs) bytes later now =
     let begins = now.1.begins in
-    omega
-        (arith, ap length begins.parts, length-append now.1.line (10 ∷ now.0),
-            BeginsWithRecords-length version rs now.0 later now.2)
+    omega (
+      arith,
+      ap length begins.parts,
+      length-append now.1.line (10 ∷ now.0),
+      BeginsWithRecords-length version rs now.0 later now.2,
+    )
 
 -- the records that lines stand for are sound
 pub BeginsWithRecords-sound : (version : ℕ) (rs : List Record) (bytes later : List ℕ)
@@ -230,26 +232,26 @@ pub BeginsWithRecords-sound : (version : ℕ) (rs : List Record) (bytes later : 
 BeginsWithRecords-sound version [] bytes later same = λ k d h. absurd (omega arith)
 BeginsWithRecords-sound version (r ∷ rs) bytes later now =
     All-cons (λ (x : Record). IsSoundIn version x.body) r rs
-        (line_says-sound version now.1.line r (sym now.1.says))
-        (BeginsWithRecords-sound version rs now.0 later now.2)
+    (line_says-sound version now.1.line r (sym now.1.says))
+    (BeginsWithRecords-sound version rs now.0 later now.2)
 
 -- lines whose records have room are read
 pub IsBetween-records : (known : Option (List ℕ)) (n : ℕ) (kept : TraceView) (rs : List Record)
     (later bytes more : List ℕ) (left : Option (List ℕ))
     → 2 ≤ n → BeginsWithRecords kept.version rs later bytes → HaveRoom kept.records rs
     → IsBetweenLines known n kept (bytes ++ more) left
-        → IsBetweenLines known (n + length rs)
-            (record { version = kept.version; records = kept.records ++ rs }) (later ++ more) left
+    → IsBetweenLines known (n + length rs)
+    (record { version = kept.version; records = kept.records ++ rs }) (later ++ more) left
 IsBetween-records known n kept [] later bytes more left low same room now =
     let none : n + 0 ≡ n = omega arith in
     rw (none, append-nil kept.records) (rw same at now)
 IsBetween-records known n kept (r ∷ rs) later bytes more left low begins room now =
     let after : TraceView = record { version = kept.version; records = kept.records ++ r ∷ [] } in
     let one =
-        IsBetween-record known n kept r begins.0 bytes more left (λ same. absurd (omega arith)) begins.1
-            room.0 now in
+    IsBetween-record known n kept r begins.0 bytes more left (λ same. absurd (omega arith)) begins.1
+    room.0 now in
     let all =
-        IsBetween-records known (n + 1) after rs later begins.0 more left (omega arith) begins.2 room.1 one in
+    IsBetween-records known (n + 1) after rs later begins.0 more left (omega arith) begins.2 room.1 one in
     let count : n + length (r ∷ rs) ≡ n + 1 + length rs = omega arith in
     rw (count, ← append_assoc kept.records (r ∷ []) rs) all
 
@@ -272,7 +274,7 @@ begins_long rest len at long =
       later = drop (max_line + 1) rest;
       unbroken =
           unbroken-front rest (max_line + 1) within
-              (λ i h is. at.0.before i (omega arith) (omega arith) (eq-eqb _ _ is));
+          (λ i h is. at.0.before i (omega arith) (omega arith) (eq-eqb _ _ is));
       long = omega (arith, length-take (max_line + 1) rest);
       parts = sym (take-append-drop (max_line + 1) rest);
     }
@@ -284,13 +286,13 @@ pub fault_of_text : (version : ℕ) (cause : ReadCause) (rest : List ℕ) (len :
 fault_of_text version Memory rest len at short says = tt
 fault_of_text version LineTooLong rest len at short says =
     absurd
-        (no_text_cause 2 (record { version = version; records = [] }) LineTooLong rest
-            (λ same. absurd (omega arith)) (record {
-          line = take len rest;
-          later = drop (len + 1) rest;
-          begins = begins_line rest len at short;
-          says = says (λ same. cc);
-        }))
+    (no_text_cause 2 (record { version = version; records = [] }) LineTooLong rest
+    (λ same. absurd (omega arith)) (record {
+      line = take len rest;
+      later = drop (len + 1) rest;
+      begins = begins_line rest len at short;
+      says = says (λ same. cc);
+    }))
 fault_of_text version Device rest len at short says = record {
   line = take len rest;
   later = drop (len + 1) rest;
@@ -341,7 +343,7 @@ pub BeginsWithRecords-more : (version : ℕ) (text : List ℕ) (start len : ℕ)
     → BeginsWithRecords version (rs ++ r ∷ []) (drop (start + len) text) text
 BeginsWithRecords-more version text start len rs r read begins =
     BeginsWithRecords-append version rs (r ∷ []) text (drop start text) (drop (start + len) text) read
-        (drop len (drop start text), begins, drop-drop len start text)
+    (drop len (drop start text), begins, drop-drop len start text)
 
 pub tasks_more : (rs : List Record) (r : Record)
     → tasks_in (rs ++ r ∷ []) ≡ tasks_in rs + cond (is_some (made r.body)) 1 0
@@ -352,9 +354,9 @@ tasks_more rs r = sum_by_push (λ (x : Record). cond (is_some (made x.body)) 1 0
 pub AreJudged-from : (version : ℕ) (bytes : List ℕ) (start : ℕ) (cuts : List ℕ) (pieces : List Piece)
     → ArePieces bytes start cuts (length bytes) → length pieces ≡ length cuts
     → ((i : ℕ) (d : Piece) → i < length cuts
-          → IsJudged version (slice_range bytes (get_or (start ∷ cuts) i 0) (get_or cuts i 0))
-              (get_or pieces i d))
-        → AreJudged version pieces (drop start bytes)
+    → IsJudged version (slice_range bytes (get_or (start ∷ cuts) i 0) (get_or cuts i 0))
+    (get_or pieces i d))
+    → AreJudged version pieces (drop start bytes)
 AreJudged-from version bytes start [] [] cut same each = drop_all start bytes (omega arith)
 AreJudged-from version bytes start [] (p ∷ pieces) cut same each = absurd (omega arith)
 AreJudged-from version bytes start (c ∷ cuts) [] cut same each = absurd (omega arith)
@@ -364,7 +366,7 @@ AreJudged-from version bytes start (c ∷ cuts) (p ∷ pieces) cut same each =
       drop c bytes,
       sym (take-append-drop (c - start) (drop start bytes))
           ∙ ap (λ (xs : List ℕ). slice_range bytes start c ++ xs)
-              (drop-drop (c - start) start bytes ∙ ap (λ n. drop n bytes) there),
+          (drop-drop (c - start) start bytes ∙ ap (λ n. drop n bytes) there),
       each 0 p (omega arith),
       AreJudged-from version bytes c cuts pieces cut.1 (omega arith) (λ i d h. each (suc i) d (omega arith)),
     )
@@ -373,18 +375,18 @@ AreJudged-from version bytes start (c ∷ cuts) (p ∷ pieces) cut same each =
 pub AreJudged-cuts : (version : ℕ) (bytes cuts : List ℕ) (pieces : List Piece) → AreCuts bytes cuts
     → length pieces ≡ length cuts - 1
     → ((i : ℕ) (d : Piece) → i < length cuts - 1
-          → IsJudged version (slice_range bytes (get_or cuts i 0) (get_or cuts (i + 1) 0))
-              (get_or pieces i d))
-        → AreJudged version pieces bytes
+    → IsJudged version (slice_range bytes (get_or cuts i 0) (get_or cuts (i + 1) 0))
+    (get_or pieces i d))
+    → AreJudged version pieces bytes
 AreJudged-cuts version bytes [] pieces cut same each = absurd cut
 AreJudged-cuts version bytes (start ∷ cuts) pieces cut same each =
     let begin : start ≡ 0 = cut.0 in
     let each_one : (i : ℕ) (d : Piece) → i < length cuts
-            → IsJudged version (slice_range bytes (get_or (start ∷ cuts) i 0) (get_or cuts i 0))
-                (get_or pieces i d) =
-        λ i d h. (rw add-one at (each i d (omega arith))) in
+    → IsJudged version (slice_range bytes (get_or (start ∷ cuts) i 0) (get_or cuts i 0))
+    (get_or pieces i d) =
+    λ i d h. (rw add-one at (each i d (omega arith))) in
     let all : AreJudged version pieces (drop start bytes) =
-        AreJudged-from version bytes start cuts pieces cut.1 (omega arith) each_one in
+    AreJudged-from version bytes start cuts pieces cut.1 (omega arith) each_one in
     rw begin at all
 
 -- ---- the header
@@ -398,12 +400,12 @@ pub header_taken : (known : Option (List ℕ)) (n : ℕ) (kept after : TraceView
     → n ≡ 1 → LineFeedAt text (Some len) → len ≤ max_line
     → Ok after ≡ with_header (header_says newest_version (take len text))
     → IsBetweenLines known n kept (text ++ more) left
-        → IsBetweenLines known 2 after (drop (len + 1) text ++ more) left
+    → IsBetweenLines known 2 after (drop (len + 1) text ++ more) left
 header_taken known n kept after text more len left first at short says now =
     let next : n + 1 ≡ 2 = omega arith in
     let there =
-        IsBetween-text known n kept after (take len text) (drop (len + 1) text) text more left
-            (begins_line text len at short) (adds_header n kept (take len text) first ∙ sym says) now in
+    IsBetween-text known n kept after (take len text) (drop (len + 1) text) text more left
+    (begins_line text len at short) (adds_header n kept (take len text) first ∙ sym says) now in
     rw next at there
 
 -- a fault that a text has is told
@@ -423,10 +425,10 @@ told_text known n room TurnsSpent left is told = absurd is
 pub header_fault : (known : Option (List ℕ)) (n room : ℕ) (kept : TraceView) (cause : ReadCause)
     (text more : List ℕ) (len : ℕ) (left : Option (List ℕ))
     → n ≡ 1 → LineFeedAt text (Some len) → len ≤ max_line → length (text ++ more) ≤ room
-    → (◌≢◌ { A = Result TraceView ReadCause } (Err cause) (Err Memory)
-          → Err cause ≡ with_header (header_says newest_version (take len text)))
+    → (◌≢◌ {A = Result TraceView ReadCause} (Err cause) (Err Memory)
+    → Err cause ≡ with_header (header_says newest_version (take len text)))
     → IsBetweenLines known n kept (text ++ more) left
-        → IfSome known (λ all. IsToldWithin room cause n all left)
+    → IfSome known (λ all. IsToldWithin room cause n all left)
 header_fault known n room kept cause text more len left first at short few says now = by cause refl
   where
     told : (e : ReadCause) → cause ≡ e → (e ≡ Memory → ⊥)
@@ -434,16 +436,16 @@ header_fault known n room kept cause text more len left first at short few says 
     told e same other =
         let says_so = says (λ memory. other (let h : e ≡ Memory = cc in h)) in
         let adds : text_adds newest_version n kept (take len text) ≡ Err cause =
-            adds_header n kept (take len text) first ∙ sym says_so in
+        adds_header n kept (take len text) first ∙ sym says_so in
         told_text known n room cause left
-            (traces-text_causes newest_version n kept (take len text) cause (sym adds))
-            (fault_line known n kept cause (take len text) (drop (len + 1) text) text more left
-                (begins_line text len at short) adds now)
+        (traces-text_causes newest_version n kept (take len text) cause (sym adds))
+        (fault_line known n kept cause (take len text) (drop (len + 1) text) text more left
+        (begins_line text len at short) adds now)
 
     by : (e : ReadCause) → cause ≡ e → IfSome known (λ all. IsToldWithin room cause n all left)
     by Memory same =
         subst (λ (e : ReadCause). IfSome known (λ all. IsToldWithin room e n all left)) (sym same)
-            (no_memory known n room kept (text ++ more) left few now)
+        (no_memory known n room kept (text ++ more) left few now)
     by Device same = told Device same (λ is. cc)
     by Header same = told Header same (λ is. cc)
     by LineTooLong same = told LineTooLong same (λ is. cc)

@@ -52,14 +52,14 @@ from_next n bytes line rest all from =
     let front = from.before ++ line in
     let one : line_feeds (front ++ (10 ∷ [])) ≡ line_feeds from.before + 1 =
     ap line_feeds (append_assoc from.before line (10 ∷ []))
-        ∙ line_feeds-append from.before (line ++ (10 ∷ []))
-        ∙ ap (λ (k : ℕ). line_feeds from.before + k) (line_feeds-one line [] all) in
+    ∙ line_feeds-append from.before (line ++ (10 ∷ []))
+    ∙ ap (λ (k : ℕ). line_feeds from.before + k) (line_feeds-one line [] all) in
     record {
       before = front ++ (10 ∷ []);
       lines = record { count = omega (arith, one, from.lines.count); ended = inr (front, refl) };
       parts =
           from.parts ∙ sym (append_assoc from.before line (10 ∷ rest))
-              ∙ sym (append_assoc front (10 ∷ []) rest);
+          ∙ sym (append_assoc front (10 ∷ []) rest);
     }
 
 -- so many line feeds are left
@@ -77,7 +77,7 @@ pub IsReached-later : {X : Type 0} (format : Format X) (n : ℕ) (bytes : List �
     → IsReached format n bytes → said format bytes ≡ Err f → n ≤ f.line
 IsReached-later format n bytes f reached e =
     said_later format n reached.before (cut reached.rest).lines (cut reached.rest).rest f
-        (sym reached.says ∙ e)
+    (sym reached.says ∙ e)
 
 pub IsBetween-start : {X : Type 0} (format : Format X) (known : Option (List ℕ))
     → IsBetween format known 1 format.first [] known
@@ -102,12 +102,12 @@ parts w l len at =
 rest_says-window : {X : Type 0} (format : Format X) (n : ℕ) (kept : X) (w l : List ℕ) (len : ℕ)
     → LineFeedAt w (Some len) → len ≤ max_line
     → rest_says format n kept (w ++ l)
-        ≡ go_on n (format.adds n kept (take len w))
-            (λ after. rest_says format (n + 1) after (drop (len + 1) w ++ l))
+    ≡ go_on n (format.adds n kept (take len w))
+    (λ after. rest_says format (n + 1) after (drop (len + 1) w ++ l))
 rest_says-window format n kept w l len at short =
     let small : length (take len w) ≤ max_line = omega (arith, length-take len w) in
     ap (rest_says format n kept) (parts w l len at)
-        ∙ rest_says-line format n kept (take len w) (drop (len + 1) w ++ l) (unbroken-before w len at) small
+    ∙ rest_says-line format n kept (take len w) (drop (len + 1) w ++ l) (unbroken-before w len at) small
 
 pub IsBetween-line : {X : Type 0} (format : Format X) (known : Option (List ℕ)) (n : ℕ) (kept kept' : X)
     (w : List ℕ) (len : ℕ) (left : Option (List ℕ))
@@ -117,8 +117,7 @@ IsBetween-line format None n kept kept' w len left at short adds now = tt
 IsBetween-line format (Some bytes) n kept kept' w len None at short adds now = absurd now
 IsBetween-line format (Some bytes) n kept kept' w len (Some l) at short adds now =
     let from : IsFromLine n bytes (take len w ++ (10 ∷ (drop (len + 1) w ++ l))) =
-        subst (λ (rest : List ℕ). IsFromLine n bytes rest) (parts w l len at) now.1 in
-    (
+    subst (λ (rest : List ℕ). IsFromLine n bytes rest) (parts w l len at) now.1 in (
       now.0 ∙ rest_says-window format n kept w l len at short
           ∙ ap (λ r. go_on n r (λ after. rest_says format (n + 1) after (drop (len + 1) w ++ l))) (sym adds),
       from_next n bytes (take len w) (drop (len + 1) w ++ l) (unbroken-before w len at) from,
@@ -141,7 +140,7 @@ told_of_text format TurnsSpent n bytes left is h = absurd is
 
 pub IsAfter-text : {X : Type 0} (format : Format X) → HasTextCauses format
     → (known : Option (List ℕ)) (n : ℕ) (kept : X) (w : List ℕ) (len : ℕ) (left : Option (List ℕ))
-        (e : ReadCause)
+    (e : ReadCause)
     → LineFeedAt w (Some len) → len ≤ max_line → Err e ≡ format.adds n kept (take len w)
     → IsBetween format known n kept w left → IfSome known (λ bytes. IsToldIn format e n bytes left)
 IsAfter-text format text None n kept w len left e at short fault now = tt
@@ -149,7 +148,7 @@ IsAfter-text format text (Some bytes) n kept w len None e at short fault now = a
 IsAfter-text format text (Some bytes) n kept w len (Some l) e at short fault now =
     told_of_text format e n bytes (Some l) (text n kept (take len w) e fault)
     (now.0 ∙ rest_says-window format n kept w l len at short
-        ∙ ap (λ r. go_on n r (λ after. rest_says format (n + 1) after (drop (len + 1) w ++ l))) (sym fault))
+    ∙ ap (λ r. go_on n r (λ after. rest_says format (n + 1) after (drop (len + 1) w ++ l))) (sym fault))
 
 -- no memory for the text of a line, which waits
 pub IsAfter-memory : {X : Type 0} (format : Format X) (known : Option (List ℕ)) (n : ℕ) (kept : X)
@@ -160,9 +159,8 @@ IsAfter-memory format None n kept w len left at few now = tt
 IsAfter-memory format (Some bytes) n kept w len None at few now = absurd now
 IsAfter-memory format (Some bytes) n kept w len (Some l) at few now =
     let one : line_feeds w ≡ line_feeds (drop (len + 1) w) + 1 =
-        ap line_feeds (window-parts w len at)
-            ∙ line_feeds-one (take len w) (drop (len + 1) w) (unbroken-before w len at) in
-    (
+    ap line_feeds (window-parts w len at)
+    ∙ line_feeds-one (take len w) (drop (len + 1) w) (unbroken-before w len at) in (
       record { waiting = w; begins = now.1; few = few; whole = inr (omega (arith, one)) },
       record { before = kept; rest = w ++ l; begins = now.1; says = now.0 },
     )
@@ -198,12 +196,12 @@ IsAfter-long format (Some bytes) n kept w None each now = absurd now
 IsAfter-long format (Some bytes) n kept w (Some l) each now =
     let size : max_line + 1 ≤ length w = (each max_line (omega arith)).0 in
     let whole : w ++ l ≡ take (max_line + 1) w ++ (drop (max_line + 1) w ++ l) =
-        ap (λ xs. xs ++ l) (sym (take-append-drop (max_line + 1) w))
-            ∙ append_assoc (take (max_line + 1) w) (drop (max_line + 1) w) l in
+    ap (λ xs. xs ++ l) (sym (take-append-drop (max_line + 1) w))
+    ∙ append_assoc (take (max_line + 1) w) (drop (max_line + 1) w) l in
     now.0 ∙ ap (rest_says format n kept) whole
-        ∙ rest_says-long format n kept (take (max_line + 1) w) (drop (max_line + 1) w ++ l)
-            (unbroken-front w (max_line + 1) size (λ i h. (each i (omega arith)).1))
-            (omega (arith, length-take (max_line + 1) w))
+    ∙ rest_says-long format n kept (take (max_line + 1) w) (drop (max_line + 1) w ++ l)
+    (unbroken-front w (max_line + 1) size (λ i h. (each i (omega arith)).1))
+    (omega (arith, length-take (max_line + 1) w))
 
 -- the end of the input
 pub at_end : (left : Option (List ℕ)) (l w : List ℕ) → left ≡ Some l → IsAtEnd left → w ++ l ≡ w
@@ -221,7 +219,7 @@ IsAfter-unended format (Some bytes) n kept w (Some l) some few none end now =
     let not_long : is_long w ≡ false = grind arith in
     let not_empty : nat_lt 0 (length w) ≡ true = grind arith in
     now.0 ∙ ap (rest_says format n kept) (at_end (Some l) l w refl end)
-        ∙ rest_says-end format n kept w (unbroken-all w none) ∙ rw (not_long, not_empty) refl
+    ∙ rest_says-end format n kept w (unbroken-all w none) ∙ rw (not_long, not_empty) refl
 
 pub IsAfter-end : {X : Type 0} (format : Format X) (known : Option (List ℕ)) (n : ℕ) (kept : X) (w : List ℕ)
     (left : Option (List ℕ))
@@ -231,13 +229,13 @@ IsAfter-end format None n kept w left none end now = tt
 IsAfter-end format (Some bytes) n kept w None none end now = absurd now
 IsAfter-end format (Some bytes) n kept w (Some l) none end now =
     now.0 ∙ ap (rest_says format n kept) (at_end (Some l) l w refl end ∙ none)
-        ∙ rest_says-end format n kept [] tt
+    ∙ rest_says-end format n kept [] tt
 
 -- ---- the text of a line
 
 pub IsOfText-from : {X : Type 0} (format : Format X) → HasTextCauses format
     → (n : ℕ) (before : X) (line : List ℕ) (e : ReadCause)
-    → (◌≢◌ { A = Result X ReadCause } (Err e) (Err Memory) → Err e ≡ format.adds n before line) → IsOfText e
+    → (◌≢◌ {A = Result X ReadCause} (Err e) (Err Memory) → Err e ≡ format.adds n before line) → IsOfText e
 IsOfText-from format text n before line Device told = absurd (text n before line Device (told (λ same. cc)))
 IsOfText-from format text n before line Memory told = tt
 IsOfText-from format text n before line Header told = tt
@@ -268,10 +266,10 @@ breaks_told-text TurnsSpent count is = refl
 -- the fault of a text, as the answer to its line
 pub IsAfter-text_fault : {X : Type 0} (format : Format X) → HasTextCauses format
     → (known : Option (List ℕ)) (n : ℕ) (kept : X) (w : List ℕ) (len : ℕ) (left : Option (List ℕ))
-        (e : ReadCause)
+    (e : ReadCause)
     → length w ≤ 2 * (max_line + 1) → LineFeedAt w (Some len) → len ≤ max_line
-    → (◌≢◌ { A = Result X ReadCause } (Err e) (Err Memory) → Err e ≡ format.adds n kept (take len w))
-        → IsBetween format known n kept w left → IfSome known (λ bytes. IsToldIn format e n bytes left)
+    → (◌≢◌ {A = Result X ReadCause} (Err e) (Err Memory) → Err e ≡ format.adds n kept (take len w))
+    → IsBetween format known n kept w left → IfSome known (λ bytes. IsToldIn format e n bytes left)
 IsAfter-text_fault format text known n kept w len left Memory few at short told now =
     IsAfter-memory format known n kept w len left at few now
 IsAfter-text_fault format text known n kept w len left Device few at short told now =

@@ -32,8 +32,8 @@ both-second true b h = h
 both-second false b h = absurd (let no : false ≡ true = h in cc)
 
 -- which fault it is does not depend on what was read
-pub other_than : {X Y : Type 0} (e m : ReadCause) → (◌≡◌ { A = Result X ReadCause } (Err e) (Err m) → ⊥)
-    → ◌≡◌ { A = Result Y ReadCause } (Err e) (Err m) → ⊥
+pub other_than : {X Y : Type 0} (e m : ReadCause) → (◌≡◌ {A = Result X ReadCause} (Err e) (Err m) → ⊥)
+    → ◌≡◌ {A = Result Y ReadCause} (Err e) (Err m) → ⊥
 other_than e m other same = let is : e ≡ m = cc in other (ap Err is)
 
 -- a bounded value
@@ -42,7 +42,7 @@ pub bounded-ok : {X : Type 0} (fits : X → Bool) (o : Option X) (x : X) → Ok 
 bounded-ok fits None x e = absurd (ok_not_err x Field e)
 bounded-ok {X} fits (Some y) x e =
     elim (fits y) as
-        (λ b. fits y ≡ b → Ok x ≡ cond b (Ok y) (Err Limit) → (Some y ≡ Some x) × (fits x ≡ true)) [
+    (λ b. fits y ≡ b → Ok x ≡ cond b (Ok y) (Err Limit) → (Some y ≡ Some x) × (fits x ≡ true)) [
       | true ↦ λ is same. let eq : x ≡ y = cc in (ap Some (sym eq), ap fits eq ∙ is)
       | false ↦ λ is same. absurd (ok_not_err x Limit same)
     ] refl e
@@ -55,9 +55,9 @@ pub bounded-err : {A B : Type 0} (fits : A → Bool) (fits' : B → Bool) (f : A
 bounded-err fits fits' f None e keeps is = let same : e ≡ Field = cc in ap Err same
 bounded-err {A} {B} fits fits' f (Some a) e keeps is =
     elim (fits a) as
-        (λ b.
-            fits a ≡ b → Err e ≡ cond b (Ok a) (Err Limit)
-                → Err e ≡ cond (fits' (f a)) (Ok (f a)) (Err Limit)) [
+    (λ b.
+    fits a ≡ b → Err e ≡ cond b (Ok a) (Err Limit)
+    → Err e ≡ cond (fits' (f a)) (Ok (f a)) (Err Limit)) [
       | true ↦ λ _ same. absurd (ok_not_err a e (sym same))
       | false ↦ λ no same. let limit : e ≡ Limit = cc in rw (keeps a no) (ap Err limit)
     ] refl is
@@ -75,7 +75,7 @@ within-ok : (n m bound : ℕ) → Ok m ≡ cond (nat_lt n bound) (Ok n) (Err Lim
     → (m ≡ n) × (nat_lt n bound ≡ true)
 within-ok n m bound e =
     elim (nat_lt n bound) as
-        (λ b. nat_lt n bound ≡ b → Ok m ≡ cond b (Ok n) (Err Limit) → (m ≡ n) × (nat_lt n bound ≡ true)) [
+    (λ b. nat_lt n bound ≡ b → Ok m ≡ cond b (Ok n) (Err Limit) → (m ≡ n) × (nat_lt n bound ≡ true)) [
       | true ↦ λ is same. let equal : m ≡ n = cc in (equal, is)
       | false ↦ λ is same. absurd (ok_not_err m Limit same)
     ] refl e
@@ -86,8 +86,8 @@ pub unbounded-body : (version : ℕ) (d : Data) (thread seq seen : ℕ)
     → Ok thread ≡ ok_or (whole member.thread d) Field → Ok seq ≡ ok_or (whole member.seq d) Field
     → Ok seen ≡ ok_or (whole member.seen d) Field
     → unbounded version d
-        ≡ option_and_then (λ b. Some (record { thread = thread; seq = seq; seen = seen; body = b }))
-            (body version d)
+    ≡ option_and_then (λ b. Some (record { thread = thread; seq = seq; seen = seen; body = b }))
+    (body version d)
 unfolding unbounded
 unbounded-body version d thread seq seen t q s =
     rw (ok_or-some _ thread t, ok_or-some _ seq q, ok_or-some _ seen s)
@@ -98,15 +98,15 @@ pub record-body_err : (version : ℕ) (d : Data) (thread seq seen : ℕ) (e : Re
     → Err e ≡ bounded body_fits (body version d) → Err e ≡ bounded record_fits (unbounded version d)
 record-body_err version d thread seq seen e t q s err =
     rw (unbounded-body version d thread seq seen t q s)
-        (bounded-err body_fits record_fits (λ b. record { thread = thread; seq = seq; seen = seen; body = b })
-            (body version d) e (λ b no. rw no) err)
+    (bounded-err body_fits record_fits (λ b. record { thread = thread; seq = seq; seen = seen; body = b })
+    (body version d) e (λ b no. rw no) err)
 
 pub record-read : (version : ℕ) (d : Data) (thread seq seen t q s : ℕ) (b : Body)
     → Ok thread ≡ ok_or (whole member.thread d) Field → Ok seq ≡ ok_or (whole member.seq d) Field
     → Ok seen ≡ ok_or (whole member.seen d) Field
     → Ok b ≡ bounded body_fits (body version d) → Ok t ≡ cond (nat_lt thread 256) (Ok thread) (Err Limit)
-        → Ok q ≡ cond (nat_lt seq (2 ^ 32)) (Ok seq) (Err Limit)
-        → Ok s ≡ cond (nat_lt seen (2 ^ 32)) (Ok seen) (Err Limit)
+    → Ok q ≡ cond (nat_lt seq (2 ^ 32)) (Ok seq) (Err Limit)
+    → Ok s ≡ cond (nat_lt seen (2 ^ 32)) (Ok seen) (Err Limit)
     → Ok (record { thread = t; seq = q; seen = s; body = b }) ≡ bounded record_fits (unbounded version d)
 record-read version d thread seq seen t q s b is_thread is_seq is_seen is_body fits_thread fits_seq fits_seen
     =
@@ -115,7 +115,7 @@ record-read version d thread seq seen t q s b is_thread is_seq is_seen is_body f
     let s' = within-ok seen s (2 ^ 32) fits_seen in
     rw (unbounded-body version d thread seq seen is_thread is_seq is_seen, t'.0, q'.0, s'.0)
     (bounded-in body_fits record_fits (λ b. record { thread = thread; seq = seq; seen = seen; body = b })
-        (body version d) b (λ fits. rw (fits, t'.1, q'.1, s'.1)) is_body)
+    (body version d) b (λ fits. rw (fits, t'.1, q'.1, s'.1)) is_body)
 
 -- ---- callbacks
 
@@ -130,31 +130,34 @@ pub record IsSchedule (version : ℕ) (d : Data) (st : Status) (prior : ℕ) (nx
 task_schedule-share : (version : ℕ) (d : Data) (st : Status) (prior : ℕ) (nx : Option ℕ) (told : Option Turns)
     → IsSchedule version d st prior nx told
     → task_schedule version d
-        ≡ option_and_then (λ sh. Some (TaskSchedule st told prior nx sh)) (share (is_some (status_part st)) d)
+    ≡ option_and_then (λ sh. Some (TaskSchedule st told prior nx sh)) (share (is_some (status_part st)) d)
 unfolding task_schedule
 task_schedule-share version d st prior nx told is =
-    rw
-        (ok_or-some _ st is.is_status, ok_or-some _ prior is.is_prior, ok_or-some _ nx is.is_next,
-            ok_or-some _ told is.is_turns)
+    rw (
+      ok_or-some _ st is.is_status,
+      ok_or-some _ prior is.is_prior,
+      ok_or-some _ nx is.is_next,
+      ok_or-some _ told is.is_turns,
+    )
 
 -- turns that are missing end the reading of a schedule
 pub schedule-no_turns : (version : ℕ) (d : Data) (st : Status) (prior : ℕ) (nx : Option ℕ) (e : ReadCause)
     → Ok st ≡ ok_or (status member.status d) Field → Ok prior ≡ ok_or (whole member.prior d) Field
     → Ok nx ≡ ok_or (next st member.next d) Field
     → Err e ≡ ok_or (turns (tells_turns version st) d) Field
-        → Err e ≡ bounded body_fits (task_schedule version d)
+    → Err e ≡ bounded body_fits (task_schedule version d)
 unfolding task_schedule
 schedule-no_turns version d st prior nx e s p n err =
     rw (ok_or-some _ st s, ok_or-some _ prior p, ok_or-some _ nx n)
-        (by_turns (turns (tells_turns version st) d) err)
+    (by_turns (turns (tells_turns version st) d) err)
   where
     by_turns : (o : Option (Option Turns)) → Err e ≡ ok_or o Field
         → Err e
-            ≡ bounded body_fits
-                (option_and_then
-                    (λ told.
-                        option_and_then (λ sh. Some (TaskSchedule st told prior nx sh))
-                            (share (is_some (status_part st)) d)) o)
+        ≡ bounded body_fits
+        (option_and_then
+        (λ told.
+        option_and_then (λ sh. Some (TaskSchedule st told prior nx sh))
+        (share (is_some (status_part st)) d)) o)
     by_turns None h = let same : e ≡ Field = cc in ap Err same
     by_turns (Some told) h = absurd (ok_not_err told e (sym h))
 
@@ -163,25 +166,25 @@ pub schedule-err : (version : ℕ) (d : Data) (st : Status) (prior : ℕ) (nx : 
     (e : ReadCause)
     → IsSchedule version d st prior nx told
     → Err e ≡ bounded share_fits (share (is_some (status_part st)) d)
-        → Err e ≡ bounded body_fits (task_schedule version d)
+    → Err e ≡ bounded body_fits (task_schedule version d)
 schedule-err version d st prior nx told e is err =
     rw (task_schedule-share version d st prior nx told is)
-        (bounded-err share_fits body_fits (TaskSchedule st told prior nx) (share (is_some (status_part st)) d)
-            e (λ sh no. rw no refl) err)
+    (bounded-err share_fits body_fits (TaskSchedule st told prior nx) (share (is_some (status_part st)) d)
+    e (λ sh no. rw no refl) err)
 
 -- turns past their bounds end it then
 pub schedule-past : (version : ℕ) (d : Data) (st : Status) (prior : ℕ) (nx : Option ℕ) (told : Option Turns)
     (sh : Option Claim) (e : ReadCause)
     → IsSchedule version d st prior nx told
     → Ok sh ≡ bounded share_fits (share (is_some (status_part st)) d) → Err e ≡ bounded turns_fit (Some told)
-        → Err e ≡ bounded body_fits (task_schedule version d)
+    → Err e ≡ bounded body_fits (task_schedule version d)
 schedule-past version d st prior nx told sh e is read past =
     let found = bounded-ok share_fits (share (is_some (status_part st)) d) sh read in
     rw (task_schedule-share version d st prior nx told is, found.0, found.1)
-    ( elim (turns_fit told) as
-        (λ b.
-            Err e ≡ cond b (Ok told) (Err Limit)
-                → Err e ≡ cond b (Ok (TaskSchedule st told prior nx sh)) (Err Limit)) [
+    (elim (turns_fit told) as
+    (λ b.
+    Err e ≡ cond b (Ok told) (Err Limit)
+    → Err e ≡ cond b (Ok (TaskSchedule st told prior nx sh)) (Err Limit)) [
       | true ↦ λ h. absurd (ok_not_err told e (sym h))
       | false ↦ λ h. let same : e ≡ Limit = cc in ap Err same
     ] past)
@@ -190,8 +193,8 @@ pub schedule-ok : (version : ℕ) (d : Data) (st : Status) (prior : ℕ) (nx : O
     (told short : Option Turns) (sh : Option Claim)
     → IsSchedule version d st prior nx told
     → Ok sh ≡ bounded share_fits (share (is_some (status_part st)) d)
-        → Ok short ≡ bounded turns_fit (Some told)
-        → Ok (TaskSchedule st short prior nx sh) ≡ bounded body_fits (task_schedule version d)
+    → Ok short ≡ bounded turns_fit (Some told)
+    → Ok (TaskSchedule st short prior nx sh) ≡ bounded body_fits (task_schedule version d)
 schedule-ok version d st prior nx told short sh is read fits =
     let found = bounded-ok share_fits (share (is_some (status_part st)) d) sh read in
     let within = bounded-ok turns_fit (Some told) short fits in
@@ -214,7 +217,16 @@ pub body_named-none : (version : ℕ) (name : List ℕ) (d : Data) → name ≢ 
 unfolding body_named
 body_named-none version name d no0 no1 no2 no3 no4 no5 no6 no7 no8 no9 =
     let other = bytes_eq-other name in
-    rw
-        (other _ no0, other _ no1, other _ no2, other _ no3, other _ no4, other _ no5, other _ no6,
-            other _ no7, other _ no8, other _ no9)
-        refl
+    rw (
+      other _ no0,
+      other _ no1,
+      other _ no2,
+      other _ no3,
+      other _ no4,
+      other _ no5,
+      other _ no6,
+      other _ no7,
+      other _ no8,
+      other _ no9,
+    )
+    refl

@@ -20,11 +20,11 @@ has_room-few : (before rs : List Record) (r : Record) → length (before ++ (r �
     → tasks_in (before ++ (r ∷ rs)) ≤ max_tasks → has_room before r ≡ true
 has_room-few before rs r few tasks =
     let long : length (before ++ (r ∷ rs)) ≡ length before + (1 + length rs) =
-        omega (arith, length-append before (r ∷ rs)) in
+    omega (arith, length-append before (r ∷ rs)) in
     let all : tasks_in (before ++ (r ∷ rs)) ≡ tasks_in before + tasks_in (r ∷ rs) =
-        sum_by-append (λ (x : Record). cond (is_some (made x.body)) 1 0) before (r ∷ rs) in
+    sum_by-append (λ (x : Record). cond (is_some (made x.body)) 1 0) before (r ∷ rs) in
     let more : tasks_in (r ∷ rs) ≡ cond (is_some (made r.body)) 1 0 + tasks_in rs =
-        sum_by-cons (λ (x : Record). cond (is_some (made x.body)) 1 0) r rs in
+    sum_by-cons (λ (x : Record). cond (is_some (made x.body)) 1 0) r rs in
     grind (arith, nat_tests)
 
 pub HaveRoom-few : (before rs : List Record) → length (before ++ rs) ≤ max_records
@@ -54,18 +54,20 @@ HaveRoom-length before (r ∷ rs) few have =
 -- what it says that a record is kept, or not
 pub with_record-ok : (before after : TraceView) (r : Record) → Ok after ≡ with_record before (Ok r)
     → (has_room before.records r ≡ true)
-        × (after ≡ record { version = before.version; records = before.records ++ r ∷ [] })
+    × (after ≡ record { version = before.version; records = before.records ++ r ∷ [] })
 with_record-ok before after r h = by (has_room before.records r) refl h
   where
     by : (b : Bool) → has_room before.records r ≡ b
         → Ok after
-            ≡ cond b (Ok (record { version = before.version; records = before.records ++ r ∷ [] }))
-                (Err Limit)
+        ≡ cond b (Ok (record { version = before.version; records = before.records ++ r ∷ [] }))
+        (Err Limit)
         → (has_room before.records r ≡ true)
-            × (after ≡ record { version = before.version; records = before.records ++ r ∷ [] })
-    by true is e =
-        (is, let same : after ≡ record { version = before.version; records = before.records ++ r ∷ [] } =
-            cc in same)
+        × (after ≡ record { version = before.version; records = before.records ++ r ∷ [] })
+    by true is e = (
+      is,
+      let same : after ≡ record { version = before.version; records = before.records ++ r ∷ [] } =
+          cc in same,
+    )
     by false is e = absurd (ok_not_err after Limit e)
 
 -- many records more at a time
@@ -75,7 +77,7 @@ pub IsKept-append : (version : ℕ) (before rs : List Record) (tasks more : ℕ)
     → IsKept version (before ++ rs) (tasks + more)
 IsKept-append version before rs tasks more kept sound in_range counted few few_tasks =
     let both : tasks_in (before ++ rs) ≡ tasks_in before + tasks_in rs =
-        sum_by-append (λ (x : Record). cond (is_some (made x.body)) 1 0) before rs in
+    sum_by-append (λ (x : Record). cond (is_some (made x.body)) 1 0) before rs in
     record {
       trace = record {
         known = kept.trace.known;
@@ -84,12 +86,12 @@ IsKept-append version before rs tasks more kept sound in_range counted few few_t
           few_tasks = omega (arith, both, kept.counted);
           sound =
               All-append (λ (x : Record). IsSound x.body) before rs kept.trace.is_trace.sound
-                  (λ k d h. (sound k d h).0);
+              (λ k d h. (sound k d h).0);
           in_range = All-append IsInRange before rs kept.trace.is_trace.in_range in_range;
         };
         turns =
             All-append (λ (x : Record). HasItsTurns version x.body) before rs kept.trace.turns
-                (λ k d h. (sound k d h).1);
+            (λ k d h. (sound k d h).1);
       };
       counted = omega (arith, both, kept.counted);
     }

@@ -48,9 +48,9 @@ use Rattle.certificate.proofs.TextLemmas.{each-items_of, wholes-items_of}
 
 pub named-status : (s : Status)
     → named status_name
-        (Complete ∷ Yield ∷ Cancel ∷ Detach ∷ EarlyFulfill ∷ LateFulfill ∷ Switch ∷ TaskwaitComplete ∷ [])
-        (status_name s)
-        ≡ Some s
+    (Complete ∷ Yield ∷ Cancel ∷ Detach ∷ EarlyFulfill ∷ LateFulfill ∷ Switch ∷ TaskwaitComplete ∷ [])
+    (status_name s)
+    ≡ Some s
 unfolding named
 named-status Complete = refl
 named-status Yield = refl
@@ -70,10 +70,10 @@ named-endpoint BeginEnd = refl
 
 pub named-sync_kind : (k : SyncKind)
     → named sync_kind_name
-        (Barrier ∷ BarrierImplicit ∷ BarrierExplicit ∷ BarrierImplementation ∷ Taskwait ∷ Taskgroup
-            ∷ Reduction ∷ BarrierImplicitWorkshare ∷ BarrierImplicitParallel ∷ BarrierTeams ∷ [])
-        (sync_kind_name k)
-        ≡ Some k
+    (Barrier ∷ BarrierImplicit ∷ BarrierExplicit ∷ BarrierImplementation ∷ Taskwait ∷ Taskgroup
+    ∷ Reduction ∷ BarrierImplicitWorkshare ∷ BarrierImplicitParallel ∷ BarrierTeams ∷ [])
+    (sync_kind_name k)
+    ≡ Some k
 unfolding named
 named-sync_kind Barrier = refl
 named-sync_kind BarrierImplicit = refl
@@ -177,15 +177,25 @@ says-finishing : (version thread seq seen : ℕ) (status : Status) (told : Optio
     → Says version (of_body thread seq seen (TaskSchedule status told prior next (Some c)))
 unfolding with_member unbounded body_named task_schedule share claim turns both_turns
 says-finishing version thread seq seen status None prior next c follows tells finishes =
-    rw
-        (named-status status, nullable-number_or_null next, next-read (demands_next status) next follows,
-            tells, finishes, wholes-items_of c.path)
-        refl
+    rw (
+      named-status status,
+      nullable-number_or_null next,
+      next-read (demands_next status) next follows,
+      tells,
+      finishes,
+      wholes-items_of c.path,
+    )
+    refl
 says-finishing version thread seq seen status (Some t) prior next c follows tells finishes =
-    rw
-        (named-status status, nullable-number_or_null next, next-read (demands_next status) next follows,
-            tells, finishes, wholes-items_of c.path)
-        refl
+    rw (
+      named-status status,
+      nullable-number_or_null next,
+      next-read (demands_next status) next follows,
+      tells,
+      finishes,
+      wholes-items_of c.path,
+    )
+    refl
 
 says-switching : (version thread seq seen : ℕ) (status : Status) (told : Option Turns) (prior : ℕ)
     (next : Option ℕ)
@@ -194,15 +204,23 @@ says-switching : (version thread seq seen : ℕ) (status : Status) (told : Optio
     → Says version (of_body thread seq seen (TaskSchedule status told prior next None))
 unfolding with_member unbounded body_named task_schedule share turns both_turns
 says-switching version thread seq seen status None prior next follows tells goes_on =
-    rw
-        (named-status status, nullable-number_or_null next, next-read (demands_next status) next follows,
-            tells, goes_on)
-        refl
+    rw (
+      named-status status,
+      nullable-number_or_null next,
+      next-read (demands_next status) next follows,
+      tells,
+      goes_on,
+    )
+    refl
 says-switching version thread seq seen status (Some t) prior next follows tells goes_on =
-    rw
-        (named-status status, nullable-number_or_null next, next-read (demands_next status) next follows,
-            tells, goes_on)
-        refl
+    rw (
+      named-status status,
+      nullable-number_or_null next,
+      next-read (demands_next status) next follows,
+      tells,
+      goes_on,
+    )
+    refl
 
 says-sync_region : (version thread seq seen : ℕ) (kind : SyncKind) (endpoint : Endpoint) (parallel : Option ℕ)
     (task : ℕ)
@@ -246,20 +264,20 @@ says-body version thread seq seen (Dependences task list) sound =
     says-dependences version thread seq seen task list
 says-body version thread seq seen (TaskSchedule status told prior next (Some c)) sound =
     says-finishing version thread seq seen status told prior next c sound.0.next
-        (tells-turns version status told next sound.0.next sound.1)
-        (sym (is_some-map (λ (part : Part). (prior, part)) (status_part status)) ∙ sym sound.0.claimed)
+    (tells-turns version status told next sound.0.next sound.1)
+    (sym (is_some-map (λ (part : Part). (prior, part)) (status_part status)) ∙ sym sound.0.claimed)
 says-body version thread seq seen (TaskSchedule status told prior next None) sound =
     says-switching version thread seq seen status told prior next sound.0.next
-        (tells-turns version status told next sound.0.next sound.1)
-        (sym (is_some-map (λ (part : Part). (prior, part)) (status_part status)) ∙ sym sound.0.claimed)
+    (tells-turns version status told next sound.0.next sound.1)
+    (sym (is_some-map (λ (part : Part). (prior, part)) (status_part status)) ∙ sym sound.0.claimed)
 says-body version thread seq seen (SyncRegion kind endpoint parallel task) sound =
     says-sync_region version thread seq seen kind endpoint parallel task
 says-body version thread seq seen (body.Cancel flags task (Some c)) sound =
     says-discard version thread seq seen flags task c sound.0.named_cancellation
-        (sym (is_some-cond (has_flag flags.0 table.discarded_task) (task, Whole)) ∙ sym sound.0.claimed)
+    (sym (is_some-cond (has_flag flags.0 table.discarded_task) (task, Whole)) ∙ sym sound.0.claimed)
 says-body version thread seq seen (body.Cancel flags task None) sound =
     says-cancel version thread seq seen flags task sound.0.named_cancellation
-        (sym (is_some-cond (has_flag flags.0 table.discarded_task) (task, Whole)) ∙ sym sound.0.claimed)
+    (sym (is_some-cond (has_flag flags.0 table.discarded_task) (task, Whole)) ∙ sym sound.0.claimed)
 
 pub Says-sound : (version : ℕ) (r : Record) → IsSoundIn version r.body → Says version r
 Says-sound version r sound = says-body version r.thread r.seq r.seen r.body sound

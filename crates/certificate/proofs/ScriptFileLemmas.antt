@@ -38,7 +38,7 @@ with_step-cause before (Some d) e h = by_step (step d) h
         let more : List Step = before ++ step_of before s.thread s.after s.loose.body ∷ [] in
         let past : Bool = not (is_within s) || is_full before s.loose.body in
         elim (may_follow before s.after s.loose.body) as
-            (λ b. Err e ≡ cond (not b) (Err Field) (cond past (Err Limit) (Ok more)) → IsTextCause e) [
+        (λ b. Err e ≡ cond (not b) (Err Field) (cond past (Err Limit) (Ok more)) → IsTextCause e) [
           | true ↦
               elim past as (λ b. Err e ≡ cond b (Err Limit) (Ok more) → IsTextCause e) [
                 | true ↦ λ full. same_cause e Limit full tt
@@ -50,9 +50,9 @@ with_step-cause before (Some d) e h = by_step (step d) h
 pub scripts-text_causes : HasTextCauses scripts
 scripts-text_causes n before line e h =
     elim (n == 1) as
-        (λ b.
-            Err e ≡ cond b (no_steps (script_header_says line)) (with_step before (step_said (value_of line)))
-                → IsTextCause e) [
+    (λ b.
+    Err e ≡ cond b (no_steps (script_header_says line)) (with_step before (step_said (value_of line)))
+    → IsTextCause e) [
       | true ↦ λ first. no_steps-cause (option_and_then script_version (value_of line)) e first
       | false ↦ λ later. with_step-cause before (value_of line) e later
     ] h
@@ -81,19 +81,20 @@ with_step-grows before after (Ok s) h =
     let more : List Step = before ++ one ∷ [] in
     let past : Bool = not (is_within s) || is_full before s.loose.body in
     elim (may_follow before s.after s.loose.body) as
-        (λ b.
-            Ok after ≡ cond (not b) (Err Field) (cond past (Err Limit) (Ok more))
-                → (length after ≡ length before + 1) × (length before < max_records)) [
+    (λ b.
+    Ok after ≡ cond (not b) (Err Field) (cond past (Err Limit) (Ok more))
+    → (length after ≡ length before + 1) × (length before < max_records)) [
       | true ↦
           elim past as
-              (λ b.
-                  past ≡ b → Ok after ≡ cond b (Err Limit) (Ok more)
-                      → (length after ≡ length before + 1) × (length before < max_records)) [
+          (λ b.
+          past ≡ b → Ok after ≡ cond b (Err Limit) (Ok more)
+          → (length after ≡ length before + 1) × (length before < max_records)) [
             | true ↦ λ _ full. absurd (ok_not_err _ Limit full)
             | false ↦ λ room same.
-                let is : after ≡ more = cc in
-                (ap length is ∙ length-append before (one ∷ []),
-                    has_room before s.loose.body (not (is_within s)) room)
+                let is : after ≡ more = cc in (
+                  ap length is ∙ length-append before (one ∷ []),
+                  has_room before s.loose.body (not (is_within s)) room,
+                )
           ] refl
       | false ↦ λ no. absurd (ok_not_err _ Field no)
     ] h
@@ -102,12 +103,12 @@ pub Grows-script : (n : ℕ) (before after : List Step) (line : List ℕ) → Ok
     → Grows n before after
 Grows-script n before after line h =
     elim (n == 1) as
-        (λ b.
-            n == 1 ≡ b
-                → Ok after
-                    ≡ cond b (no_steps (script_header_says line))
-                        (with_step before (step_said (value_of line)))
-                → Grows n before after) [
+    (λ b.
+    n == 1 ≡ b
+    → Ok after
+    ≡ cond b (no_steps (script_header_says line))
+    (with_step before (step_said (value_of line)))
+    → Grows n before after) [
       | true ↦
           λ is first. record {
             one = rw is (no_steps-empty after (script_header_says line) first);
@@ -122,7 +123,7 @@ Grows-script n before after line h =
 
 pub add-refused : (before : List Step) (s : SaidStep) (refused : ScriptFault) → is_within s ≡ true
     → refused ≡ fault_of before s.after s.loose.body
-        → ◌≢◌ { A = Result (List Step) ReadCause } (Err (cause_of refused)) (Err Memory)
+    → ◌≢◌ {A = Result (List Step) ReadCause} (Err (cause_of refused)) (Err Memory)
     → ◌≡◌ {A = Result (List Step) ReadCause} (Err (cause_of refused)) (with_step before (Ok s))
 add-refused before s refused within is other =
     let body = s.loose.body in
@@ -132,19 +133,19 @@ add-refused before s refused within is other =
     by_tests : (may full : Bool) (more : List Step) (refused : ScriptFault)
         → refused ≡ cond may (cond full fault.Full fault.Memory) fault.Misplaced
         → ◌≢◌ {A = Result (List Step) ReadCause} (Err (cause_of refused)) (Err Memory)
-        → ◌≡◌ { A = Result (List Step) ReadCause } (Err (cause_of refused))
-            (cond (not may) (Err Field) (cond full (Err Limit) (Ok more)))
+        → ◌≡◌ {A = Result (List Step) ReadCause} (Err (cause_of refused))
+        (cond (not may) (Err Field) (cond full (Err Limit) (Ok more)))
     by_tests true true more refused e other = ap (λ f. Err (cause_of f)) e
     by_tests true false more refused e other = absurd (other (ap (λ f. Err (cause_of f)) e))
     by_tests false full more refused e other = ap (λ f. Err (cause_of f)) e
 
 pub past-limit : (before : List Step) (s : SaidStep) → is_within s ≡ false
-    → ◌≡◌ { A = Result (List Step) ReadCause }
-        (Err (cond (may_follow before s.after s.loose.body) Limit Field)) (with_step before (Ok s))
+    → ◌≡◌ {A = Result (List Step) ReadCause}
+    (Err (cond (may_follow before s.after s.loose.body) Limit Field)) (with_step before (Ok s))
 past-limit before s past = rw past (by_test (may_follow before s.after s.loose.body))
   where
     by_test : (may : Bool)
-        → ◌≡◌ { A = Result (List Step) ReadCause } (Err (cond may Limit Field))
-            (cond (not may) (Err Field) (Err Limit))
+        → ◌≡◌ {A = Result (List Step) ReadCause} (Err (cond may Limit Field))
+        (cond (not may) (Err Field) (Err Limit))
     by_test true = refl
     by_test false = refl

@@ -49,9 +49,9 @@ AreNamed-or : (flags : List Row) (a b : ℕ) → AreNamed flags a → AreNamed f
 AreNamed-or flags a b named-a named-b = same_from_bits _ _ (λ i.
     let k = known_bits flags in
     let bit-a : min (bit_at a i) (bit_at k i) ≡ bit_at a i =
-        sym (bit_at_and a k i) ∙ ap (λ n. bit_at n i) named-a in
+    sym (bit_at_and a k i) ∙ ap (λ n. bit_at n i) named-a in
     let bit-b : min (bit_at b i) (bit_at k i) ≡ bit_at b i =
-        sym (bit_at_and b k i) ∙ ap (λ n. bit_at n i) named-b in
+    sym (bit_at_and b k i) ∙ ap (λ n. bit_at n i) named-b in
     bit_at_and (bit_or a b) k i ∙ rw (bit_at_or a b i) (omega arith))
 
 -- each row of a table has a bit that the table names
@@ -65,7 +65,7 @@ unfolding find_row
 find_row-named flags [] name bit all e = absurd (let h : None ≡ Some bit = e in cc)
 find_row-named flags (row ∷ rest) name bit all e =
     elim (pointwise nat_eq row.0 name) as
-        (λ b. cond b (Some row.1) (find_row rest name) ≡ Some bit → AreNamed flags bit) [
+    (λ b. cond b (Some row.1) (find_row rest name) ≡ Some bit → AreNamed flags bit) [
       | true ↦ λ same. let is : row.1 ≡ bit = cc in subst (λ (n : ℕ). AreNamed flags n) is all.0
       | false ↦ λ later. find_row-named flags rest name bit all.1 later
     ] e
@@ -83,7 +83,7 @@ flag_of-named : (flags : List Row) (d : Data) (bit : ℕ) → RowsNamed flags �
     → AreNamed flags bit
 flag_of-named flags d bit rows e =
     option_and_then_some (find_name flags) (as_str d) bit e
-        (λ name _ found. find_name-named flags name bit rows found)
+    (λ name _ found. find_name-named flags name bit rows found)
 
 flags_from-named : (flags : List Row) (found : ℕ) (items : Items) (bits : ℕ) → RowsNamed flags
     → AreNamed flags found → flags_from flags found items ≡ Some bits → AreNamed flags bits
@@ -91,9 +91,9 @@ flags_from-named flags found no_items bits rows named e =
     let is : found ≡ bits = cc in subst (λ (n : ℕ). AreNamed flags n) is named
 flags_from-named flags found (item d items) bits rows named e =
     option_and_then_some (λ (bit : ℕ). flags_from flags (bit_or found bit) items) (flag_of flags d) bits e (
-        λ bit is later.
+    λ bit is later.
     flags_from-named flags (bit_or found bit) items bits rows
-        (AreNamed-or flags found bit named (flag_of-named flags d bit rows is)) later)
+    (AreNamed-or flags found bit named (flag_of-named flags d bit rows is)) later)
 
 task_rows : RowsNamed table.task_flags
 unfolding known_from RowsNamed
@@ -104,7 +104,7 @@ task_flags-named : (name : List ℕ) (d : Data) (bits : ℕ) → task_flags name
 unfolding known_from
 task_flags-named name d bits e =
     option_and_then_some (flags_from table.task_flags 0) (list name d) bits e
-        (λ items _ found. flags_from-named table.task_flags 0 items bits task_rows refl found)
+    (λ items _ found. flags_from-named table.task_flags 0 items bits task_rows refl found)
 
 cancel_rows : RowsNamed table.cancel_flags
 unfolding known_from RowsNamed
@@ -115,7 +115,7 @@ cancel_flags-named : (name : List ℕ) (d : Data) (bits : ℕ) → cancel_flags 
 unfolding known_from
 cancel_flags-named name d bits e =
     option_and_then_some (flags_from table.cancel_flags 0) (list name d) bits e
-        (λ items _ found. flags_from-named table.cancel_flags 0 items bits cancel_rows refl found)
+    (λ items _ found. flags_from-named table.cancel_flags 0 items bits cancel_rows refl found)
 
 -- ---- parts of records
 
@@ -131,13 +131,13 @@ begin_or_end-sound name d at actual index bits parallel task e =
     by_endpoint Begin one =
         let is : Begin ≡ at = cc in
         subst
-            (λ (x : Endpoint). BeginsOrEnds (ImplicitTask x actual index (record { 0 = bits }) parallel task))
-            is tt
+        (λ (x : Endpoint). BeginsOrEnds (ImplicitTask x actual index (record { 0 = bits }) parallel task))
+        is tt
     by_endpoint End one =
         let is : End ≡ at = cc in
         subst
-            (λ (x : Endpoint). BeginsOrEnds (ImplicitTask x actual index (record { 0 = bits }) parallel task))
-            is tt
+        (λ (x : Endpoint). BeginsOrEnds (ImplicitTask x actual index (record { 0 = bits }) parallel task))
+        is tt
     by_endpoint BeginEnd one = absurd (let h : None ≡ Some at = one in cc)
 
 -- there is a next task exactly where the status demands one
@@ -221,84 +221,94 @@ unfolding thread_begin
 thread_begin-sound version d b e =
     option_and_then_some _ (thread_kind member.kind d) b e (λ kind _ same.
     let is : ThreadBegin kind ≡ b = cc in
-    subst (λ (x : Body). IsSoundIn version x) is
-        (record {
-          named_flags = tt;
-          named_cancellation = tt;
-          begins_or_ends = tt;
-          claimed = refl;
-          short_path = tt;
-          few_dependences = tt;
-          next = tt;
-        }, no_turns version))
+    subst (λ (x : Body). IsSoundIn version x) is (
+      record {
+        named_flags = tt;
+        named_cancellation = tt;
+        begins_or_ends = tt;
+        claimed = refl;
+        short_path = tt;
+        few_dependences = tt;
+        next = tt;
+      },
+      no_turns version,
+    ))
 
 thread_end-sound : (version : ℕ) (d : Data) (b : Body) → thread_end d ≡ Some b → IsSoundIn version b
 unfolding thread_end
 thread_end-sound version d b same =
     let is : ThreadEnd ≡ b = cc in
-    subst (λ (x : Body). IsSoundIn version x) is (record {
-      named_flags = tt;
-      named_cancellation = tt;
-      begins_or_ends = tt;
-      claimed = refl;
-      short_path = tt;
-      few_dependences = tt;
-      next = tt;
-    }, no_turns version)
+    subst (λ (x : Body). IsSoundIn version x) is (
+      record {
+        named_flags = tt;
+        named_cancellation = tt;
+        begins_or_ends = tt;
+        claimed = refl;
+        short_path = tt;
+        few_dependences = tt;
+        next = tt;
+      },
+      no_turns version,
+    )
 
 parallel_begin-sound : (version : ℕ) (d : Data) (b : Body) → parallel_begin d ≡ Some b → IsSoundIn version b
 unfolding parallel_begin
 parallel_begin-sound version d b e =
     option_and_then_some _ (whole member.requested d) b e (
-        λ requested _ e1.
-            option_and_then_some _ (whole member.task d) b e1 (
-                λ task _ e2. option_and_then_some _ (whole member.parallel d) b e2 ( λ parallel _ same.
+    λ requested _ e1.
+    option_and_then_some _ (whole member.task d) b e1 (
+    λ task _ e2. option_and_then_some _ (whole member.parallel d) b e2 (λ parallel _ same.
     let is : ParallelBegin requested task parallel ≡ b = cc in
-    subst (λ (x : Body). IsSoundIn version x) is
-        (record {
-          named_flags = tt;
-          named_cancellation = tt;
-          begins_or_ends = tt;
-          claimed = refl;
-          short_path = tt;
-          few_dependences = tt;
-          next = tt;
-        }, no_turns version))))
+    subst (λ (x : Body). IsSoundIn version x) is (
+      record {
+        named_flags = tt;
+        named_cancellation = tt;
+        begins_or_ends = tt;
+        claimed = refl;
+        short_path = tt;
+        few_dependences = tt;
+        next = tt;
+      },
+      no_turns version,
+    ))))
 
 parallel_end-sound : (version : ℕ) (d : Data) (b : Body) → parallel_end d ≡ Some b → IsSoundIn version b
 unfolding parallel_end
 parallel_end-sound version d b e =
     option_and_then_some _ (whole member.task d) b e (
-        λ task _ e1. option_and_then_some _ (whole member.parallel d) b e1 ( λ parallel _ same.
+    λ task _ e1. option_and_then_some _ (whole member.parallel d) b e1 (λ parallel _ same.
     let is : ParallelEnd task parallel ≡ b = cc in
-    subst (λ (x : Body). IsSoundIn version x) is
-        (record {
-          named_flags = tt;
-          named_cancellation = tt;
-          begins_or_ends = tt;
-          claimed = refl;
-          short_path = tt;
-          few_dependences = tt;
-          next = tt;
-        }, no_turns version)))
+    subst (λ (x : Body). IsSoundIn version x) is (
+      record {
+        named_flags = tt;
+        named_cancellation = tt;
+        begins_or_ends = tt;
+        claimed = refl;
+        short_path = tt;
+        few_dependences = tt;
+        next = tt;
+      },
+      no_turns version,
+    )))
 
 implicit_task-sound : (version : ℕ) (d : Data) (b : Body) → implicit_task d ≡ Some b → IsSoundIn version b
 unfolding implicit_task
 implicit_task-sound version d b e =
     option_and_then_some _ (begin_or_end member.endpoint d) b e (
-        λ at one e1.
-            option_and_then_some _ (whole member.actual d) b e1 (
-                λ actual _ e2. option_and_then_some _ (whole member.index d) b e2 ( λ index _ e3.
+    λ at one e1.
+    option_and_then_some _ (whole member.actual d) b e1 (
+    λ actual _ e2. option_and_then_some _ (whole member.index d) b e2 (λ index _ e3.
     option_and_then_some _ (task_flags member.flags d) b e3 (
-        λ bits named e4.
-            option_and_then_some _ (whole member.parallel d) b e4 (
-                λ parallel _ e5. option_and_then_some _ (whole member.task d) b e5 ( λ task _ same.
+    λ bits named e4.
+    option_and_then_some _ (whole member.parallel d) b e4 (
+    λ parallel _ e5. option_and_then_some _ (whole member.task d) b e5 (λ task _ same.
     let is : ImplicitTask at actual index (record { 0 = bits }) parallel task ≡ b = cc in
-    subst (λ (x : Body). IsSoundIn version x) is
-        (by_endpoint at actual index bits parallel task
-            (begin_or_end-sound member.endpoint d at actual index bits parallel task one)
-            (task_flags-named member.flags d bits named),
-            no_turns version)))))))
+    subst (λ (x : Body). IsSoundIn version x) is (
+      by_endpoint at actual index bits parallel task
+          (begin_or_end-sound member.endpoint d at actual index bits parallel task one)
+          (task_flags-named member.flags d bits named),
+      no_turns version,
+    )))))))
   where
     by_endpoint : (at : Endpoint) (actual index bits parallel task : ℕ)
         → BeginsOrEnds (ImplicitTask at actual index (record { 0 = bits }) parallel task)
@@ -318,53 +328,57 @@ task_create-sound : (version : ℕ) (d : Data) (b : Body) → task_create d ≡ 
 unfolding task_create
 task_create-sound version d b e =
     option_and_then_some _ (truth member.deps d) b e (
-        λ deps _ e1. option_and_then_some _ (task_flags member.flags d) b e1 ( λ bits named e2.
+    λ deps _ e1. option_and_then_some _ (task_flags member.flags d) b e1 (λ bits named e2.
     option_and_then_some _ (whole member.task d) b e2 (
-        λ task _ e3. option_and_then_some _ (whole member.child d) b e3 ( λ child _ same.
+    λ task _ e3. option_and_then_some _ (whole member.child d) b e3 (λ child _ same.
     let is : TaskCreate deps (record { 0 = bits }) task child ≡ b = cc in
-    subst (λ (x : Body). IsSoundIn version x) is
-        (record {
-          named_flags = task_flags-named member.flags d bits named;
-          named_cancellation = tt;
-          begins_or_ends = tt;
-          claimed = refl;
-          short_path = tt;
-          few_dependences = tt;
-          next = tt;
-        }, no_turns version)))))
+    subst (λ (x : Body). IsSoundIn version x) is (
+      record {
+        named_flags = task_flags-named member.flags d bits named;
+        named_cancellation = tt;
+        begins_or_ends = tt;
+        claimed = refl;
+        short_path = tt;
+        few_dependences = tt;
+        next = tt;
+      },
+      no_turns version,
+    )))))
 
 dependences-sound : (version : ℕ) (d : Data) (b : Body) → dependences d ≡ Some b → body_fits b ≡ true
     → IsSoundIn version b
 unfolding dependences
 dependences-sound version d b e fits =
     option_and_then_some _ (whole member.task d) b e (
-        λ task _ e1. option_and_then_some _ (deps member.list d) b e1 ( λ list _ same.
+    λ task _ e1. option_and_then_some _ (deps member.list d) b e1 (λ list _ same.
     let is : Dependences task list ≡ b = cc in
     let few : length list ≤ max_dependences = leb-true _ _ (ap body_fits is ∙ fits) in
-    subst (λ (x : Body). IsSoundIn version x) is
-        (record {
-          named_flags = tt;
-          named_cancellation = tt;
-          begins_or_ends = tt;
-          claimed = refl;
-          short_path = tt;
-          few_dependences = few;
-          next = tt;
-        }, no_turns version)))
+    subst (λ (x : Body). IsSoundIn version x) is (
+      record {
+        named_flags = tt;
+        named_cancellation = tt;
+        begins_or_ends = tt;
+        claimed = refl;
+        short_path = tt;
+        few_dependences = few;
+        next = tt;
+      },
+      no_turns version,
+    )))
 
 task_schedule-sound : (version : ℕ) (d : Data) (b : Body) → task_schedule version d ≡ Some b
     → body_fits b ≡ true → IsSoundIn version b
 unfolding task_schedule
 task_schedule-sound version d b e fits =
     option_and_then_some _ (status member.status d) b e (
-        λ st _ e1. option_and_then_some _ (whole member.prior d) b e1 ( λ prior _ e2.
+    λ st _ e1. option_and_then_some _ (whole member.prior d) b e1 (λ prior _ e2.
     option_and_then_some _ (next st member.next d) b e2 (
-        λ nx follows e3. option_and_then_some _ (turns (tells_turns version st) d) b e3 ( λ told tells e4.
+    λ nx follows e3. option_and_then_some _ (turns (tells_turns version st) d) b e3 (λ told tells e4.
     option_and_then_some _ (share (is_some (status_part st)) d) b e4 (λ sh shared same.
     let is : TaskSchedule st told prior nx sh ≡ b = cc in
     let claimed =
-        share-sound (is_some (status_part st)) d sh shared
-            ∙ sym (is_some-map (λ (part : Part). (prior, part)) (status_part st)) in
+    share-sound (is_some (status_part st)) d sh shared
+    ∙ sym (is_some-map (λ (part : Part). (prior, part)) (status_part st)) in
     let demanded = next-sound st member.next d nx follows in
     let bounds : share_fits sh ≡ true = both-first _ _ (ap body_fits is ∙ fits) in
     subst (λ (x : Body). IsSoundIn version x) is (
@@ -384,36 +398,39 @@ sync_region-sound : (version : ℕ) (d : Data) (b : Body) → sync_region d ≡ 
 unfolding sync_region
 sync_region-sound version d b e =
     option_and_then_some _ (sync_kind member.kind d) b e (
-        λ kind _ e1. option_and_then_some _ (endpoint member.endpoint d) b e1 ( λ at _ e2.
+    λ kind _ e1. option_and_then_some _ (endpoint member.endpoint d) b e1 (λ at _ e2.
     option_and_then_some _ (whole_or_null member.parallel d) b e2 (
-        λ parallel _ e3. option_and_then_some _ (whole member.task d) b e3 ( λ task _ same.
+    λ parallel _ e3. option_and_then_some _ (whole member.task d) b e3 (λ task _ same.
     let is : SyncRegion kind at parallel task ≡ b = cc in
-    subst (λ (x : Body). IsSoundIn version x) is
-        (record {
-          named_flags = tt;
-          named_cancellation = tt;
-          begins_or_ends = tt;
-          claimed = refl;
-          short_path = tt;
-          few_dependences = tt;
-          next = tt;
-        }, no_turns version)))))
+    subst (λ (x : Body). IsSoundIn version x) is (
+      record {
+        named_flags = tt;
+        named_cancellation = tt;
+        begins_or_ends = tt;
+        claimed = refl;
+        short_path = tt;
+        few_dependences = tt;
+        next = tt;
+      },
+      no_turns version,
+    )))))
 
 cancel-sound : (version : ℕ) (d : Data) (b : Body) → cancel d ≡ Some b → body_fits b ≡ true
     → IsSoundIn version b
 unfolding cancel
 cancel-sound version d b e fits =
     option_and_then_some _ (cancel_flags member.flags d) b e (
-        λ bits named e1.
-            option_and_then_some _ (whole member.task d) b e1 (
-                λ task _ e2.
-                    option_and_then_some _ (share (has_flag bits table.discarded_task) d) b e2 (
-                        λ sh shared same.
+    λ bits named e1.
+    option_and_then_some _ (whole member.task d) b e1 (
+    λ task _ e2.
+    option_and_then_some _ (share (has_flag bits table.discarded_task) d) b e2 (
+    λ sh shared same.
     let is : Cancel (record { 0 = bits }) task sh ≡ b = cc in
-    subst (λ (x : Body). IsSoundIn version x) is
-        (discard-sound bits task sh (share-sound (has_flag bits table.discarded_task) d sh shared)
-            (cancel_flags-named member.flags d bits named) (ap body_fits is ∙ fits),
-            no_turns version))))
+    subst (λ (x : Body). IsSoundIn version x) is (
+      discard-sound bits task sh (share-sound (has_flag bits table.discarded_task) d sh shared)
+          (cancel_flags-named member.flags d bits named) (ap body_fits is ∙ fits),
+      no_turns version,
+    ))))
 
 chosen : {X P : Type 0} (test : Bool) (x y : Option X) (z : X) → cond test x y ≡ Some z → (x ≡ Some z → P)
     → (y ≡ Some z → P) → P
@@ -425,37 +442,37 @@ body_named-sound : (version : ℕ) (name : List ℕ) (d : Data) (b : Body) → b
 unfolding body_named
 body_named-sound version name d b e fits =
     chosen (bytes_eq name callback.thread_begin) (thread_begin d) _ b e (thread_begin-sound version d b) (
-        λ e1.
+    λ e1.
     chosen (bytes_eq name callback.thread_end) (thread_end d) _ b e1 (thread_end-sound version d b) (λ e2.
     chosen (bytes_eq name callback.parallel_begin) (parallel_begin d) _ b e2
-        (parallel_begin-sound version d b) ( λ e3.
+    (parallel_begin-sound version d b) (λ e3.
     chosen (bytes_eq name callback.parallel_end) (parallel_end d) _ b e3 (parallel_end-sound version d b) (
-        λ e4.
+    λ e4.
     chosen (bytes_eq name callback.implicit_task) (implicit_task d) _ b e4 (implicit_task-sound version d b) (
-        λ e5.
+    λ e5.
     chosen (bytes_eq name callback.task_create) (task_create d) _ b e5 (task_create-sound version d b) (λ e6.
     chosen (bytes_eq name callback.dependences) (dependences d) _ b e6
-        (λ is. dependences-sound version d b is fits) ( λ e7.
+    (λ is. dependences-sound version d b is fits) (λ e7.
     chosen (bytes_eq name callback.task_schedule) (task_schedule version d) _ b e7
-        (λ is. task_schedule-sound version d b is fits) ( λ e8.
+    (λ is. task_schedule-sound version d b is fits) (λ e8.
     chosen (bytes_eq name callback.sync_region) (sync_region d) _ b e8 (sync_region-sound version d b) (λ e9.
     chosen (bytes_eq name callback.cancel) (cancel d) None b e9 (λ is. cancel-sound version d b is fits)
-        (λ none. absurd (let h : None ≡ Some b = none in cc)))))))))))
+    (λ none. absurd (let h : None ≡ Some b = none in cc)))))))))))
 
 unbounded-sound : (version : ℕ) (d : Data) (r : Record) → unbounded version d ≡ Some r → record_fits r ≡ true
     → IsSoundIn version r.body
 unfolding unbounded
 unbounded-sound version d r e fits =
     option_and_then_some _ (whole member.thread d) r e (
-        λ thread _ e1. option_and_then_some _ (whole member.seq d) r e1 ( λ seq _ e2.
+    λ thread _ e1. option_and_then_some _ (whole member.seq d) r e1 (λ seq _ e2.
     option_and_then_some _ (whole member.seen d) r e2 (
-        λ seen _ e3. option_and_then_some _ (body version d) r e3 ( λ b is same.
+    λ seen _ e3. option_and_then_some _ (body version d) r e3 (λ b is same.
     let whole : record { thread = thread; seq = seq; seen = seen; body = b } ≡ r = cc in
     let bounds : body_fits b ≡ true =
-        ap (λ (x : Record). body_fits x.body) whole ∙ both-first _ _ (both-first _ _ (both-first _ _ fits)) in
+    ap (λ (x : Record). body_fits x.body) whole ∙ both-first _ _ (both-first _ _ (both-first _ _ fits)) in
     subst (λ (x : Record). IsSoundIn version x.body) whole
-        (option_and_then_some (λ (name : List ℕ). body_named version name d) (text member.cb d) b is
-            (λ name _ named. body_named-sound version name d b named bounds))))))
+    (option_and_then_some (λ (name : List ℕ). body_named version name d) (text member.cb d) b is
+    (λ name _ named. body_named-sound version name d b named bounds))))))
 
 pub line_says-sound : (version : ℕ) (line : List ℕ) (r : Record) → Ok r ≡ line_says version line
     → IsSoundIn version r.body

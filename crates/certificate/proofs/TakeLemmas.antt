@@ -50,44 +50,44 @@ same-more : (rest text : List ℕ) (at k : ℕ) → take k (drop at rest) ≡ ta
     → take at rest ≡ take at text → take (at + k) rest ≡ take (at + k) text
 same-more rest text at k bytes same =
     take-add at k rest ∙ ap (λ front. front ++ take k (drop at rest)) same
-        ∙ ap (λ bytes. take at text ++ bytes) bytes ∙ sym (take-add at k text)
+    ∙ ap (λ bytes. take at text ++ bytes) bytes ∙ sym (take-add at k text)
 
 same_word : (xs ys : List ℕ) → length xs ≡ 8 → length ys ≡ 8 → ((i : ℕ) → get_or xs i 0 < 256)
     → ((i : ℕ) → get_or ys i 0 < 256) → from_le_bytes w64 xs ≡ from_le_bytes w64 ys → xs ≡ ys
 same_word xs ys eight_x eight_y low_x low_y same =
     sym (le_bytes_8 xs (from_le_bytes w64 xs) eight_x low_x refl)
-        ∙ le_bytes_8 ys (from_le_bytes w64 xs) eight_y low_y same
+    ∙ le_bytes_8 ys (from_le_bytes w64 xs) eight_y low_y same
 
 pub same-word : (rest text : List ℕ) (at : ℕ) → at + 8 ≤ length rest → at + 8 ≤ length text
     → ((i : ℕ) → get_or rest i 0 < 256) → ((i : ℕ) → get_or text i 0 < 256)
     → from_le_bytes w64 (take 8 (drop at rest)) ≡ from_le_bytes w64 (take 8 (drop at text))
-        → take at rest ≡ take at text → take (at + 8) rest ≡ take (at + 8) text
+    → take at rest ≡ take at text → take (at + 8) rest ≡ take (at + 8) text
 same-word rest text at within_rest within_text low_rest low_text word same =
     same-more rest text at 8
     (same_word (take 8 (drop at rest)) (take 8 (drop at text))
-        (omega (arith, length-take 8 (drop at rest), length-drop at rest))
-        (omega (arith, length-take 8 (drop at text), length-drop at text))
-        (low-take 8 (drop at rest) (low-drop at rest low_rest))
-        (low-take 8 (drop at text) (low-drop at text low_text)) word)
+    (omega (arith, length-take 8 (drop at rest), length-drop at rest))
+    (omega (arith, length-take 8 (drop at text), length-drop at text))
+    (low-take 8 (drop at rest) (low-drop at rest low_rest))
+    (low-take 8 (drop at text) (low-drop at text low_text)) word)
     same
 
 same_half : (xs ys : List ℕ) → length xs ≡ 4 → length ys ≡ 4 → ((i : ℕ) → get_or xs i 0 < 256)
     → ((i : ℕ) → get_or ys i 0 < 256) → from_le_bytes w32 xs ≡ from_le_bytes w32 ys → xs ≡ ys
 same_half xs ys four_x four_y low_x low_y same =
     sym (le_bytes_4 xs (from_le_bytes w32 xs) four_x low_x refl)
-        ∙ le_bytes_4 ys (from_le_bytes w32 xs) four_y low_y same
+    ∙ le_bytes_4 ys (from_le_bytes w32 xs) four_y low_y same
 
 pub same-half : (rest text : List ℕ) (at : ℕ) → at + 4 ≤ length rest → at + 4 ≤ length text
     → ((i : ℕ) → get_or rest i 0 < 256) → ((i : ℕ) → get_or text i 0 < 256)
     → from_le_bytes w32 (take 4 (drop at rest)) ≡ from_le_bytes w32 (take 4 (drop at text))
-        → take at rest ≡ take at text → take (at + 4) rest ≡ take (at + 4) text
+    → take at rest ≡ take at text → take (at + 4) rest ≡ take (at + 4) text
 same-half rest text at within_rest within_text low_rest low_text half same =
     same-more rest text at 4
     (same_half (take 4 (drop at rest)) (take 4 (drop at text))
-        (omega (arith, length-take 4 (drop at rest), length-drop at rest))
-        (omega (arith, length-take 4 (drop at text), length-drop at text))
-        (low-take 4 (drop at rest) (low-drop at rest low_rest))
-        (low-take 4 (drop at text) (low-drop at text low_text)) half)
+    (omega (arith, length-take 4 (drop at rest), length-drop at rest))
+    (omega (arith, length-take 4 (drop at text), length-drop at text))
+    (low-take 4 (drop at rest) (low-drop at rest low_rest))
+    (low-take 4 (drop at text) (low-drop at text low_text)) half)
     same
 
 pub Takes-front : (rest text : List ℕ) (at : ℕ) → length text ≤ at → take at rest ≡ take at text
@@ -96,7 +96,7 @@ Takes-front rest text at past same =
     rw take_rest (record {
       is =
           sym (take-append-drop at rest)
-              ∙ ap (λ front. front ++ drop at rest) (same ∙ take_all at text past);
+          ∙ ap (λ front. front ++ drop at rest) (same ∙ take_all at text past);
     })
 
 -- ---- digits
@@ -107,15 +107,15 @@ decimal-more n d some few low =
     let tens : (10 * n + d) / 10 ≡ n = omega arith in
     let ones : (10 * n + d) % 10 ≡ d = omega arith in
     decimal_step (10 * n + d) (omega arith) (omega arith)
-        ∙ ap (λ m. decimal m ++ ((48 + (10 * n + d) % 10) ∷ [])) tens
-        ∙ ap (λ m. decimal n ++ ((48 + m) ∷ [])) ones
+    ∙ ap (λ m. decimal m ++ ((48 + (10 * n + d) % 10) ∷ [])) tens
+    ∙ ap (λ m. decimal n ++ ((48 + m) ∷ [])) ones
 
 -- the first digits, and one more
 pub digits-more : (rest : List ℕ) (len n d : ℕ) → len < length rest → get_or rest len 0 ≡ 48 + d → 0 < n
     → 10 * n + d < 2 ^ 64 → d ≤ 9 → take len rest ≡ decimal n → take (len + 1) rest ≡ decimal (10 * n + d)
 digits-more rest len n d within here some few low taken =
     take_more rest len 0 within ∙ ap (λ b. take len rest ++ (b ∷ [])) here
-        ∙ ap (λ front. front ++ ((48 + d) ∷ [])) taken ∙ sym (decimal-more n d some few low)
+    ∙ ap (λ front. front ++ ((48 + d) ∷ [])) taken ∙ sym (decimal-more n d some few low)
 
 pub digits-first : (rest : List ℕ) (d : ℕ) → 0 < length rest → get_or rest 0 0 ≡ 48 + d → d ≤ 9
     → take 1 rest ≡ decimal d
@@ -129,7 +129,7 @@ digits-few n d len few short low =
     let tens : 10 ^ (len + 1) ≡ 10 * 10 ^ len = ap (λ k. 10 ^ k) (omega arith) ∙ pow-succ' 10 len in
     let more : 10 * n + d < 10 * 10 ^ len = omega arith in
     let most : 10 ^ len ≤ 10 ^ 18 =
-        pow-le-pow_right { n = 10 } (omega arith) { i = len } { j = 18 } (omega arith) in
+    pow-le-pow_right {n = 10} (omega arith) {i = len} {j = 18} (omega arith) in
     (rw tens more, omega (arith, more, most))
 
 pub Takes-digits : (rest : List ℕ) (len n : ℕ) → take len rest ≡ decimal n
@@ -148,7 +148,7 @@ pub record IsTaken {X : Type 0} (f : X → Data) (xs : List X) (later : Bool) (s
   pub takes : Takes start done rest
   pub whole : (tail : List X)
       → done ++ items_text later (items_of (map f tail))
-          ≡ text ++ (91 ∷ items_text false (items_of (map f (xs ++ tail))))
+      ≡ text ++ (91 ∷ items_text false (items_of (map f (xs ++ tail))))
 
 pub IsTaken-none : {X : Type 0} (f : X → Data) (start rest text : List ℕ)
     → Takes start (text ++ (91 ∷ [])) rest → IsTaken f [] false start rest text
@@ -167,9 +167,9 @@ IsTaken-more f xs x later start rest behind text before takes = record {
   takes = Takes-both start rest behind before.done (comma_if later ++ compact_text (f x)) before.takes takes;
   whole =
       λ tail.
-          item-more f x tail later before.done _ (before.whole (x ∷ tail))
-              ∙ ap (λ ys. text ++ (91 ∷ items_text false (items_of (map f ys))))
-                  (sym (append_assoc xs (x ∷ []) tail));
+      item-more f x tail later before.done _ (before.whole (x ∷ tail))
+      ∙ ap (λ ys. text ++ (91 ∷ items_text false (items_of (map f ys))))
+      (sym (append_assoc xs (x ∷ []) tail));
 }
 
 pub Takes-items : {X : Type 0} (f : X → Data) (xs : List X) (later : Bool) (start rest behind text : List ℕ)
@@ -177,8 +177,8 @@ pub Takes-items : {X : Type 0} (f : X → Data) (xs : List X) (later : Bool) (st
     → Takes start (text ++ (91 ∷ items_text false (items_of (map f xs)))) behind
 Takes-items f xs later start rest behind text all takes =
     Takes-same start behind (all.done ++ (93 ∷ [])) _
-        (sym
-            (all.whole [] ∙ ap (λ ys. text ++ (91 ∷ items_text false (items_of (map f ys)))) (append-nil xs)))
+    (sym
+    (all.whole [] ∙ ap (λ ys. text ++ (91 ∷ items_text false (items_of (map f ys)))) (append-nil xs)))
     (Takes-both start rest behind all.done (93 ∷ []) all.takes takes)
 
 -- ---- names of flags that are read in the order of their table
@@ -202,19 +202,19 @@ pub IsRead-with : {X : Type 0} (row : X → Row) (flags : List X) (table : List 
     (later : Bool) (start rest behind whole : List ℕ)
     → map row flags ≡ table → i < length flags → x ≡ get_or flags i x
     → IsRead (flag_names (drop i table) bits) later start rest whole → has_flag bits (row x).1 ≡ true
-        → Takes rest (comma_if later ++ quoted (row x).0) behind
-        → IsRead (flag_names (drop (i + 1) table) bits) true start behind whole
+    → Takes rest (comma_if later ++ quoted (row x).0) behind
+    → IsRead (flag_names (drop (i + 1) table) bits) true start behind whole
 IsRead-with row flags table bits i x later start rest behind whole same within here before has takes =
     let at = row-at row flags table i x same within here in
     let left : flag_names (drop i table) bits ≡ (row x).0 ∷ flag_names (drop (i + 1) table) bits =
-        names-left table bits i (row x) at.0 at.1
-            ∙ ap
-                (λ b.
-                    cond b ((row x).0 ∷ flag_names (drop (i + 1) table) bits)
-                        (flag_names (drop (i + 1) table) bits))
-                has in
+    names-left table bits i (row x) at.0 at.1
+    ∙ ap
+    (λ b.
+    cond b ((row x).0 ∷ flag_names (drop (i + 1) table) bits)
+    (flag_names (drop (i + 1) table) bits))
+    has in
     let all : IsRead ((row x).0 ∷ flag_names (drop (i + 1) table) bits) later start rest whole =
-        (rw left at before) in
+    (rw left at before) in
     record {
       done = all.done ++ (comma_if later ++ quoted (row x).0);
       takes = Takes-both start rest behind all.done (comma_if later ++ quoted (row x).0) all.takes takes;
@@ -226,16 +226,16 @@ pub IsRead-without : {X : Type 0} (row : X → Row) (flags : List X) (table : Li
     (later : Bool) (start rest whole : List ℕ)
     → map row flags ≡ table → i < length flags → x ≡ get_or flags i x
     → IsRead (flag_names (drop i table) bits) later start rest whole → has_flag bits (row x).1 ≡ false
-        → IsRead (flag_names (drop (i + 1) table) bits) later start rest whole
+    → IsRead (flag_names (drop (i + 1) table) bits) later start rest whole
 IsRead-without row flags table bits i x later start rest whole same within here before lacks =
     let at = row-at row flags table i x same within here in
     let left : flag_names (drop i table) bits ≡ flag_names (drop (i + 1) table) bits =
-        names-left table bits i (row x) at.0 at.1
-            ∙ ap
-                (λ b.
-                    cond b ((row x).0 ∷ flag_names (drop (i + 1) table) bits)
-                        (flag_names (drop (i + 1) table) bits))
-                lacks in
+    names-left table bits i (row x) at.0 at.1
+    ∙ ap
+    (λ b.
+    cond b ((row x).0 ∷ flag_names (drop (i + 1) table) bits)
+    (flag_names (drop (i + 1) table) bits))
+    lacks in
     (rw left at before)
 
 pub Takes-names : (left : List (List ℕ)) (later : Bool) (start rest behind whole : List ℕ) → left ≡ []
@@ -243,4 +243,4 @@ pub Takes-names : (left : List (List ℕ)) (later : Bool) (start rest behind who
 Takes-names left later start rest behind whole none before takes =
     let all : IsRead [] later start rest whole = (rw none at before) in
     Takes-same start behind (all.done ++ (93 ∷ [])) whole (sym all.left)
-        (Takes-both start rest behind all.done (93 ∷ []) all.takes takes)
+    (Takes-both start rest behind all.done (93 ∷ []) all.takes takes)

@@ -60,7 +60,7 @@ start_next : (task : ℕ) (r : Record) (t : TaskTurns) → (with_start task r t)
 start_next task r t = by (is_task task (started r.body))
   where
     by : (b : Bool)
-        → (cond { A = TaskTurns } b (record { home = Some r.thread; next = t.next }) t).next ≡ t.next
+        → (cond {A = TaskTurns} b (record { home = Some r.thread; next = t.next }) t).next ≡ t.next
     by true = refl
     by false = refl
 
@@ -69,8 +69,8 @@ start_home : (task : ℕ) (r : Record) (t : TaskTurns)
 start_home task r t = by (is_task task (started r.body))
   where
     by : (b : Bool)
-        → (cond { A = TaskTurns } b (record { home = Some r.thread; next = t.next }) t).home
-            ≡ cond b (Some r.thread) t.home
+        → (cond {A = TaskTurns} b (record { home = Some r.thread; next = t.next }) t).home
+        ≡ cond b (Some r.thread) t.home
     by true = refl
     by false = refl
 
@@ -102,28 +102,31 @@ homes_more rs i r old mid new stands are begins stays starts = record {
       | inr apart ↦ elim (stays task (is_the_task task (started r.body) is)) [
         | inl nowhere ↦
             absurd
-                (no_thread rs k task ran
-                    (are.at_home task k (omega (arith, below, apart)) ran ∙ sym (mid_home task) ∙ nowhere))
+            (no_thread rs k task ran
+            (are.at_home task k (omega (arith, below, apart)) ran ∙ sym (mid_home task) ∙ nowhere))
         | inr home ↦
             are.at_home task k (omega (arith, below, apart)) ran ∙ sym (mid_home task) ∙ home
-                ∙ sym (home_here task is)
+            ∙ sym (home_here task is)
       ]
     ]
     | inr never ↦ elim (cases_eq k i) [
       | inl same ↦
           absurd
-              (true≢false
-                  (sym
-                      (the_task task (started r.body)
-                          (sym (at_get started rs i r stands) ∙ ap (at started rs) (sym same) ∙ ran))
-                      ∙ never))
+          (true≢false
+          (sym
+          (the_task task (started r.body)
+          (sym (at_get started rs i r stands) ∙ ap (at started rs) (sym same) ∙ ran))
+          ∙ never))
       | inr apart ↦ are.at_home task k (omega (arith, below, apart)) ran ∙ sym (home_there task never)
     ]
   ];
   ran = λ task home lives. elim (cases_Bool (is_task task (started r.body))) [
-    | inl is ↦
-        (i, omega arith, at_get started rs i r stands ∙ is_the_task task (started r.body) is,
-            thread_get rs i r stands ∙ sym (home_here task is) ∙ lives)
+    | inl is ↦ (
+      i,
+      omega arith,
+      at_get started rs i r stands ∙ is_the_task task (started r.body) is,
+      thread_get rs i r stands ∙ sym (home_here task is) ∙ lives,
+    )
     | inr never ↦
         let before = are.ran task home (sym (home_there task never) ∙ lives) in
         (before.0, omega (arith, before.1), before.2, before.3)
@@ -131,11 +134,11 @@ homes_more rs i r old mid new stands are begins stays starts = record {
   first = λ task.
       let test : Record → Bool = λ q. is_task task (begun_root q.body) in
       let more : list_any test (take (i + 1) rs) ≡ (list_any test (take i rs) || test r) =
-          list_any_more test rs i r (slice_get_within rs i r stands)
-              ∙ ap (λ (q : Record). list_any test (take i rs) || test q)
-                  (get_or_from_slice_get rs i r r stands) in
-      let before : (noted old task).next ≡ cond { A = ℕ } (list_any test (take i rs)) 1 0 =
-          are.first task ∙ ap (λ b. cond { A = ℕ } b 1 0) (finds test (take i rs)) in
+      list_any_more test rs i r (slice_get_within rs i r stands)
+      ∙ ap (λ (q : Record). list_any test (take i rs) || test q)
+      (get_or_from_slice_get rs i r r stands) in
+      let before : (noted old task).next ≡ cond {A = ℕ} (list_any test (take i rs)) 1 0 =
+      are.first task ∙ ap (λ b. cond {A = ℕ} b 1 0) (finds test (take i rs)) in
       ap (λ (t : TaskTurns). t.next) (starts task) ∙ start_next task r (noted mid task)
       ∙ ap (λ (t : TaskTurns). t.next) (begins task) ∙ begin_next task r (noted old task)
       ∙ or_first (list_any test (take i rs)) (test r) (noted old task).next before
@@ -148,13 +151,13 @@ homes_more rs i r old mid new stands are begins stays starts = record {
     home_here : (task : ℕ) → is_task task (started r.body) ≡ true → (noted new task).home ≡ Some r.thread
     home_here task is =
         ap (λ (t : TaskTurns). t.home) (starts task) ∙ start_home task r (noted mid task)
-            ∙ ap (λ b. cond b (Some r.thread) (noted mid task).home) is
+        ∙ ap (λ b. cond b (Some r.thread) (noted mid task).home) is
 
     home_there : (task : ℕ) → is_task task (started r.body) ≡ false
         → (noted new task).home ≡ (noted old task).home
     home_there task never =
         ap (λ (t : TaskTurns). t.home) (starts task) ∙ start_home task r (noted mid task)
-            ∙ ap (λ b. cond b (Some r.thread) (noted mid task).home) never ∙ mid_home task
+        ∙ ap (λ b. cond b (Some r.thread) (noted mid task).home) never ∙ mid_home task
 
 -- the task that is noted to run on another thread moves
 pub moves : (rs : List Record) (i : ℕ) (r : Record) (old mid : BTreeMap ℕ TaskTurns) → slice_get rs i ≡ Some r
@@ -163,9 +166,9 @@ pub moves : (rs : List Record) (i : ℕ) (r : Record) (old mid : BTreeMap ℕ Ta
 moves rs i r old mid stands are begins elsewhere =
     let task = elsewhere.task in
     let before =
-        are.ran task elsewhere.home
-            (sym (begin_home task r (noted old task)) ∙ ap (λ (t : TaskTurns). t.home) (sym (begins task))
-                ∙ elsewhere.lives) in
+    are.ran task elsewhere.home
+    (sym (begin_home task r (noted old task)) ∙ ap (λ (t : TaskTurns). t.home) (sym (begins task))
+    ∙ elsewhere.lives) in
     record {
       task = task;
       next = at_get started rs i r stands ∙ elsewhere.runs;
@@ -174,8 +177,8 @@ moves rs i r old mid stands are begins elsewhere =
       next_before = before.2;
       elsewhere =
           λ same.
-              elsewhere.apart
-                  (same_Some elsewhere.home r.thread (sym before.3 ∙ same ∙ thread_get rs i r stands));
+          elsewhere.apart
+          (same_Some elsewhere.home r.thread (sym before.3 ∙ same ∙ thread_get rs i r stands));
     }
 
 -- and one that is noted to run on this thread, or on none, does not
@@ -185,8 +188,8 @@ pub stays_home : (rs : List Record) (i : ℕ) (r : Record) (old mid : BTreeMap �
 stays_home rs i r old mid stands are begins stays move =
     let task = move.task in
     let home : thread_at rs move.earlier ≡ (noted mid task).home =
-        are.at_home task move.earlier move.before move.next_before
-            ∙ sym (ap (λ (t : TaskTurns). t.home) (begins task) ∙ begin_home task r (noted old task)) in
+    are.at_home task move.earlier move.before move.next_before
+    ∙ sym (ap (λ (t : TaskTurns). t.home) (begins task) ∙ begin_home task r (noted old task)) in
     elim (stays task (sym (at_get started rs i r stands) ∙ move.next)) [
       | inl nowhere ↦ no_thread rs move.earlier task move.next_before (home ∙ nowhere)
       | inr here ↦ move.elsewhere (home ∙ here ∙ sym (thread_get rs i r stands))
@@ -217,12 +220,12 @@ starts_more : (rs : List Record) (i : ℕ) (r : Record) (task : ℕ) → slice_g
 starts_more rs i r task stands = elim (cases_Bool (test r)) [
   | inl is ↦
       count_by_more_yes test rs i r (slice_get_within rs i r stands)
-          (ap test (get_or_from_slice_get rs i r r stands) ∙ is)
-          ∙ ap (λ b. starts_in task (take i rs) + cond b 1 0) (sym is)
+      (ap test (get_or_from_slice_get rs i r r stands) ∙ is)
+      ∙ ap (λ b. starts_in task (take i rs) + cond b 1 0) (sym is)
   | inr never ↦
       let one =
-          count_by_more_no test rs i r (slice_get_within rs i r stands)
-              (ap test (get_or_from_slice_get rs i r r stands) ∙ never) in
+      count_by_more_no test rs i r (slice_get_within rs i r stands)
+      (ap test (get_or_from_slice_get rs i r r stands) ∙ never) in
       let zero_more : starts_in task (take i rs) ≡ starts_in task (take i rs) + 0 = omega arith in
       one ∙ zero_more ∙ ap (λ b. starts_in task (take i rs) + cond b 1 0) (sym never)
 ]
@@ -252,11 +255,11 @@ pub turns_more : (rs : List Record) (i : ℕ) (r : Record) (old new : BTreeMap �
 turns_more rs i r old new stands are begins = record {
   at_home =
       λ task k ran.
-          are.at_home task k ran
-              ∙ sym (ap (λ (t : TaskTurns). t.home) (begins task) ∙ turn_home task r (noted old task));
+      are.at_home task k ran
+      ∙ sym (ap (λ (t : TaskTurns). t.home) (begins task) ∙ turn_home task r (noted old task));
   next = λ task.
       let now : (noted new task).next ≡ (noted old task).next + cond (is_task task (started r.body)) 1 0 =
-          ap (λ (t : TaskTurns). t.next) (begins task) ∙ turn_next task r (noted old task) in
+      ap (λ (t : TaskTurns). t.next) (begins task) ∙ turn_next task r (noted old task) in
       let before = are.next task in
       let more = starts_more rs i r task stands in
       omega (arith, now, before, more);
@@ -271,9 +274,9 @@ is_noted rs i r table stands are task runs = by (get nat_cmp table task) refl
     by : (o : Option TaskTurns) → get nat_cmp table task ≡ o → IsSome o
     by None e =
         absurd
-            (no_thread rs i task (at_get started rs i r stands ∙ runs)
-                (are.at_home task i (at_get started rs i r stands ∙ runs)
-                    ∙ ap (λ (o : Option TaskTurns). (unwrap_or o no_turns).home) e))
+        (no_thread rs i task (at_get started rs i r stands ∙ runs)
+        (are.at_home task i (at_get started rs i r stands ∙ runs)
+        ∙ ap (λ (o : Option TaskTurns). (unwrap_or o no_turns).home) e))
     by (Some t) e = refl
 
 -- ---- the turns that end
@@ -284,34 +287,34 @@ told_thread table r = by (turns_told table r.thread r.body)
   where
     by : (o : Option Turns)
         → (option_map_or
-              (λ (turns : Turns). record {
-                thread = r.thread;
-                seq = r.seq;
-                seen = r.seen;
-                body = telling turns r.body;
-              }) o r).thread
-            ≡ r.thread
+        (λ (turns : Turns). record {
+          thread = r.thread;
+          seq = r.seq;
+          seen = r.seen;
+          body = telling turns r.body;
+        }) o r).thread
+        ≡ r.thread
     by None = refl
     by (Some turns) = refl
 
 told_begins : (table : BTreeMap ℕ TaskTurns) (r : Record)
     → begun_turn (told_by table r).body
-        ≡ option_map (λ next. (next, (noted table next).next)) (started r.body)
-        ⊎ (started r.body ≡ None)
+    ≡ option_map (λ next. (next, (noted table next).next)) (started r.body)
+    ⊎ (started r.body ≡ None)
 told_begins table r = by r.body refl
   where
     by : (body : Body) → r.body ≡ body
         → begun_turn
-            (option_map_or
-                (λ (turns : Turns). record {
-                  thread = r.thread;
-                  seq = r.seq;
-                  seen = r.seen;
-                  body = telling turns body;
-                })
-                (turns_told table r.thread body) r).body
-            ≡ option_map (λ next. (next, (noted table next).next)) (started body)
-            ⊎ (started body ≡ None)
+        (option_map_or
+        (λ (turns : Turns). record {
+          thread = r.thread;
+          seq = r.seq;
+          seen = r.seen;
+          body = telling turns body;
+        })
+        (turns_told table r.thread body) r).body
+        ≡ option_map (λ next. (next, (noted table next).next)) (started body)
+        ⊎ (started body ≡ None)
     by (TaskSchedule status before prior (Some next) share) is = inl refl
     by (TaskSchedule status before prior None share) is = inr refl
     by _ is = inr refl
@@ -322,15 +325,15 @@ told_not table r still = by r.body refl still
   where
     by : (body : Body) → r.body ≡ body → started body ≡ None
         → begun_turn
-            (option_map_or
-                (λ (turns : Turns). record {
-                  thread = r.thread;
-                  seq = r.seq;
-                  seen = r.seen;
-                  body = telling turns body;
-                })
-                (turns_told table r.thread body) r).body
-            ≡ None
+        (option_map_or
+        (λ (turns : Turns). record {
+          thread = r.thread;
+          seq = r.seq;
+          seen = r.seen;
+          body = telling turns body;
+        })
+        (turns_told table r.thread body) r).body
+        ≡ None
     by (TaskSchedule status before prior (Some next) share) is nothing = absurd (none-some next (sym nothing))
     by (TaskSchedule status before prior None share) is nothing = ap begun_turn is
     by _ is nothing = ap begun_turn is
@@ -345,20 +348,20 @@ ended_by : (rs : List Record) (n : ℕ) (r : Record) (old new : BTreeMap ℕ Tas
     → AreTurns rs n old → ((task : ℕ) → noted new task ≡ with_turn task r (noted old task))
     → (task thread : ℕ) (b : Bool) → (r.thread == thread) ≡ b
     → fold (turn_after task) (turn_ended (noted old task) thread) (cond b (told_by old r ∷ []) [])
-        ≡ turn_ended (noted new task) thread
+    ≡ turn_ended (noted new task) thread
 ended_by rs n r old new stands are begins task thread b at_thread = by (started r.body) refl
   where
     same : is_task task (started r.body) ≡ false
         → turn_ended (noted old task) thread ≡ turn_ended (noted new task) thread
     same never =
         sym
-            (ap (λ (t : TaskTurns). turn_ended t thread)
-                (begins task
-                    ∙ ap (λ c. cond { A = TaskTurns } c (one_later (noted old task)) (noted old task)) never))
+        (ap (λ (t : TaskTurns). turn_ended t thread)
+        (begins task
+        ∙ ap (λ c. cond {A = TaskTurns} c (one_later (noted old task)) (noted old task)) never))
 
     after : (o : Option (ℕ × ℕ)) → begun_turn (told_by old r).body ≡ o → (t : ℕ)
         → turn_after task t (told_by old r)
-            ≡ option_map_or (λ (p : ℕ × ℕ). if p.0 == task then p.1 else t) o t
+        ≡ option_map_or (λ (p : ℕ × ℕ). if p.0 == task then p.1 else t) o t
     after o is t =
         ap (λ (x : Option (ℕ × ℕ)). option_map_or (λ (p : ℕ × ℕ). if p.0 == task then p.1 else t) x t) is
 
@@ -381,7 +384,7 @@ ended_by rs n r old new stands are begins task thread b at_thread = by (started 
 
     here : (next : ℕ) → started r.body ≡ Some next → next ≡ task → (c : Bool) → (r.thread == thread) ≡ c
         → fold (turn_after task) (turn_ended (noted old task) thread) (cond c (told_by old r ∷ []) [])
-            ≡ cond c ((noted old task).next + 1 - 1) 0
+        ≡ cond c ((noted old task).next + 1 - 1) 0
     here next runs is true here_too =
         let one_more : (noted old task).next ≡ (noted old task).next + 1 - 1 = omega arith in
         after (Some (next, (noted old next).next)) (told next runs) (turn_ended (noted old task) thread)
@@ -389,31 +392,31 @@ ended_by rs n r old new stands are begins task thread b at_thread = by (started 
         ∙ ap (λ k. (noted old k).next) is ∙ one_more
     here next runs is false elsewhere =
         end_at (noted old task) thread r.thread (home next runs is)
-            ∙ ap (λ c. cond c ((noted old task).next - 1) 0) elsewhere
+        ∙ ap (λ c. cond c ((noted old task).next - 1) 0) elsewhere
 
     by : (o : Option ℕ) → started r.body ≡ o
         → fold (turn_after task) (turn_ended (noted old task) thread) (cond b (told_by old r ∷ []) [])
-            ≡ turn_ended (noted new task) thread
+        ≡ turn_ended (noted new task) thread
     by None still =
         other b (after None (told_not old r still)) (turn_ended (noted old task) thread)
-            ∙ same (ap (is_task task) still)
+        ∙ same (ap (is_task task) still)
     by (Some next) runs = elim (cases_eq next task) [
       | inl is ↦
           let later : noted new task ≡ one_later (noted old task) =
-              begins task
-                  ∙ ap (λ c. cond { A = TaskTurns } c (one_later (noted old task)) (noted old task))
-                      (ap (is_task task) runs ∙ eq-eqb next task is) in
+          begins task
+          ∙ ap (λ c. cond {A = TaskTurns} c (one_later (noted old task)) (noted old task))
+          (ap (is_task task) runs ∙ eq-eqb next task is) in
           here next runs is b at_thread
           ∙ sym
-              (ap (λ (t : TaskTurns). turn_ended t thread) later
-                  ∙ end_at (one_later (noted old task)) thread r.thread (home next runs is)
-                  ∙ ap (λ c. cond c ((noted old task).next + 1 - 1) 0) at_thread)
+          (ap (λ (t : TaskTurns). turn_ended t thread) later
+          ∙ end_at (one_later (noted old task)) thread r.thread (home next runs is)
+          ∙ ap (λ c. cond c ((noted old task).next + 1 - 1) 0) at_thread)
       | inr apart ↦
           other b
-              (λ t.
-                  after (Some (next, (noted old next).next)) (told next runs) t
-                      ∙ ap (λ c. cond c (noted old next).next t) (ne_eqb next task apart))
-              (turn_ended (noted old task) thread)
+          (λ t.
+          after (Some (next, (noted old next).next)) (told next runs) t
+          ∙ ap (λ c. cond c (noted old next).next t) (ne_eqb next task apart))
+          (turn_ended (noted old task) thread)
           ∙ same (ap (is_task task) runs ∙ ne_eqb next task apart)
     ]
 
@@ -425,15 +428,15 @@ pub ended_more : (rs now : List Record) (n : ℕ) (r : Record) (old new : BTreeM
 ended_more rs now n r old new stands within are ended begins = λ task thread.
     let p : Record → Bool = λ q. q.thread == thread in
     let parts : take (n + 1) (slice_set now n (told_by old r)) ≡ take n now ++ told_by old r ∷ [] =
-        ap (λ m. take m (slice_set now n (told_by old r))) (add-one n)
-            ∙ take-suc-set now n (told_by old r) within in
+    ap (λ m. take m (slice_set now n (told_by old r))) (add-one n)
+    ∙ take-suc-set now n (told_by old r) within in
     ap (λ (xs : List Record). turn_in task (filter p xs)) parts
     ∙ ap (turn_in task) (filter-append p (take n now) (told_by old r ∷ []))
     ∙ fold-append (turn_after task) 0 (filter p (take n now)) (filter p (told_by old r ∷ []))
     ∙ ap (λ t. fold (turn_after task) t (filter p (told_by old r ∷ []))) (ended task thread)
     ∙ ap
-        (λ m.
-            fold (turn_after task) (turn_ended (noted old task) thread)
-                (cond (m == thread) (told_by old r ∷ []) []))
-        (told_thread old r)
+    (λ m.
+    fold (turn_after task) (turn_ended (noted old task) thread)
+    (cond (m == thread) (told_by old r ∷ []) []))
+    (told_thread old r)
     ∙ ended_by rs n r old new stands are begins task thread (r.thread == thread) refl

@@ -31,7 +31,7 @@ cut-ended [] all = refl
 cut-ended (line ∷ lines) all =
     ap cut (append_assoc line (10 ∷ []) (ended lines)) ∙ cut-line line (ended lines) all.0
     ∙ ap (λ (c : Cut). let later : Cut = record { lines = line ∷ c.lines; rest = c.rest } in later)
-        (cut-ended lines all.1)
+    (cut-ended lines all.1)
 
 -- the line can stand in a file of this version, and stands for the record
 pub record IsLineOf (version : ℕ) (line : List ℕ) (r : Record) : Type 0 where
@@ -59,9 +59,9 @@ has_room-before : (before : List Record) (r : Record) (rs : List Record)
 has_room-before before r rs few tasks =
     let records : length before < max_records = omega (arith, length-append before (r ∷ rs)) in
     let task : tasks_in before + (cond (is_some (made r.body)) 1 0 + tasks_in rs) ≤ max_tasks =
-        omega (arith, tasks_in-append before (r ∷ rs), tasks_in-cons r rs) in
+    omega (arith, tasks_in-append before (r ∷ rs), tasks_in-cons r rs) in
     rw (lt-ltb (length before) (max_records) records)
-        (room-tasks (is_some (made r.body)) (tasks_in before) (tasks_in rs) task)
+    (room-tasks (is_some (made r.body)) (tasks_in before) (tasks_in rs) task)
 
 -- ---- line after line
 
@@ -79,30 +79,30 @@ from_line-records : (newest version : ℕ) (line : Record → List ℕ) (n : ℕ
     → AllByRecursion (λ r. IsLineOf version (line r) r) rs → length (before ++ rs) ≤ max_records
     → tasks_in (before ++ rs) ≤ max_tasks
     → from_line (traces newest) n (trace_at version before) (map line rs) []
-        ≡ Ok (trace_at version (before ++ rs))
+    ≡ Ok (trace_at version (before ++ rs))
 unfolding from_line
 from_line-records newest version line n before [] later all few tasks =
     rw (not_first n later) (ap (λ (rs : List Record). Ok (trace_at version rs)) (sym (append-nil before)))
 from_line-records newest version line n before (r ∷ rs) later all few tasks =
     let whole : (before ++ r ∷ []) ++ rs ≡ before ++ r ∷ rs = append_assoc before (r ∷ []) rs in
     let rest =
-        from_line-records newest version line (n + 1) (before ++ r ∷ []) rs (omega arith) all.1 (rw whole few)
-            (rw whole tasks) in
+    from_line-records newest version line (n + 1) (before ++ r ∷ []) rs (omega arith) all.1 (rw whole few)
+    (rw whole tasks) in
     rw (not_long (line r) all.0.short, not_first n later, all.0.says, has_room-before before r rs few tasks)
-        (rest ∙ ap (λ (rs : List Record). Ok (trace_at version rs)) whole)
+    (rest ∙ ap (λ (rs : List Record). Ok (trace_at version rs)) whole)
 
 -- the text of a trace, given its lines, stands for it
 trace_said-ended : (newest version : ℕ) (header : List ℕ) (line : Record → List ℕ) (rs : List Record)
     → header_says newest header ≡ Ok version → length header ≤ max_line → IsUnbroken header
     → AllByRecursion (λ r. IsLineOf version (line r) r) rs
     → length rs ≤ max_records → tasks_in rs ≤ max_tasks
-        → trace_said newest (ended (header ∷ map line rs)) ≡ Ok (trace_at version rs)
+    → trace_said newest (ended (header ∷ map line rs)) ≡ Ok (trace_at version rs)
 unfolding from_line
 trace_said-ended newest version header line rs says short unbroken all few tasks =
     ap (λ (c : Cut). from_line (traces newest) 1 no_trace c.lines c.rest)
-        (cut-ended (header ∷ map line rs) (unbroken, lines rs all))
+    (cut-ended (header ∷ map line rs) (unbroken, lines rs all))
     ∙ rw (not_long header short, says)
-        (from_line-records newest version line 2 [] rs (omega arith) all few tasks)
+    (from_line-records newest version line 2 [] rs (omega arith) all few tasks)
   where
     lines : (rs : List Record) → AllByRecursion (λ r. IsLineOf version (line r) r) rs
         → AllByRecursion IsUnbroken (map line rs)
@@ -122,7 +122,7 @@ pub trace_said-trace : (newest version : ℕ) (header : List ℕ) (line : Record
     → trace_said newest (ended (header ∷ map line rs)) ≡ Ok (record { version = version; records = rs })
 trace_said-trace newest version header line rs says short unbroken all trace =
     trace_said-ended newest version header line rs says short unbroken (AllByRecursion-from _ rs all)
-        trace.few_records trace.few_tasks
+    trace.few_records trace.few_tasks
 
 -- ---- the line of a value
 

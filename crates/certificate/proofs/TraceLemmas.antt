@@ -26,7 +26,7 @@ use Rattle.certificate.proofs.RecordLemmas.{ok_not_err, both-first, both-second}
 
 -- ---- causes
 
-pub same_cause : {X : Type 0} (e f : ReadCause) → ◌≡◌ { A = Result X ReadCause } (Err e) (Err f)
+pub same_cause : {X : Type 0} (e f : ReadCause) → ◌≡◌ {A = Result X ReadCause} (Err e) (Err f)
     → IsTextCause f → IsTextCause e
 same_cause e f h is = let same : f ≡ e = cc in subst (λ (c : ReadCause). IsTextCause c) same is
 
@@ -38,15 +38,15 @@ with_record-cause version before (Some d) e h = by_members (unbounded version d)
     by_members : (o : Option Record) → Err e ≡ with_record before (bounded record_fits o) → IsTextCause e
     by_members None h = same_cause e Field h tt
     by_members (Some r) h =
-        elim (record_fits r) as (λ b. Err e ≡ with_record before (cond b (Ok r) (Err Limit)) → IsTextCause e)
-            [
+        elim (record_fits r) as
+        (λ b. Err e ≡ with_record before (cond b (Ok r) (Err Limit)) → IsTextCause e) [
           | true ↦ λ fits.
               let more : TraceView = record {
                 version = before.version;
                 records = before.records ++ r ∷ [];
               } in
-              elim (has_room before.records r) as (λ b. Err e ≡ cond b (Ok more) (Err Limit) → IsTextCause e)
-                  [
+              elim (has_room before.records r) as
+              (λ b. Err e ≡ cond b (Ok more) (Err Limit) → IsTextCause e) [
                 | true ↦ λ kept. absurd (ok_not_err _ e (sym kept))
                 | false ↦ λ full. same_cause e Limit full tt
               ] fits
@@ -60,11 +60,11 @@ with_header-cause (Some version) e h = absurd (ok_not_err _ e (sym h))
 pub traces-text_causes : (newest : ℕ) → HasTextCauses (traces newest)
 traces-text_causes newest n before line e h =
     elim (n == 1) as
-        (λ b.
-            Err e
-                ≡ cond b (with_header (header_says newest line))
-                    (with_record before (line_says before.version line))
-                → IsTextCause e) [
+    (λ b.
+    Err e
+    ≡ cond b (with_header (header_says newest line))
+    (with_record before (line_says before.version line))
+    → IsTextCause e) [
       | true ↦ λ first. with_header-cause (option_and_then (version_in newest) (value_of line)) e first
       | false ↦ λ later. with_record-cause before.version before (value_of line) e later
     ] h
@@ -102,14 +102,14 @@ with_record-grows before after (Err e) h = absurd (ok_not_err _ e h)
 with_record-grows before after (Ok r) h =
     let more : TraceView = record { version = before.version; records = before.records ++ r ∷ [] } in
     elim (has_room before.records r) as
-        (λ b.
-            has_room before.records r ≡ b → Ok after ≡ cond b (Ok more) (Err Limit)
-                → (length after.records ≡ length before.records + 1) × (length before.records < max_records))
-        [
+    (λ b.
+    has_room before.records r ≡ b → Ok after ≡ cond b (Ok more) (Err Limit)
+    → (length after.records ≡ length before.records + 1) × (length before.records < max_records)) [
       | true ↦ λ room same.
-          let is : after ≡ more = cc in
-          (ap (λ (t : TraceView). length t.records) is ∙ length-append before.records (r ∷ []),
-              ltb-true _ _ (both-first _ _ room))
+          let is : after ≡ more = cc in (
+            ap (λ (t : TraceView). length t.records) is ∙ length-append before.records (r ∷ []),
+            ltb-true _ _ (both-first _ _ room),
+          )
       | false ↦ λ _ full. absurd (ok_not_err _ Limit full)
     ] refl h
 
@@ -125,12 +125,12 @@ pub Grows-text : (newest n : ℕ) (before after : TraceView) (line : List ℕ)
     → Ok after ≡ text_adds newest n before line → Grows n before.records after.records
 Grows-text newest n before after line h =
     elim (n == 1) as
-        (λ b.
-            n == 1 ≡ b
-                → Ok after
-                    ≡ cond b (with_header (header_says newest line))
-                        (with_record before (line_says before.version line))
-                → Grows n before.records after.records) [
+    (λ b.
+    n == 1 ≡ b
+    → Ok after
+    ≡ cond b (with_header (header_says newest line))
+    (with_record before (line_says before.version line))
+    → Grows n before.records after.records) [
       | true ↦
           λ is first. record {
             one = rw is (with_header-empty after (header_says newest line) first);
@@ -146,9 +146,9 @@ pub Grows-counted : {X : Type 0} (n : ℕ) (old new : List X) → 1 ≤ n → le
     → length old ≤ max_records → Grows n old new → (length new ≡ n + 1 - 2) × (length new ≤ max_records)
 Grows-counted n old new low counted room grows =
     elim (n == 1) as
-        (λ b.
-            n == 1 ≡ b → length new ≡ cond b 0 (length old + 1)
-                → (length new ≡ n + 1 - 2) × (length new ≤ max_records)) [
+    (λ b.
+    n == 1 ≡ b → length new ≡ cond b 0 (length old + 1)
+    → (length new ≡ n + 1 - 2) × (length new ≤ max_records)) [
       | true ↦ λ is one. let first : n ≡ 1 = eqb-true n 1 is in (omega arith, omega arith)
       | false ↦ λ is one.
           let later : n ≢ 1 = λ same. (let h : true ≡ false = sym (eq-eqb n 1 same) ∙ is in cc) in
@@ -165,9 +165,9 @@ header_says-range newest line version says = by_value (value_of line) says
     by_taken : (n : ℕ) → version_read newest n ≡ Some version → (1 ≤ version) × (version ≤ newest)
     by_taken n e =
         elim (nat_le 1 n && nat_le n newest) as
-            (λ b.
-                nat_le 1 n && nat_le n newest ≡ b → cond b (Some n) None ≡ Some version
-                    → (1 ≤ version) × (version ≤ newest)) [
+        (λ b.
+        nat_le 1 n && nat_le n newest ≡ b → cond b (Some n) None ≡ Some version
+        → (1 ≤ version) × (version ≤ newest)) [
           | true ↦ λ range same.
               let is : n ≡ version = cc in
               let low : 1 ≤ n = leb-true 1 n (both-first (nat_le 1 n) (nat_le n newest) range) in
@@ -179,13 +179,13 @@ header_says-range newest line version says = by_value (value_of line) says
     by_object : (d : Data) → version_in newest d ≡ Some version → (1 ≤ version) × (version ≤ newest)
     by_object d e =
         elim (names_format d) as
-            (λ b.
-                cond b (option_and_then (version_read newest) (whole member.version d)) None ≡ Some version
-                    → (1 ≤ version) × (version ≤ newest)) [
+        (λ b.
+        cond b (option_and_then (version_read newest) (whole member.version d)) None ≡ Some version
+        → (1 ≤ version) × (version ≤ newest)) [
           | true ↦
               λ named.
-                  option_and_then_some (version_read newest) (whole member.version d) version named
-                      (λ n _ is. by_taken n is)
+              option_and_then_some (version_read newest) (whole member.version d) version named
+              (λ n _ is. by_taken n is)
           | false ↦ λ other. absurd (none-some version other)
         ] e
 
@@ -230,8 +230,8 @@ with_record-version before after (Ok r) is = by (has_room before.records r) is
   where
     by : (b : Bool)
         → Ok after
-            ≡ cond b (Ok (record { version = before.version; records = before.records ++ r ∷ [] }))
-                (Err Limit)
+        ≡ cond b (Ok (record { version = before.version; records = before.records ++ r ∷ [] }))
+        (Err Limit)
         → after.version ≡ before.version
     by true e =
         let same : after ≡ record { version = before.version; records = before.records ++ r ∷ [] } = cc in
@@ -244,8 +244,8 @@ version-text newest n before after line h low = by (n == 1) h
   where
     by : (b : Bool)
         → Ok after
-            ≡ cond b (with_header (header_says newest line))
-                (with_record before (line_says before.version line))
+        ≡ cond b (with_header (header_says newest line))
+        (with_record before (line_says before.version line))
         → after.version ≤ newest
     by true e = with_header-version newest after line e
     by false e =

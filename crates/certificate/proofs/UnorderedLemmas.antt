@@ -54,9 +54,10 @@ use Rattle.certificate.proofs.TextLemmas.{wholes-items_of}
 AreRows-put : (k : List ℕ) (d : Data) (ms : Members) (rs : List (List ℕ × Option Data)) → AreRows ms rs
     → AreRows (put k d ms) (with_row k d rs)
 AreRows-put k d ms [] all = tt
-AreRows-put k d ms (row ∷ rs) all =
-    (get_member-put_either row.0 k d ms ∙ ap (cond (bytes_eq k row.0) (Some d)) all.0,
-        AreRows-put k d ms rs all.1)
+AreRows-put k d ms (row ∷ rs) all = (
+  get_member-put_either row.0 k d ms ∙ ap (cond (bytes_eq k row.0) (Some d)) all.0,
+  AreRows-put k d ms rs all.1,
+)
 
 puts-more : (ms : Members) (k : List ℕ) (d : Data) (found : Members)
     → puts (followed ms (member k d no_members)) found ≡ put k d (puts ms found)
@@ -104,16 +105,16 @@ IsMet-more before after later start rest front behind met comma one =
     let ms = met.members in
     let text = quoted one.name ++ 58 ∷ compact_text one.value in
     let grown : AreRows (put one.name one.value (puts ms no_members)) after =
-        (rw one.added (AreRows-put one.name one.value (puts ms no_members) before met.are)) in
+    (rw one.added (AreRows-put one.name one.value (puts ms no_members) before met.are)) in
     record {
       members = followed ms (member one.name one.value no_members);
       done = met.done ++ (comma_if later ++ text);
       takes =
           Takes-both start rest behind met.done (comma_if later ++ text) met.takes
-              (Takes-both rest front behind (comma_if later) text comma one.takes);
+          (Takes-both rest front behind (comma_if later) text comma one.takes);
       whole = λ tail.
           member-more (comma_if later) (quoted one.name) (compact_text one.value) met.done
-              (members_text true tail)
+          (members_text true tail)
           ∙ met.whole (member one.name one.value tail)
           ∙ ap (λ more. 123 ∷ members_text false more) (sym (followed-more ms one.name one.value tail));
       plain = plain-more ms one.name one.value 2 met.plain one.plain_name one.plain;
@@ -126,7 +127,7 @@ pub IsFound-end : (rs : List (List ℕ × Option Data)) (later : Bool) (line res
 IsFound-end rs later line rest met last =
     let text : line ≡ compact_text (object met.members) =
     met.takes.is ∙ ap (λ bytes. met.done ++ bytes) last.is ∙ met.whole no_members
-        ∙ ap (λ ms. 123 ∷ members_text false ms) (followed-none met.members) in
+    ∙ ap (λ ms. 123 ∷ members_text false ms) (followed-none met.members) in
     record {
       members = puts met.members no_members;
       value = ap value_of text ∙ value_of-members met.members 2 met.plain (omega arith);
@@ -140,7 +141,7 @@ pub line_says-found : (version : ℕ) (line : List ℕ) (rs : List (List ℕ × 
     → line_says version line ≡ Ok r
 line_says-found version line rs r found makes range sound =
     ap (said_of version) found.value ∙ ap (bounded record_fits) (makes found.members found.are sound)
-        ∙ ap (λ b. cond b (Ok r) (Err Limit)) (fits r range sound.0)
+    ∙ ap (λ b. cond b (Ok r) (Err Limit)) (fits r range sound.0)
 
 pub makes-task_create : (version : ℕ) (f : Found) (thread : ℕ) (seq : ℕ) (seen : ℕ) (child : ℕ) (deps : Bool)
     (flags : TaskFlags) (task : ℕ)
@@ -154,29 +155,37 @@ pub makes-task_create : (version : ℕ) (f : Found) (thread : ℕ) (seq : ℕ) (
     })
 unfolding unbounded body_named task_create
 makes-task_create version f thread seq seen child deps flags task is_callback is_thread is_seq is_seen
-        is_child is_deps is_flags is_task =
+    is_child is_deps is_flags is_task =
     λ ms are sound.
     let g_thread : get_member name.thread ms ≡ Some (whole_number thread) =
-        are.1.0 ∙ ap (option_map whole_number) is_thread in
+    are.1.0 ∙ ap (option_map whole_number) is_thread in
     let g_seq : get_member name.seq ms ≡ Some (whole_number seq) =
-        are.1.1.0 ∙ ap (option_map whole_number) is_seq in
+    are.1.1.0 ∙ ap (option_map whole_number) is_seq in
     let g_seen : get_member name.seen ms ≡ Some (whole_number seen) =
-        are.1.1.1.0 ∙ ap (option_map whole_number) is_seen in
+    are.1.1.1.0 ∙ ap (option_map whole_number) is_seen in
     let g_callback : get_member name.cb ms ≡ Some (string callback.task_create) =
-        are.0 ∙ ap (option_map (λ (c : Callback). string (callback_name c))) is_callback in
+    are.0 ∙ ap (option_map (λ (c : Callback). string (callback_name c))) is_callback in
     let g_deps : get_member name.deps ms ≡ Some (boolean deps) =
-        are.1.1.1.1.1.1.0 ∙ ap (option_map boolean) is_deps in
+    are.1.1.1.1.1.1.0 ∙ ap (option_map boolean) is_deps in
     let g_flags : get_member name.flags ms ≡ Some (names (flag_names table.task_flags flags.0)) =
-        are.1.1.1.1.1.1.1.0
-            ∙ ap (option_map (λ (bits : TaskFlags). names (flag_names table.task_flags bits.0))) is_flags in
+    are.1.1.1.1.1.1.1.0
+    ∙ ap (option_map (λ (bits : TaskFlags). names (flag_names table.task_flags bits.0))) is_flags in
     let g_task : get_member name.task ms ≡ Some (whole_number task) =
-        are.1.1.1.1.0 ∙ ap (option_map whole_number) is_task in
+    are.1.1.1.1.0 ∙ ap (option_map whole_number) is_task in
     let g_child : get_member name.child ms ≡ Some (whole_number child) =
-        are.1.1.1.1.1.0 ∙ ap (option_map whole_number) is_child in
-    rw
-        (g_thread, g_seq, g_seen, g_callback, g_deps, g_flags, g_task, g_child,
-            task_flags-read flags.0 sound.0.named_flags)
-        refl
+    are.1.1.1.1.1.0 ∙ ap (option_map whole_number) is_child in
+    rw (
+      g_thread,
+      g_seq,
+      g_seen,
+      g_callback,
+      g_deps,
+      g_flags,
+      g_task,
+      g_child,
+      task_flags-read flags.0 sound.0.named_flags,
+    )
+    refl
 
 -- the turns, where some are told, were found
 abbrev pub IsTold : Found → Option Turns → Type 0
@@ -194,55 +203,75 @@ pub makes-switching : (version : ℕ) (f : Found) (thread : ℕ) (seq : ℕ) (se
     })
 unfolding unbounded body_named task_schedule share turns both_turns
 makes-switching version f thread seq seen status None prior next is_callback is_thread is_seq is_seen
-        is_status is_prior is_next is_told =
+    is_status is_prior is_next is_told =
     λ ms are sound.
     let g_thread : get_member name.thread ms ≡ Some (whole_number thread) =
-        are.1.0 ∙ ap (option_map whole_number) is_thread in
+    are.1.0 ∙ ap (option_map whole_number) is_thread in
     let g_seq : get_member name.seq ms ≡ Some (whole_number seq) =
-        are.1.1.0 ∙ ap (option_map whole_number) is_seq in
+    are.1.1.0 ∙ ap (option_map whole_number) is_seq in
     let g_seen : get_member name.seen ms ≡ Some (whole_number seen) =
-        are.1.1.1.0 ∙ ap (option_map whole_number) is_seen in
+    are.1.1.1.0 ∙ ap (option_map whole_number) is_seen in
     let g_callback : get_member name.cb ms ≡ Some (string callback.task_schedule) =
-        are.0 ∙ ap (option_map (λ (c : Callback). string (callback_name c))) is_callback in
+    are.0 ∙ ap (option_map (λ (c : Callback). string (callback_name c))) is_callback in
     let g_status : get_member name.status ms ≡ Some (string (status_name status)) =
-        are.1.1.1.1.1.1.1.1.0 ∙ ap (option_map (λ (s : Status). string (status_name s))) is_status in
+    are.1.1.1.1.1.1.1.1.0 ∙ ap (option_map (λ (s : Status). string (status_name s))) is_status in
     let g_prior : get_member name.prior ms ≡ Some (whole_number prior) =
-        are.1.1.1.1.1.1.1.1.1.0 ∙ ap (option_map whole_number) is_prior in
+    are.1.1.1.1.1.1.1.1.1.0 ∙ ap (option_map whole_number) is_prior in
     let g_next : get_member name.next ms ≡ Some (number_or_null next) =
-        are.1.1.1.1.1.1.1.1.1.1.0 ∙ ap (option_map number_or_null) is_next in
-    rw
-        (g_thread, g_seq, g_seen, g_callback, g_status, g_prior, g_next, named-status status,
-            nullable-number_or_null next, next-read (demands_next status) next sound.0.next,
-            tells-turns version status None next sound.0.next sound.1,
-            sym (is_some-map (λ (part : Part). (prior, part)) (status_part status)) ∙ sym sound.0.claimed)
-        refl
+    are.1.1.1.1.1.1.1.1.1.1.0 ∙ ap (option_map number_or_null) is_next in
+    rw (
+      g_thread,
+      g_seq,
+      g_seen,
+      g_callback,
+      g_status,
+      g_prior,
+      g_next,
+      named-status status,
+      nullable-number_or_null next,
+      next-read (demands_next status) next sound.0.next,
+      tells-turns version status None next sound.0.next sound.1,
+      sym (is_some-map (λ (part : Part). (prior, part)) (status_part status)) ∙ sym sound.0.claimed,
+    )
+    refl
 makes-switching version f thread seq seen status (Some t) prior next is_callback is_thread is_seq is_seen
-        is_status is_prior is_next is_told =
+    is_status is_prior is_next is_told =
     λ ms are sound.
     let g_thread : get_member name.thread ms ≡ Some (whole_number thread) =
-        are.1.0 ∙ ap (option_map whole_number) is_thread in
+    are.1.0 ∙ ap (option_map whole_number) is_thread in
     let g_seq : get_member name.seq ms ≡ Some (whole_number seq) =
-        are.1.1.0 ∙ ap (option_map whole_number) is_seq in
+    are.1.1.0 ∙ ap (option_map whole_number) is_seq in
     let g_seen : get_member name.seen ms ≡ Some (whole_number seen) =
-        are.1.1.1.0 ∙ ap (option_map whole_number) is_seen in
+    are.1.1.1.0 ∙ ap (option_map whole_number) is_seen in
     let g_callback : get_member name.cb ms ≡ Some (string callback.task_schedule) =
-        are.0 ∙ ap (option_map (λ (c : Callback). string (callback_name c))) is_callback in
+    are.0 ∙ ap (option_map (λ (c : Callback). string (callback_name c))) is_callback in
     let g_status : get_member name.status ms ≡ Some (string (status_name status)) =
-        are.1.1.1.1.1.1.1.1.0 ∙ ap (option_map (λ (s : Status). string (status_name s))) is_status in
+    are.1.1.1.1.1.1.1.1.0 ∙ ap (option_map (λ (s : Status). string (status_name s))) is_status in
     let g_prior : get_member name.prior ms ≡ Some (whole_number prior) =
-        are.1.1.1.1.1.1.1.1.1.0 ∙ ap (option_map whole_number) is_prior in
+    are.1.1.1.1.1.1.1.1.1.0 ∙ ap (option_map whole_number) is_prior in
     let g_next : get_member name.next ms ≡ Some (number_or_null next) =
-        are.1.1.1.1.1.1.1.1.1.1.0 ∙ ap (option_map number_or_null) is_next in
+    are.1.1.1.1.1.1.1.1.1.1.0 ∙ ap (option_map number_or_null) is_next in
     let g_prior_turn : get_member name.prior_turn ms ≡ Some (whole_number t.prior) =
-        are.1.1.1.1.1.1.1.1.1.1.1.1.1.1.1.1.1.1.1.1.1.0 ∙ ap (option_map whole_number) is_told.0 in
+    are.1.1.1.1.1.1.1.1.1.1.1.1.1.1.1.1.1.1.1.1.1.0 ∙ ap (option_map whole_number) is_told.0 in
     let g_next_turn : get_member name.next_turn ms ≡ Some (whole_number t.next) =
-        are.1.1.1.1.1.1.1.1.1.1.1.1.1.1.1.1.1.1.1.1.1.1.0 ∙ ap (option_map whole_number) is_told.1 in
-    rw
-        (g_thread, g_seq, g_seen, g_callback, g_status, g_prior, g_next, named-status status,
-            nullable-number_or_null next, next-read (demands_next status) next sound.0.next,
-            tells-turns version status (Some t) next sound.0.next sound.1, g_prior_turn, g_next_turn,
-            sym (is_some-map (λ (part : Part). (prior, part)) (status_part status)) ∙ sym sound.0.claimed)
-        refl
+    are.1.1.1.1.1.1.1.1.1.1.1.1.1.1.1.1.1.1.1.1.1.1.0 ∙ ap (option_map whole_number) is_told.1 in
+    rw (
+      g_thread,
+      g_seq,
+      g_seen,
+      g_callback,
+      g_status,
+      g_prior,
+      g_next,
+      named-status status,
+      nullable-number_or_null next,
+      next-read (demands_next status) next sound.0.next,
+      tells-turns version status (Some t) next sound.0.next sound.1,
+      g_prior_turn,
+      g_next_turn,
+      sym (is_some-map (λ (part : Part). (prior, part)) (status_part status)) ∙ sym sound.0.claimed,
+    )
+    refl
 
 pub makes-finishing : (version : ℕ) (f : Found) (thread : ℕ) (seq : ℕ) (seen : ℕ) (status : Status)
     (told : Option Turns) (prior : ℕ) (next : Option ℕ) (kept : ℕ) (root : ℕ) (path : List ℕ)
@@ -258,73 +287,97 @@ pub makes-finishing : (version : ℕ) (f : Found) (thread : ℕ) (seq : ℕ) (se
     })
 unfolding unbounded body_named task_schedule share claim turns both_turns
 makes-finishing version f thread seq seen status None prior next kept root path is_callback is_thread is_seq
-        is_seen is_status is_prior is_next is_kept is_root is_path is_told =
+    is_seen is_status is_prior is_next is_kept is_root is_path is_told =
     λ ms are sound.
     let g_thread : get_member name.thread ms ≡ Some (whole_number thread) =
-        are.1.0 ∙ ap (option_map whole_number) is_thread in
+    are.1.0 ∙ ap (option_map whole_number) is_thread in
     let g_seq : get_member name.seq ms ≡ Some (whole_number seq) =
-        are.1.1.0 ∙ ap (option_map whole_number) is_seq in
+    are.1.1.0 ∙ ap (option_map whole_number) is_seq in
     let g_seen : get_member name.seen ms ≡ Some (whole_number seen) =
-        are.1.1.1.0 ∙ ap (option_map whole_number) is_seen in
+    are.1.1.1.0 ∙ ap (option_map whole_number) is_seen in
     let g_callback : get_member name.cb ms ≡ Some (string callback.task_schedule) =
-        are.0 ∙ ap (option_map (λ (c : Callback). string (callback_name c))) is_callback in
+    are.0 ∙ ap (option_map (λ (c : Callback). string (callback_name c))) is_callback in
     let g_status : get_member name.status ms ≡ Some (string (status_name status)) =
-        are.1.1.1.1.1.1.1.1.0 ∙ ap (option_map (λ (s : Status). string (status_name s))) is_status in
+    are.1.1.1.1.1.1.1.1.0 ∙ ap (option_map (λ (s : Status). string (status_name s))) is_status in
     let g_prior : get_member name.prior ms ≡ Some (whole_number prior) =
-        are.1.1.1.1.1.1.1.1.1.0 ∙ ap (option_map whole_number) is_prior in
+    are.1.1.1.1.1.1.1.1.1.0 ∙ ap (option_map whole_number) is_prior in
     let g_next : get_member name.next ms ≡ Some (number_or_null next) =
-        are.1.1.1.1.1.1.1.1.1.1.0 ∙ ap (option_map number_or_null) is_next in
+    are.1.1.1.1.1.1.1.1.1.1.0 ∙ ap (option_map number_or_null) is_next in
     let g_kept : get_member name.kept ms ≡ Some (whole_number kept) =
-        are.1.1.1.1.1.1.1.1.1.1.1.0 ∙ ap (option_map whole_number) is_kept in
+    are.1.1.1.1.1.1.1.1.1.1.1.0 ∙ ap (option_map whole_number) is_kept in
     let g_root : get_member name.root ms ≡ Some (whole_number root) =
-        are.1.1.1.1.1.1.1.1.1.1.1.1.0 ∙ ap (option_map whole_number) is_root in
+    are.1.1.1.1.1.1.1.1.1.1.1.1.0 ∙ ap (option_map whole_number) is_root in
     let g_path : get_member name.path ms ≡ Some (array (items_of (map whole_number path))) =
-        are.1.1.1.1.1.1.1.1.1.1.1.1.1.0
-            ∙ ap (option_map (λ (ns : List ℕ). array (items_of (map whole_number ns)))) is_path in
-    rw
-        (g_thread, g_seq, g_seen, g_callback, g_status, g_prior, g_next, g_kept, g_root, g_path,
-            named-status status, nullable-number_or_null next,
-            next-read (demands_next status) next sound.0.next,
-            tells-turns version status None next sound.0.next sound.1,
-            sym (is_some-map (λ (part : Part). (prior, part)) (status_part status)) ∙ sym sound.0.claimed,
-            wholes-items_of path)
-        refl
+    are.1.1.1.1.1.1.1.1.1.1.1.1.1.0
+    ∙ ap (option_map (λ (ns : List ℕ). array (items_of (map whole_number ns)))) is_path in
+    rw (
+      g_thread,
+      g_seq,
+      g_seen,
+      g_callback,
+      g_status,
+      g_prior,
+      g_next,
+      g_kept,
+      g_root,
+      g_path,
+      named-status status,
+      nullable-number_or_null next,
+      next-read (demands_next status) next sound.0.next,
+      tells-turns version status None next sound.0.next sound.1,
+      sym (is_some-map (λ (part : Part). (prior, part)) (status_part status)) ∙ sym sound.0.claimed,
+      wholes-items_of path,
+    )
+    refl
 makes-finishing version f thread seq seen status (Some t) prior next kept root path is_callback is_thread
-        is_seq is_seen is_status is_prior is_next is_kept is_root is_path is_told =
+    is_seq is_seen is_status is_prior is_next is_kept is_root is_path is_told =
     λ ms are sound.
     let g_thread : get_member name.thread ms ≡ Some (whole_number thread) =
-        are.1.0 ∙ ap (option_map whole_number) is_thread in
+    are.1.0 ∙ ap (option_map whole_number) is_thread in
     let g_seq : get_member name.seq ms ≡ Some (whole_number seq) =
-        are.1.1.0 ∙ ap (option_map whole_number) is_seq in
+    are.1.1.0 ∙ ap (option_map whole_number) is_seq in
     let g_seen : get_member name.seen ms ≡ Some (whole_number seen) =
-        are.1.1.1.0 ∙ ap (option_map whole_number) is_seen in
+    are.1.1.1.0 ∙ ap (option_map whole_number) is_seen in
     let g_callback : get_member name.cb ms ≡ Some (string callback.task_schedule) =
-        are.0 ∙ ap (option_map (λ (c : Callback). string (callback_name c))) is_callback in
+    are.0 ∙ ap (option_map (λ (c : Callback). string (callback_name c))) is_callback in
     let g_status : get_member name.status ms ≡ Some (string (status_name status)) =
-        are.1.1.1.1.1.1.1.1.0 ∙ ap (option_map (λ (s : Status). string (status_name s))) is_status in
+    are.1.1.1.1.1.1.1.1.0 ∙ ap (option_map (λ (s : Status). string (status_name s))) is_status in
     let g_prior : get_member name.prior ms ≡ Some (whole_number prior) =
-        are.1.1.1.1.1.1.1.1.1.0 ∙ ap (option_map whole_number) is_prior in
+    are.1.1.1.1.1.1.1.1.1.0 ∙ ap (option_map whole_number) is_prior in
     let g_next : get_member name.next ms ≡ Some (number_or_null next) =
-        are.1.1.1.1.1.1.1.1.1.1.0 ∙ ap (option_map number_or_null) is_next in
+    are.1.1.1.1.1.1.1.1.1.1.0 ∙ ap (option_map number_or_null) is_next in
     let g_kept : get_member name.kept ms ≡ Some (whole_number kept) =
-        are.1.1.1.1.1.1.1.1.1.1.1.0 ∙ ap (option_map whole_number) is_kept in
+    are.1.1.1.1.1.1.1.1.1.1.1.0 ∙ ap (option_map whole_number) is_kept in
     let g_root : get_member name.root ms ≡ Some (whole_number root) =
-        are.1.1.1.1.1.1.1.1.1.1.1.1.0 ∙ ap (option_map whole_number) is_root in
+    are.1.1.1.1.1.1.1.1.1.1.1.1.0 ∙ ap (option_map whole_number) is_root in
     let g_path : get_member name.path ms ≡ Some (array (items_of (map whole_number path))) =
-        are.1.1.1.1.1.1.1.1.1.1.1.1.1.0
-            ∙ ap (option_map (λ (ns : List ℕ). array (items_of (map whole_number ns)))) is_path in
+    are.1.1.1.1.1.1.1.1.1.1.1.1.1.0
+    ∙ ap (option_map (λ (ns : List ℕ). array (items_of (map whole_number ns)))) is_path in
     let g_prior_turn : get_member name.prior_turn ms ≡ Some (whole_number t.prior) =
-        are.1.1.1.1.1.1.1.1.1.1.1.1.1.1.1.1.1.1.1.1.1.0 ∙ ap (option_map whole_number) is_told.0 in
+    are.1.1.1.1.1.1.1.1.1.1.1.1.1.1.1.1.1.1.1.1.1.0 ∙ ap (option_map whole_number) is_told.0 in
     let g_next_turn : get_member name.next_turn ms ≡ Some (whole_number t.next) =
-        are.1.1.1.1.1.1.1.1.1.1.1.1.1.1.1.1.1.1.1.1.1.1.0 ∙ ap (option_map whole_number) is_told.1 in
-    rw
-        (g_thread, g_seq, g_seen, g_callback, g_status, g_prior, g_next, g_kept, g_root, g_path,
-            named-status status, nullable-number_or_null next,
-            next-read (demands_next status) next sound.0.next,
-            tells-turns version status (Some t) next sound.0.next sound.1, g_prior_turn, g_next_turn,
-            sym (is_some-map (λ (part : Part). (prior, part)) (status_part status)) ∙ sym sound.0.claimed,
-            wholes-items_of path)
-        refl
+    are.1.1.1.1.1.1.1.1.1.1.1.1.1.1.1.1.1.1.1.1.1.1.0 ∙ ap (option_map whole_number) is_told.1 in
+    rw (
+      g_thread,
+      g_seq,
+      g_seen,
+      g_callback,
+      g_status,
+      g_prior,
+      g_next,
+      g_kept,
+      g_root,
+      g_path,
+      named-status status,
+      nullable-number_or_null next,
+      next-read (demands_next status) next sound.0.next,
+      tells-turns version status (Some t) next sound.0.next sound.1,
+      g_prior_turn,
+      g_next_turn,
+      sym (is_some-map (λ (part : Part). (prior, part)) (status_part status)) ∙ sym sound.0.claimed,
+      wholes-items_of path,
+    )
+    refl
 
 pub makes-sync_region : (version : ℕ) (f : Found) (thread : ℕ) (seq : ℕ) (seen : ℕ) (kind : SyncKind)
     (endpoint : Endpoint) (parallel : Option ℕ) (task : ℕ)
@@ -338,30 +391,40 @@ pub makes-sync_region : (version : ℕ) (f : Found) (thread : ℕ) (seq : ℕ) (
     })
 unfolding unbounded body_named sync_region
 makes-sync_region version f thread seq seen kind endpoint parallel task is_callback is_thread is_seq is_seen
-        is_kind is_endpoint is_parallel is_task =
+    is_kind is_endpoint is_parallel is_task =
     λ ms are sound.
     let g_thread : get_member name.thread ms ≡ Some (whole_number thread) =
-        are.1.0 ∙ ap (option_map whole_number) is_thread in
+    are.1.0 ∙ ap (option_map whole_number) is_thread in
     let g_seq : get_member name.seq ms ≡ Some (whole_number seq) =
-        are.1.1.0 ∙ ap (option_map whole_number) is_seq in
+    are.1.1.0 ∙ ap (option_map whole_number) is_seq in
     let g_seen : get_member name.seen ms ≡ Some (whole_number seen) =
-        are.1.1.1.0 ∙ ap (option_map whole_number) is_seen in
+    are.1.1.1.0 ∙ ap (option_map whole_number) is_seen in
     let g_callback : get_member name.cb ms ≡ Some (string callback.sync_region) =
-        are.0 ∙ ap (option_map (λ (c : Callback). string (callback_name c))) is_callback in
+    are.0 ∙ ap (option_map (λ (c : Callback). string (callback_name c))) is_callback in
     let g_kind : get_member name.kind ms ≡ Some (string (sync_kind_name kind)) =
-        are.1.1.1.1.1.1.1.1.1.1.1.1.1.1.0
-            ∙ ap (option_map (λ (k : SyncKind). string (sync_kind_name k))) is_kind in
+    are.1.1.1.1.1.1.1.1.1.1.1.1.1.1.0
+    ∙ ap (option_map (λ (k : SyncKind). string (sync_kind_name k))) is_kind in
     let g_endpoint : get_member name.endpoint ms ≡ Some (string (endpoint_name endpoint)) =
-        are.1.1.1.1.1.1.1.1.1.1.1.1.1.1.1.0
-            ∙ ap (option_map (λ (e : Endpoint). string (endpoint_name e))) is_endpoint in
+    are.1.1.1.1.1.1.1.1.1.1.1.1.1.1.1.0
+    ∙ ap (option_map (λ (e : Endpoint). string (endpoint_name e))) is_endpoint in
     let g_parallel : get_member name.parallel ms ≡ Some (number_or_null parallel) =
-        are.1.1.1.1.1.1.1.1.1.1.1.1.1.1.1.1.0 ∙ ap (option_map number_or_null) is_parallel in
+    are.1.1.1.1.1.1.1.1.1.1.1.1.1.1.1.1.0 ∙ ap (option_map number_or_null) is_parallel in
     let g_task : get_member name.task ms ≡ Some (whole_number task) =
-        are.1.1.1.1.0 ∙ ap (option_map whole_number) is_task in
-    rw
-        (g_thread, g_seq, g_seen, g_callback, g_kind, g_endpoint, g_parallel, g_task, named-sync_kind kind,
-            named-endpoint endpoint, nullable-number_or_null parallel)
-        refl
+    are.1.1.1.1.0 ∙ ap (option_map whole_number) is_task in
+    rw (
+      g_thread,
+      g_seq,
+      g_seen,
+      g_callback,
+      g_kind,
+      g_endpoint,
+      g_parallel,
+      g_task,
+      named-sync_kind kind,
+      named-endpoint endpoint,
+      nullable-number_or_null parallel,
+    )
+    refl
 
 one-end : (e : Endpoint) (actual index : ℕ) (flags : TaskFlags) (parallel task : ℕ)
     → IsSound (body.ImplicitTask e actual index flags parallel task) → not_both e ≡ Some e
@@ -381,22 +444,22 @@ pub makes-parallel_begin : (version : ℕ) (f : Found) (thread : ℕ) (seq : ℕ
     })
 unfolding unbounded body_named parallel_begin
 makes-parallel_begin version f thread seq seen requested task parallel is_callback is_thread is_seq is_seen
-        is_requested is_task is_parallel =
+    is_requested is_task is_parallel =
     λ ms are sound.
     let g_thread : get_member name.thread ms ≡ Some (whole_number thread) =
-        are.1.0 ∙ ap (option_map whole_number) is_thread in
+    are.1.0 ∙ ap (option_map whole_number) is_thread in
     let g_seq : get_member name.seq ms ≡ Some (whole_number seq) =
-        are.1.1.0 ∙ ap (option_map whole_number) is_seq in
+    are.1.1.0 ∙ ap (option_map whole_number) is_seq in
     let g_seen : get_member name.seen ms ≡ Some (whole_number seen) =
-        are.1.1.1.0 ∙ ap (option_map whole_number) is_seen in
+    are.1.1.1.0 ∙ ap (option_map whole_number) is_seen in
     let g_callback : get_member name.cb ms ≡ Some (string callback.parallel_begin) =
-        are.0 ∙ ap (option_map (λ (c : Callback). string (callback_name c))) is_callback in
+    are.0 ∙ ap (option_map (λ (c : Callback). string (callback_name c))) is_callback in
     let g_requested : get_member name.requested ms ≡ Some (whole_number requested) =
-        are.1.1.1.1.1.1.1.1.1.1.1.1.1.1.1.1.1.0 ∙ ap (option_map whole_number) is_requested in
+    are.1.1.1.1.1.1.1.1.1.1.1.1.1.1.1.1.1.0 ∙ ap (option_map whole_number) is_requested in
     let g_task : get_member name.task ms ≡ Some (whole_number task) =
-        are.1.1.1.1.0 ∙ ap (option_map whole_number) is_task in
+    are.1.1.1.1.0 ∙ ap (option_map whole_number) is_task in
     let g_parallel : get_member name.parallel ms ≡ Some (whole_number parallel) =
-        are.1.1.1.1.1.1.1.1.1.1.1.1.1.1.1.1.0 ∙ ap (option_map number_or_null) is_parallel in
+    are.1.1.1.1.1.1.1.1.1.1.1.1.1.1.1.1.0 ∙ ap (option_map number_or_null) is_parallel in
     rw (g_thread, g_seq, g_seen, g_callback, g_requested, g_task, g_parallel) refl
 
 pub makes-parallel_end : (version : ℕ) (f : Found) (thread : ℕ) (seq : ℕ) (seen : ℕ) (task : ℕ) (parallel : ℕ)
@@ -410,20 +473,20 @@ pub makes-parallel_end : (version : ℕ) (f : Found) (thread : ℕ) (seq : ℕ) 
     })
 unfolding unbounded body_named parallel_end
 makes-parallel_end version f thread seq seen task parallel is_callback is_thread is_seq is_seen is_task
-        is_parallel =
+    is_parallel =
     λ ms are sound.
     let g_thread : get_member name.thread ms ≡ Some (whole_number thread) =
-        are.1.0 ∙ ap (option_map whole_number) is_thread in
+    are.1.0 ∙ ap (option_map whole_number) is_thread in
     let g_seq : get_member name.seq ms ≡ Some (whole_number seq) =
-        are.1.1.0 ∙ ap (option_map whole_number) is_seq in
+    are.1.1.0 ∙ ap (option_map whole_number) is_seq in
     let g_seen : get_member name.seen ms ≡ Some (whole_number seen) =
-        are.1.1.1.0 ∙ ap (option_map whole_number) is_seen in
+    are.1.1.1.0 ∙ ap (option_map whole_number) is_seen in
     let g_callback : get_member name.cb ms ≡ Some (string callback.parallel_end) =
-        are.0 ∙ ap (option_map (λ (c : Callback). string (callback_name c))) is_callback in
+    are.0 ∙ ap (option_map (λ (c : Callback). string (callback_name c))) is_callback in
     let g_task : get_member name.task ms ≡ Some (whole_number task) =
-        are.1.1.1.1.0 ∙ ap (option_map whole_number) is_task in
+    are.1.1.1.1.0 ∙ ap (option_map whole_number) is_task in
     let g_parallel : get_member name.parallel ms ≡ Some (whole_number parallel) =
-        are.1.1.1.1.1.1.1.1.1.1.1.1.1.1.1.1.0 ∙ ap (option_map number_or_null) is_parallel in
+    are.1.1.1.1.1.1.1.1.1.1.1.1.1.1.1.1.0 ∙ ap (option_map number_or_null) is_parallel in
     rw (g_thread, g_seq, g_seen, g_callback, g_task, g_parallel) refl
 
 pub makes-implicit_task : (version : ℕ) (f : Found) (thread : ℕ) (seq : ℕ) (seen : ℕ) (endpoint : Endpoint)
@@ -439,35 +502,46 @@ pub makes-implicit_task : (version : ℕ) (f : Found) (thread : ℕ) (seq : ℕ)
     })
 unfolding unbounded body_named implicit_task
 makes-implicit_task version f thread seq seen endpoint actual index flags parallel task is_callback is_thread
-        is_seq is_seen is_endpoint is_actual is_index is_flags is_parallel is_task =
+    is_seq is_seen is_endpoint is_actual is_index is_flags is_parallel is_task =
     λ ms are sound.
     let g_thread : get_member name.thread ms ≡ Some (whole_number thread) =
-        are.1.0 ∙ ap (option_map whole_number) is_thread in
+    are.1.0 ∙ ap (option_map whole_number) is_thread in
     let g_seq : get_member name.seq ms ≡ Some (whole_number seq) =
-        are.1.1.0 ∙ ap (option_map whole_number) is_seq in
+    are.1.1.0 ∙ ap (option_map whole_number) is_seq in
     let g_seen : get_member name.seen ms ≡ Some (whole_number seen) =
-        are.1.1.1.0 ∙ ap (option_map whole_number) is_seen in
+    are.1.1.1.0 ∙ ap (option_map whole_number) is_seen in
     let g_callback : get_member name.cb ms ≡ Some (string callback.implicit_task) =
-        are.0 ∙ ap (option_map (λ (c : Callback). string (callback_name c))) is_callback in
+    are.0 ∙ ap (option_map (λ (c : Callback). string (callback_name c))) is_callback in
     let g_endpoint : get_member name.endpoint ms ≡ Some (string (endpoint_name endpoint)) =
-        are.1.1.1.1.1.1.1.1.1.1.1.1.1.1.1.0
-            ∙ ap (option_map (λ (e : Endpoint). string (endpoint_name e))) is_endpoint in
+    are.1.1.1.1.1.1.1.1.1.1.1.1.1.1.1.0
+    ∙ ap (option_map (λ (e : Endpoint). string (endpoint_name e))) is_endpoint in
     let g_actual : get_member name.actual ms ≡ Some (whole_number actual) =
-        are.1.1.1.1.1.1.1.1.1.1.1.1.1.1.1.1.1.1.0 ∙ ap (option_map whole_number) is_actual in
+    are.1.1.1.1.1.1.1.1.1.1.1.1.1.1.1.1.1.1.0 ∙ ap (option_map whole_number) is_actual in
     let g_index : get_member name.index ms ≡ Some (whole_number index) =
-        are.1.1.1.1.1.1.1.1.1.1.1.1.1.1.1.1.1.1.1.0 ∙ ap (option_map whole_number) is_index in
+    are.1.1.1.1.1.1.1.1.1.1.1.1.1.1.1.1.1.1.1.0 ∙ ap (option_map whole_number) is_index in
     let g_flags : get_member name.flags ms ≡ Some (names (flag_names table.task_flags flags.0)) =
-        are.1.1.1.1.1.1.1.0
-            ∙ ap (option_map (λ (bits : TaskFlags). names (flag_names table.task_flags bits.0))) is_flags in
+    are.1.1.1.1.1.1.1.0
+    ∙ ap (option_map (λ (bits : TaskFlags). names (flag_names table.task_flags bits.0))) is_flags in
     let g_parallel : get_member name.parallel ms ≡ Some (whole_number parallel) =
-        are.1.1.1.1.1.1.1.1.1.1.1.1.1.1.1.1.0 ∙ ap (option_map number_or_null) is_parallel in
+    are.1.1.1.1.1.1.1.1.1.1.1.1.1.1.1.1.0 ∙ ap (option_map number_or_null) is_parallel in
     let g_task : get_member name.task ms ≡ Some (whole_number task) =
-        are.1.1.1.1.0 ∙ ap (option_map whole_number) is_task in
-    rw
-        (g_thread, g_seq, g_seen, g_callback, g_endpoint, g_actual, g_index, g_flags, g_parallel, g_task,
-            named-endpoint endpoint, one-end endpoint actual index flags parallel task sound.0,
-            task_flags-read flags.0 sound.0.named_flags)
-        refl
+    are.1.1.1.1.0 ∙ ap (option_map whole_number) is_task in
+    rw (
+      g_thread,
+      g_seq,
+      g_seen,
+      g_callback,
+      g_endpoint,
+      g_actual,
+      g_index,
+      g_flags,
+      g_parallel,
+      g_task,
+      named-endpoint endpoint,
+      one-end endpoint actual index flags parallel task sound.0,
+      task_flags-read flags.0 sound.0.named_flags,
+    )
+    refl
 
 pub makes-dependences : (version : ℕ) (f : Found) (thread : ℕ) (seq : ℕ) (seen : ℕ) (task : ℕ)
     (list : List Dep)
@@ -483,18 +557,18 @@ unfolding unbounded body_named dependences
 makes-dependences version f thread seq seen task list is_callback is_thread is_seq is_seen is_task is_list =
     λ ms are sound.
     let g_thread : get_member name.thread ms ≡ Some (whole_number thread) =
-        are.1.0 ∙ ap (option_map whole_number) is_thread in
+    are.1.0 ∙ ap (option_map whole_number) is_thread in
     let g_seq : get_member name.seq ms ≡ Some (whole_number seq) =
-        are.1.1.0 ∙ ap (option_map whole_number) is_seq in
+    are.1.1.0 ∙ ap (option_map whole_number) is_seq in
     let g_seen : get_member name.seen ms ≡ Some (whole_number seen) =
-        are.1.1.1.0 ∙ ap (option_map whole_number) is_seen in
+    are.1.1.1.0 ∙ ap (option_map whole_number) is_seen in
     let g_callback : get_member name.cb ms ≡ Some (string callback.dependences) =
-        are.0 ∙ ap (option_map (λ (c : Callback). string (callback_name c))) is_callback in
+    are.0 ∙ ap (option_map (λ (c : Callback). string (callback_name c))) is_callback in
     let g_task : get_member name.task ms ≡ Some (whole_number task) =
-        are.1.1.1.1.0 ∙ ap (option_map whole_number) is_task in
+    are.1.1.1.1.0 ∙ ap (option_map whole_number) is_task in
     let g_list : get_member name.list ms ≡ Some (array (items_of (map dep_data list))) =
-        are.1.1.1.1.1.1.1.1.1.1.1.1.1.1.1.1.1.1.1.1.0
-            ∙ ap (option_map (λ (ds : List Dep). array (items_of (map dep_data ds)))) is_list in
+    are.1.1.1.1.1.1.1.1.1.1.1.1.1.1.1.1.1.1.1.1.0
+    ∙ ap (option_map (λ (ds : List Dep). array (items_of (map dep_data ds)))) is_list in
     rw (g_thread, g_seq, g_seen, g_callback, g_task, g_list, deps-read list) refl
 
 pub plain-callback : (c : Callback) → is_plain_text (callback_name c) ≡ true

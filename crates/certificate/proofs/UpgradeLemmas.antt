@@ -31,7 +31,7 @@ get_here : {X : Type 0} (xs : List X) (i : ℕ) (y : X) → i < length xs
 get_here xs i y within =
     let long = length-set xs i y in
     slice_get-get_or (slice_set xs i y) i y (omega (arith, within, long))
-        ∙ ap Some (get_or-set_same xs i y y within)
+    ∙ ap Some (get_or-set_same xs i y y within)
 
 get_there : {X : Type 0} (xs : List X) (i j : ℕ) (y : X) → j ≢ i
     → slice_get (slice_set xs i y) j ≡ slice_get xs j
@@ -40,7 +40,7 @@ get_there xs i j y apart =
     elim (cases_lt j (length xs)) [
       | inl within ↦
           slice_get-get_or (slice_set xs i y) j y (omega (arith, within, long))
-              ∙ ap Some (get_or-set_other xs i j y y apart) ∙ sym (slice_get-get_or xs j y within)
+          ∙ ap Some (get_or-set_other xs i j y y apart) ∙ sym (slice_get-get_or xs j y within)
       | inr past ↦
           slice_get_past (slice_set xs i y) j (omega (arith, past, long)) ∙ sym (slice_get_past xs j past)
     ]
@@ -49,18 +49,18 @@ get_there xs i j y apart =
 turn_by : List Record → Record → ℕ
 turn_by before r =
     option_map_or (λ task. turn_in task (filter (λ (q : Record). q.thread == r.thread) before))
-        (running r.body) 0
+    (running r.body) 0
 
 -- a later record changes none
 same_turn : (now : List Record) (n i : ℕ) (s : Record) → i < n → turn_at (slice_set now n s) i ≡ turn_at now i
 unfolding turn_by
 same_turn now n i s below =
     ap
-        (λ (xs : List Record).
-            option_map_or (λ (r : Record). turn_by xs r) (slice_get (slice_set now n s) i) 0)
-        (take-set-le i now n s (omega (arith, below)))
+    (λ (xs : List Record).
+    option_map_or (λ (r : Record). turn_by xs r) (slice_get (slice_set now n s) i) 0)
+    (take-set-le i now n s (omega (arith, below)))
     ∙ ap (λ (o : Option Record). option_map_or (λ (r : Record). turn_by (take i now) r) o 0)
-        (get_there now n i s (λ same. absurd (omega (arith, below, same))))
+    (get_there now n i s (λ same. absurd (omega (arith, below, same))))
 
 -- the turn of a record after which a task runs is that which is noted
 turn_here : (now : List Record) (n prior : ℕ) (s : Record) (table : BTreeMap ℕ TaskTurns) → n < length now
@@ -69,13 +69,13 @@ turn_here : (now : List Record) (n prior : ℕ) (s : Record) (table : BTreeMap �
 unfolding turn_by
 turn_here now n prior s table within ended runs =
     ap (λ (o : Option Record). option_map_or (λ (r : Record). turn_by (take n (slice_set now n s)) r) o 0)
-        (get_here now n s within)
+    (get_here now n s within)
     ∙ ap (λ (xs : List Record). turn_by xs s) (take-set now n s)
     ∙ ap
-        (λ (o : Option ℕ).
-            option_map_or (λ task. turn_in task (filter (λ (q : Record). q.thread == s.thread) (take n now)))
-                o 0)
-        runs
+    (λ (o : Option ℕ).
+    option_map_or (λ task. turn_in task (filter (λ (q : Record). q.thread == s.thread) (take n now)))
+    o 0)
+    runs
     ∙ ended prior s.thread
 
 -- ---- one record
@@ -98,42 +98,42 @@ told_is old now n r table within are ended sound = by r.body refl
           next = (noted table next).next;
         } in
         let said : told_by table r ≡ with_body r (TaskSchedule status (Some turns) prior (Some next) share) =
-            ap
-                (λ (b : Body).
-                    option_map_or (λ (t : Turns). with_body r (telling t b)) (turns_told table r.thread b) r)
-                is in
+        ap
+        (λ (b : Body).
+        option_map_or (λ (t : Turns). with_body r (telling t b)) (turns_told table r.thread b) r)
+        is in
         let was : IsSound (TaskSchedule status before prior (Some next) share) = subst IsSound is sound in
         let runs : running (told_by table r).body ≡ Some prior =
-            ap (λ (q : Record). running q.body) said
-                ∙ ap (λ b. if b then Some prior else None) (sym was.next) in
+        ap (λ (q : Record). running q.body) said
+        ∙ ap (λ b. if b then Some prior else None) (sym was.next) in
         let thread : (told_by table r).thread ≡ r.thread = ap (λ (q : Record). q.thread) said in
         let ends : turn_at (slice_set now n (told_by table r)) n ≡ turn_ended (noted table prior) r.thread =
-            turn_here now n prior (told_by table r) table within ended runs
-                ∙ ap (turn_ended (noted table prior)) thread in
+        turn_here now n prior (told_by table r) table within ended runs
+        ∙ ap (turn_ended (noted table prior)) thread in
         said
         ∙ ap
-            (λ t.
-                with_body r
-                    (TaskSchedule status (Some (record { prior = t; next = (noted table next).next })) prior
-                        (Some next) share))
-            (sym ends)
+        (λ t.
+        with_body r
+        (TaskSchedule status (Some (record { prior = t; next = (noted table next).next })) prior
+        (Some next) share))
+        (sym ends)
         ∙ ap
-            (λ t.
-                with_body r
-                    (TaskSchedule status
-                        (Some (record { prior = turn_at (slice_set now n (told_by table r)) n; next = t }))
-                        prior (Some next) share))
-            (are.next next)
+        (λ t.
+        with_body r
+        (TaskSchedule status
+        (Some (record { prior = turn_at (slice_set now n (told_by table r)) n; next = t }))
+        prior (Some next) share))
+        (are.next next)
     by (TaskSchedule status before prior None share) is =
         ap
-            (λ (b : Body).
-                option_map_or (λ (t : Turns). with_body r (telling t b)) (turns_told table r.thread b) r) is
-            ∙ ap (with_body r) is
+        (λ (b : Body).
+        option_map_or (λ (t : Turns). with_body r (telling t b)) (turns_told table r.thread b) r) is
+        ∙ ap (with_body r) is
     by _ is =
         ap
-            (λ (b : Body).
-                option_map_or (λ (t : Turns). with_body r (telling t b)) (turns_told table r.thread b) r) is
-            ∙ ap (with_body r) is
+        (λ (b : Body).
+        option_map_or (λ (t : Turns). with_body r (telling t b)) (turns_told table r.thread b) r) is
+        ∙ ap (with_body r) is
 
 ended_few : (t : TaskTurns) (thread : ℕ) → turn_ended t thread ≤ t.next
 ended_few t thread = by (option_map_or (λ home. home == thread) t.home false)
@@ -155,11 +155,11 @@ told_in_range old n r table short few are in_range = by r.body refl
 
     by : (body : Body) → r.body ≡ body
         → IsInRange
-            (option_map_or (λ (turns : Turns). with_body r (telling turns body))
-                (turns_told table r.thread body) r)
+        (option_map_or (λ (turns : Turns). with_body r (telling turns body))
+        (turns_told table r.thread body) r)
     by (TaskSchedule status before prior (Some next) share) is =
         let range : BodyInRange (TaskSchedule status before prior (Some next) share) =
-            subst BodyInRange is in_range.body in
+        subst BodyInRange is in_range.body in
         let ended = ended_few (noted table prior) r.thread in
         let last = small prior in
         record {
@@ -188,44 +188,44 @@ upgraded_more old now n r table stands few sound are ended before =
         | inl same ↦
             let alike : r ≡ q = same_Some r q (sym stands ∙ ap (slice_get old) (sym same) ∙ is) in
             let here : slice_get (slice_set now n s) n
-                    ≡ Some (with_body r (body_upgraded old (slice_set now n s) n r.body)) =
-                get_here now n s within ∙ ap Some (told_is old now n r table within are ended sound) in
+            ≡ Some (with_body r (body_upgraded old (slice_set now n s) n r.body)) =
+            get_here now n s within ∙ ap Some (told_is old now n r table within are ended sound) in
             subst
-                (λ (x : Record).
-                    slice_get (slice_set now n s) i
-                        ≡ Some (with_body x (body_upgraded old (slice_set now n s) i x.body)))
-                alike
+            (λ (x : Record).
+            slice_get (slice_set now n s) i
+            ≡ Some (with_body x (body_upgraded old (slice_set now n s) i x.body)))
+            alike
             (subst
-                (λ k.
-                    slice_get (slice_set now n s) k
-                        ≡ Some (with_body r (body_upgraded old (slice_set now n s) k r.body)))
-                (sym same) here)
+            (λ k.
+            slice_get (slice_set now n s) k
+            ≡ Some (with_body r (body_upgraded old (slice_set now n s) k r.body)))
+            (sym same) here)
         | inr apart ↦
             let earlier : i < n = omega (arith, below, apart) in
             get_there now n i s apart
             ∙ before.each i q earlier is
             ∙ ap
-                (λ t.
-                    Some
-                        (with_body q
-                            (option_map_or
-                                (λ task.
-                                    telling (record { prior = t; next = turn_counted old i task }) q.body)
-                                (started q.body) q.body)))
-                (sym (same_turn now n i s earlier))
+            (λ t.
+            Some
+            (with_body q
+            (option_map_or
+            (λ task.
+            telling (record { prior = t; next = turn_counted old i task }) q.body)
+            (started q.body) q.body)))
+            (sym (same_turn now n i s earlier))
       ];
       rest =
           λ i past.
-              get_there now n i s (λ same. absurd (omega (arith, past, same)))
-                  ∙ before.rest i (omega (arith, past));
+          get_there now n i s (λ same. absurd (omega (arith, past, same)))
+          ∙ before.rest i (omega (arith, past));
       in_range = λ i q is. elim (cases_eq i n) [
         | inl same ↦
             let alike : s ≡ q =
-                same_Some s q
-                    (sym (get_here now n s within) ∙ ap (slice_get (slice_set now n s)) (sym same) ∙ is) in
+            same_Some s q
+            (sym (get_here now n s within) ∙ ap (slice_get (slice_set now n s)) (sym same) ∙ is) in
             subst IsInRange alike
-                (told_in_range old n r table (omega (arith, there)) few are
-                    (before.in_range n r (before.rest n (omega arith) ∙ stands)))
+            (told_in_range old n r table (omega (arith, there)) few are
+            (before.in_range n r (before.rest n (omega arith) ∙ stands)))
         | inr apart ↦ before.in_range i q (sym (get_there now n i s apart) ∙ is)
       ];
     }
@@ -236,10 +236,10 @@ upgraded_all old now n past up = record {
   all = up.all;
   each =
       λ i r stands.
-          up.each i r
-              (let within = slice_get_within old i r stands in
-               let many = up.all in omega (arith, within, many, past))
-              stands;
+      up.each i r
+      (let within = slice_get_within old i r stands in
+      let many = up.all in omega (arith, within, many, past))
+      stands;
 }
 
 -- ---- the trace
@@ -308,9 +308,9 @@ trace_of_two old new n trace past up = record {
         let within = slice_get_within old i r stands in
         let here = get_or_from_slice_get old i r r stands in
         let same : body_upgraded old new i r.body ≡ s.body =
-            ap (λ (q : Record). q.body)
-                (same_Some (with_body r (body_upgraded old new i r.body)) s
-                    (sym (upgrade.each i r stands) ∙ now)) in
+        ap (λ (q : Record). q.body)
+        (same_Some (with_body r (body_upgraded old new i r.body)) s
+        (sym (upgrade.each i r stands) ∙ now)) in
         subst (IsKeptAs r.body) same
         (kept_as (λ task. record { prior = turn_at new i; next = turn_counted old i task }) r.body
         (subst (λ (q : Record). IsSound q.body) here (trace.is_trace.sound i r within))
@@ -321,9 +321,9 @@ trace_of_two old new n trace past up = record {
     of i d within =
         let many = up.all in
         kept i (get_or old i d) (get_or new i d) (slice_get-get_or old i d (omega (arith, within, many)))
-            (slice_get-get_or new i d within)
+        (slice_get-get_or new i d within)
 
     same_tasks : tasks_in new ≡ tasks_in old
     same_tasks =
-        same_sum (λ (r : Record). cond { A = ℕ } (is_some (made r.body)) 1 0) old new up.all
-            (λ i x y there now. ap (λ b. cond { A = ℕ } b 1 0) (kept i x y there now).makes)
+        same_sum (λ (r : Record). cond {A = ℕ} (is_some (made r.body)) 1 0) old new up.all
+        (λ i x y there now. ap (λ b. cond {A = ℕ} b 1 0) (kept i x y there now).makes)

@@ -19,8 +19,8 @@ pub slice_range-skip : (xs : List ℕ) (s e n : ℕ) → s + n ≤ e
 slice_range-skip xs s e n le =
     let whole : e - s ≡ n + (e - (s + n)) = omega arith in
     sym
-        (ap (λ k. drop n (take k (drop s xs))) whole ∙ drop-take n (e - (s + n)) (drop s xs)
-            ∙ ap (take (e - (s + n))) (drop-drop n s xs))
+    (ap (λ k. drop n (take k (drop s xs))) whole ∙ drop-take n (e - (s + n)) (drop s xs)
+    ∙ ap (take (e - (s + n))) (drop-drop n s xs))
 
 -- the bytes from s on, of the front up to e
 pub slice_range-front : (xs : List ℕ) (s e : ℕ) → s ≤ e → slice_range xs s e ≡ drop s (take e xs)
@@ -68,7 +68,7 @@ IsWindow-searched xs s m e window none = record {
         let at : k - m < e - m = omega arith in
         let place : m + (k - m) ≡ k = omega arith in
         none (k - m) (omega arith) (rw (length-slice_range xs m e window.high) at)
-            (eq-eqb _ _ (get_or-slice_range xs m e (k - m) at ∙ ap (λ j. get_or xs j 0) place ∙ is))
+        (eq-eqb _ _ (get_or-slice_range xs m e (k - m) at ∙ ap (λ j. get_or xs j 0) place ∙ is))
   ];
 }
 
@@ -78,7 +78,7 @@ pub IsFirstByte-none : (xs : List ℕ) (s e : ℕ) → IsWindow xs s e e
 IsFirstByte-none xs s e window k low high passes =
     let within : k < e - s = rw (length-slice_range xs s e window.high) at high in
     window.no_line_feed (s + k) (omega arith) (omega arith)
-        (sym (get_or-slice_range xs s e k within) ∙ eqb-true _ _ passes)
+    (sym (get_or-slice_range xs s e k within) ∙ eqb-true _ _ passes)
 
 -- the first line feed behind a stretch that has none
 pub IsFirstByte-behind : (xs : List ℕ) (s m e at : ℕ) → IsWindow xs s m e
@@ -91,23 +91,22 @@ IsFirstByte-behind xs s m e at window found =
     let within : at < e - m = omega (arith, found.0.high) in
     let there : s + (m - s + at) ≡ m + at = omega arith in
     let line_feed : get_or xs (m + at) 0 ≡ 10 =
-        sym (get_or-slice_range xs m e at within) ∙ eqb-true _ _ found.1 in
-    (
+    sym (get_or-slice_range xs m e at within) ∙ eqb-true _ _ found.1 in (
       record {
         low = omega arith;
         high = omega arith;
         before = λ k from before passes.
             let inside : k < e - s = omega arith in
             let is : get_or xs (s + k) 0 ≡ 10 =
-                sym (get_or-slice_range xs s e k inside) ∙ eqb-true _ _ passes in
+            sym (get_or-slice_range xs s e k inside) ∙ eqb-true _ _ passes in
             elim (cases_lt (s + k) m) [
               | inl searched ↦ window.no_line_feed (s + k) (omega arith) searched is
               | inr later ↦
                   let place : m + (s + k - m) ≡ s + k = omega arith in
                   found.0.before (s + k - m) (omega arith) (omega arith)
-                      (eq-eqb _ _
-                          (get_or-slice_range xs m e (s + k - m) (omega arith) ∙ ap (λ j. get_or xs j 0) place
-                              ∙ is))
+                  (eq-eqb _ _
+                  (get_or-slice_range xs m e (s + k - m) (omega arith) ∙ ap (λ j. get_or xs j 0) place
+                  ∙ is))
             ];
       },
       eq-eqb _ _
@@ -130,7 +129,7 @@ pub Keeps-filled : (known known' : Option (List ℕ)) (now old new : List ℕ) (
     → Keeps (prepend_known now known) (prepend_known (slice_range new s (e + n)) known')
 Keeps-filled known known' now old new s e n le front is given =
     rw (slice_range-more new s e n le, slice_range-same_front old new s e le front, is)
-        (Keeps-given known known' now (take n (drop e new)) given)
+    (Keeps-given known known' now (take n (drop e new)) given)
 
 -- with no byte more it is the same window
 pub slice_range-filled_none : (now old new : List ℕ) (s e n : ℕ) → s ≤ e → take e new ≡ take e old

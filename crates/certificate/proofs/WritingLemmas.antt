@@ -21,8 +21,8 @@ Appends-more (Some xs) None c bytes at n first next = absurd first
 Appends-more (Some xs) (Some ys) None bytes at n first next = absurd next
 Appends-more (Some xs) (Some ys) (Some zs) bytes at n first next =
     next ∙ ap (λ l. l ++ take n (drop at bytes)) first
-        ∙ append_assoc xs (take at bytes) (take n (drop at bytes))
-        ∙ ap (λ l. xs ++ l) (sym (take-add at n bytes))
+    ∙ append_assoc xs (take at bytes) (take n (drop at bytes))
+    ∙ ap (λ l. xs ++ l) (sym (take-add at n bytes))
 
 -- bytes behind bytes
 pub Appends-both : (a b c : Option (List ℕ)) (xs ys : List ℕ) → Appends a b xs → Appends b c ys
@@ -42,25 +42,25 @@ pub text-more : (version : ℕ) (sent block more : List ℕ) (rs : List Record) 
     → sent ++ more ≡ ended (header_line version ∷ map line_of (take (i + 1) rs))
 text-more version sent block more rs i r text within read is =
     ap (λ l. sent ++ l) is ∙ sym (append_assoc sent block (line_of r ++ 10 ∷ []))
-        ∙ ap (λ l. l ++ (line_of r ++ 10 ∷ [])) text
+    ∙ ap (λ l. l ++ (line_of r ++ 10 ∷ [])) text
     ∙ ap (λ l. ended (header_line version ∷ map line_of (take i rs)) ++ l)
-        (sym (append-nil (line_of r ++ 10 ∷ [])))
+    (sym (append-nil (line_of r ++ 10 ∷ [])))
     ∙ sym
-        (flat_map-append (λ line. line ++ 10 ∷ []) (header_line version ∷ map line_of (take i rs))
-            (line_of r ∷ []))
+    (flat_map-append (λ line. line ++ 10 ∷ []) (header_line version ∷ map line_of (take i rs))
+    (line_of r ∷ []))
     ∙ ap (λ lines. ended (header_line version ∷ lines))
-        (sym (map-append line_of (take i rs) (r ∷ []))
-            ∙ ap (map line_of) (sym (take_more rs i r within ∙ ap (λ q. take i rs ++ q ∷ []) (sym read))))
+    (sym (map-append line_of (take i rs) (r ∷ []))
+    ∙ ap (map line_of) (sym (take_more rs i r within ∙ ap (λ q. take i rs ++ q ∷ []) (sym read))))
 
 -- what went out and a part of what waits is a part of the whole
 text-prefix : (version : ℕ) (sent block : List ℕ) (rs : List Record) (i n : ℕ)
     → sent ++ block ≡ ended (header_line version ∷ map line_of (take i rs))
     → sent ++ take n block
-        ≡ take (length (sent ++ take n block)) (ended (header_line version ∷ map line_of rs))
+    ≡ take (length (sent ++ take n block)) (ended (header_line version ∷ map line_of rs))
 text-prefix version sent block rs i n text =
     sym
-        (ap (take (length (sent ++ take n block))) whole
-            ∙ take-append_seam (sent ++ take n block) (drop n block ++ rest))
+    (ap (take (length (sent ++ take n block))) whole
+    ∙ take-append_seam (sent ++ take n block) (drop n block ++ rest))
   where
     rest : List ℕ
     rest = ended (map line_of (drop i rs))
@@ -68,16 +68,16 @@ text-prefix version sent block rs i n text =
     cut_in_two : sent ++ block ≡ (sent ++ take n block) ++ drop n block
     cut_in_two =
         ap (λ l. sent ++ l) (sym (take-append-drop n block))
-            ∙ sym (append_assoc sent (take n block) (drop n block))
+        ∙ sym (append_assoc sent (take n block) (drop n block))
 
     whole : ended (header_line version ∷ map line_of rs) ≡ (sent ++ take n block) ++ (drop n block ++ rest)
     whole =
         ap (λ list. ended (header_line version ∷ map line_of list)) (sym (take-append-drop i rs))
         ∙ ap (λ lines. ended (header_line version ∷ lines)) (map-append line_of (take i rs) (drop i rs))
         ∙ flat_map-append (λ line. line ++ 10 ∷ []) (header_line version ∷ map line_of (take i rs))
-            (map line_of (drop i rs))
+        (map line_of (drop i rs))
         ∙ ap (λ l. l ++ rest) (sym text ∙ cut_in_two)
-            ∙ append_assoc (sent ++ take n block) (drop n block) rest
+        ∙ append_assoc (sent ++ take n block) (drop n block) rest
 
 pub part-out : (version : ℕ) (a b c : Option (List ℕ)) (sent block : List ℕ) (rs : List Record) (i n : ℕ)
     → sent ++ block ≡ ended (header_line version ∷ map line_of (take i rs)) → Appends a b sent
@@ -86,7 +86,8 @@ pub part-out : (version : ℕ) (a b c : Option (List ℕ)) (sent block : List �
 part-out version a b c sent block rs i n text first next = (
   length (sent ++ take n block),
   (let P : List ℕ → Type 0 = λ bytes. Appends a c bytes in
-   subst P (text-prefix version sent block rs i n text) (Appends-both a b c sent (take n block) first next)),
+      subst P (text-prefix version sent block rs i n text)
+      (Appends-both a b c sent (take n block) first next)),
 )
 
 pub sent-out : (version : ℕ) (a b : Option (List ℕ)) (sent block : List ℕ) (rs : List Record) (i : ℕ)
@@ -102,7 +103,7 @@ pub whole-out : (version : ℕ) (a b c : Option (List ℕ)) (sent block : List �
 whole-out version a b c sent block rs i text all first next =
     let P : List ℕ → Type 0 = λ bytes. Appends a c bytes in
     subst P (text ∙ ap (λ list. ended (header_line version ∷ map line_of list)) (take_all i rs all))
-        (Appends-both a b c sent block first next)
+    (Appends-both a b c sent block first next)
 
 -- what holds anyway holds where the answer is a fault
 pub on_err : {A E : Type 0} (r : Result A E) (P : Type 0) → P → OnErr r P

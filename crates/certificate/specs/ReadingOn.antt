@@ -62,11 +62,11 @@ IsToldAfter met (Some cause) = Unit {0}
 -- what was met at a source by a reading that told this: each answer `Again` is a turn, the one after the last
 -- that a call has ends the reading, and so does the first answer `Broken`
 pub record ReadsAhead (told : Option ReadCause) (turns turns' agains agains' breaks breaks' : ℕ) : Type 0
-    where
-  pub met : Option ReadCause
-  pub taken : TakesTurns met turns turns' agains agains'
-  pub broken : breaks' ≡ breaks_told met breaks
-  pub told_after : IsToldAfter met told
+  where
+    pub met : Option ReadCause
+    pub taken : TakesTurns met turns turns' agains agains'
+    pub broken : breaks' ≡ breaks_told met breaks
+    pub told_after : IsToldAfter met told
 
 -- ---- between two lines
 

@@ -142,9 +142,9 @@ task_tail seen seq task thread = (codes ",\"seen\":" ++ decimal seen) ++ ((codes
 abbrev pub status_tail : ℕ → ℕ → Status → ℕ → List ℕ
 status_tail seen seq status thread =
     (codes ",\"seen\":" ++ decimal seen)
-        ++ ((codes ",\"seq\":" ++ decimal seq)
-            ++ ((codes ",\"status\":" ++ quoted (status_name status))
-                ++ ((codes ",\"thread\":" ++ decimal thread) ++ codes "}")))
+    ++ ((codes ",\"seq\":" ++ decimal seq)
+    ++ ((codes ",\"status\":" ++ quoted (status_name status))
+    ++ ((codes ",\"thread\":" ++ decimal thread) ++ codes "}")))
 
 -- what a thread records with the numbers of this record
 abbrev pub with_body : Record → Body → Record

@@ -101,7 +101,7 @@ untold_awaits_one rs trace untold still = record {
   apart = trace_apart rs trace;
   at_home =
       λ i task explicit begins.
-          home i task explicit (begun_started rs i task 0 begins) (starts_below rs task i untold);
+      home i task explicit (begun_started rs i task 0 begins) (starts_below rs task i untold);
   on_thread = λ a b again. absurd (no_resumption rs a b untold again);
   once = λ a b i again explicit other. absurd (no_resumption rs a i untold again);
   alike = λ i k task starts none. untold k;
@@ -118,11 +118,18 @@ untold_awaits_one rs trace untold still = record {
         within = at_within started rs i task starts;
         same =
             same_option (thread_at rs s) (thread_at rs i)
-                (λ other.
-                    still i
-                        (moved
-                            (task, s, explicit, starts, below, start_starts rs s task first, other,
-                                untold i)));
+            (λ other.
+            still i
+            (moved (
+              task,
+              s,
+              explicit,
+              starts,
+              below,
+              start_starts rs s task first,
+              other,
+              untold i,
+            )));
       },
       first,
     )
@@ -136,20 +143,20 @@ BeginsOn rs thread task = (k : ℕ) × (thread_at rs k ≡ Some thread) × (at b
 after_current : (P : ℕ → Type 0) (walk : Walk) (b : Body) → ((task : ℕ) → begun_root b ≡ Some task → P task)
     → ((task : ℕ) → started b ≡ Some task → P task)
     → Every P walk.roots → ((task : ℕ) → walk.current ≡ Some task → P task) → (task : ℕ)
-        → (after_body walk b).current ≡ Some task → P task
+    → (after_body walk b).current ≡ Some task → P task
 after_current P walk (ImplicitTask Begin actual index flags parallel root) begins starts roots runs task is =
     begins task is
 after_current P walk (ImplicitTask End actual index flags parallel root) begins starts roots runs task is =
     every_get P walk.roots 1 task roots is
 after_current P walk (ImplicitTask BeginEnd actual index flags parallel root) begins starts roots runs task is
-        =
+    =
     runs task is
 after_current P walk (TaskSchedule status turns prior next share) begins starts roots runs task is =
     by (demands_next status) is
   where
     by : (d : Bool)
         → (Rattle.std.specs.Prelude.cond d (record { roots = walk.roots; current = next }) walk).current
-            ≡ Some task
+        ≡ Some task
         → P task
     by true is' = starts task is'
     by false is' = runs task is'
@@ -186,17 +193,17 @@ walks_on rs thread current n =
     own m r stands same before =
         let walk : Walk = walk_of thread (take m rs) in
         let on : thread_at rs m ≡ Some thread =
-            ap (option_map (λ (q : Record). q.thread)) stands ∙ ap Some same in
+        ap (option_map (λ (q : Record). q.thread)) stands ∙ ap Some same in
         let begins : (task : ℕ) → begun_root r.body ≡ Some task → BeginsOn rs thread task =
         λ task is. (m, on, ap (option_and_then (λ (q : Record). begun_root q.body)) stands ∙ is) in
         subst (AreOnThread rs thread) (sym (fold-append after_record at_start (part_of rs thread m) (r ∷ [])))
-            ( record {
+        (record {
           roots = after_roots (BeginsOn rs thread) walk r.body begins before.roots;
           runs = after_current (λ task. IsRoot rs task → BeginsOn rs thread task) walk r.body
               (λ task is root. begins task is)
               (λ task is root. every_get (BeginsOn rs thread) walk.roots 0 task before.roots
               (subst (λ t. slice_get (walk_of t (take m rs)).roots 0 ≡ Some task) same
-                  (start_on rs m task r current stands is root)))
+              (start_on rs m task r current stands is root)))
               (every_weaker_root walk.roots before.roots)
               before.runs;
         })
@@ -211,7 +218,7 @@ begins_once : (rs : List Record) (task one other : ℕ) → IsFreeOf rs CreatedT
     → BeginsOn rs other task → Some one ≡ Some other
 begins_once rs task one other once (k, on, begins) (j, on', begins') =
     let same =
-        made_once rs task k j once (begun_at_made task rs k begins) (begun_at_made task rs j begins') in
+    made_once rs task k j once (begun_at_made task rs k begins) (begun_at_made task rs j begins') in
     sym on ∙ ap (thread_at rs) same ∙ on'
 
 -- ---- along a thread no turn falls
@@ -225,7 +232,7 @@ turn_greatest rs thread task trace gap n =
     P : ℕ → List Record → Type 0
     P m l =
         (k turn : ℕ) → k < m → thread_at rs k ≡ Some thread → at begun_turn rs k ≡ Some (task, turn)
-            → turn ≤ turn_in task l
+        → turn ≤ turn_in task l
 
     other : (m : ℕ) → thread_at rs m ≢ Some thread → P m (part_of rs thread m)
         → P (m + 1) (part_of rs thread m)
@@ -238,7 +245,7 @@ turn_greatest rs thread task trace gap n =
         → P (m + 1) (part_of rs thread m ++ r ∷ [])
     own m r stands same before k turn below on begins =
         subst (λ t. turn ≤ t) (sym (fold-append (turn_after task) 0 (part_of rs thread m) (r ∷ [])))
-            (by (begun_turn r.body) refl)
+        (by (begun_turn r.body) refl)
       where
         here : thread_at rs m ≡ Some thread
         here = ap (option_map (λ (q : Record). q.thread)) stands ∙ ap Some same
@@ -254,40 +261,40 @@ turn_greatest rs thread task trace gap n =
         by None is = elim (cases_eq k m) [
           | inl last ↦
               absurd
-                  (none-some (task, turn)
-                      (sym (here_begins None is) ∙ ap (at begun_turn rs) (sym last) ∙ begins))
+              (none-some (task, turn)
+              (sym (here_begins None is) ∙ ap (at begun_turn rs) (sym last) ∙ begins))
           | inr less ↦ before k turn (omega (arith, below, less)) on begins
         ]
         by (Some (t, u)) is = elim (cases_eq t task) [
           | inl own_task ↦
-              subst (λ (b : Bool). turn ≤ cond b u old) (sym (eq-eqb t task own_task)) ( elim (cases_eq k m) [
-            | inl last ↦
-                let parts =
+              subst (λ (b : Bool). turn ≤ cond b u old) (sym (eq-eqb t task own_task)) (elim (cases_eq k m) [
+                | inl last ↦
+                    let parts =
                     some_pair_parts task t turn u
-                        (sym begins ∙ ap (at begun_turn rs) last ∙ here_begins (Some (t, u)) is) in
-                omega (arith, parts.1)
-            | inr less ↦ elim (cases_lt u turn) [
-              | inr low ↦ low
-              | inl falls ↦
-                  let starts : at begun_turn rs m ≡ Some (task, u) =
+                    (sym begins ∙ ap (at begun_turn rs) last ∙ here_begins (Some (t, u)) is) in
+                    omega (arith, parts.1)
+                | inr less ↦ elim (cases_lt u turn) [
+                  | inr low ↦ low
+                  | inl falls ↦
+                      let starts : at begun_turn rs m ≡ Some (task, u) =
                       here_begins (Some (t, u)) is ∙ ap (λ x. Some (x, u)) own_task in
-                  absurd
+                      absurd
                       (gap m
-                          (turn_gap
-                              (falling task u k turn (begun_told rs m task u trace starts, starts)
-                                  (omega (arith, below, less)) (on ∙ sym here) begins falls)))
-            ]
-          ])
+                      (turn_gap
+                      (falling task u k turn (begun_told rs m task u trace starts, starts)
+                      (omega (arith, below, less)) (on ∙ sym here) begins falls)))
+                ]
+              ])
           | inr apart ↦
-              subst (λ (b : Bool). turn ≤ cond b u old) (sym (ne_eqb t task apart)) ( elim (cases_eq k m) [
-            | inl last ↦
-                absurd
+              subst (λ (b : Bool). turn ≤ cond b u old) (sym (ne_eqb t task apart)) (elim (cases_eq k m) [
+                | inl last ↦
+                    absurd
                     (apart
-                        (sym
-                            (some_pair_parts task t turn u
-                                (sym begins ∙ ap (at begun_turn rs) last ∙ here_begins (Some (t, u)) is)).0))
-            | inr less ↦ before k turn (omega (arith, below, less)) on begins
-          ])
+                    (sym
+                    (some_pair_parts task t turn u
+                    (sym begins ∙ ap (at begun_turn rs) last ∙ here_begins (Some (t, u)) is)).0))
+                | inr less ↦ before k turn (omega (arith, below, less)) on begins
+              ])
         ]
 
 -- where a root is suspended and where it runs on, it does so on the thread on which it began; so the
@@ -314,26 +321,26 @@ root_runs_on rs a b trace once current gap again root =
     by (Some r) (Some q) e f suspends resumes =
         let fits : IsSound r.body = all_get (λ (x : Record). IsSound x.body) rs a r trace.is_trace.sound e in
         let turned : HasItsTurns 2 r.body =
-            all_get (λ (x : Record). HasItsTurns 2 x.body) rs a r trace.turns e in
+        all_get (λ (x : Record). HasItsTurns 2 x.body) rs a r trace.turns e in
         let parts : Suspended r.body task turn = suspended_parts r.body task turn fits.next turned suspends in
         let ran : BeginsOn rs r.thread task =
-            (walks_on rs r.thread current a).runs task (runs_there rs a task r current e parts.runs) root in
+        (walks_on rs r.thread current a).runs task (runs_there rs a task r current e parts.runs) root in
         let starts : started q.body ≡ Some task =
-            sym (ap (option_and_then (λ (x : Record). started x.body)) f)
-                ∙ begun_started rs b task (turn + 1) again.resumes in
+        sym (ap (option_and_then (λ (x : Record). started x.body)) f)
+        ∙ begun_started rs b task (turn + 1) again.resumes in
         let runs : BeginsOn rs q.thread task =
-            every_get (BeginsOn rs q.thread) (walk_of q.thread (take b rs)).roots 0 task
-                (walks_on rs q.thread current b).roots (start_on rs b task q current f starts root) in
+        every_get (BeginsOn rs q.thread) (walk_of q.thread (take b rs)).roots 0 task
+        (walks_on rs q.thread current b).roots (start_on rs b task q current f starts root) in
         let threads : Some r.thread ≡ Some q.thread = begins_once rs task r.thread q.thread once ran runs in
         let on : thread_at rs a ≡ Some r.thread = ap (option_map (λ (x : Record). x.thread)) e in
         let on_b : thread_at rs b ≡ Some r.thread =
-            ap (option_map (λ (x : Record). x.thread)) f ∙ sym threads in
+        ap (option_map (λ (x : Record). x.thread)) f ∙ sym threads in
         let there : turn_in task (part_of rs r.thread a) ≡ turn =
         sym (turn_here rs a task r e parts.runs)
         ∙ sym
-            (told_right rs a parts.told gap
-                (ap (option_and_then (λ (x : Record). told_turns x.body)) e ∙ parts.tells))
-            ∙ parts.turn_told in
+        (told_right rs a parts.told gap
+        (ap (option_and_then (λ (x : Record). told_turns x.body)) e ∙ parts.tells))
+        ∙ parts.turn_told in
         record {
           earlier = elim (cases_order a b) [
             | inl same ↦ absurd (again.another same)
@@ -356,14 +363,14 @@ told_awaits_one rs family trace are current gap = record {
     starts = begins;
     first =
         λ k below earlier.
-            gap i
-                (turn_gap (begun_again task 0 k (begun_told rs i task 0 trace begins, begins) below earlier));
+        gap i
+        (turn_gap (begun_again task 0 k (begun_told rs i task 0 trace begins, begins) below earlier));
   });
   on_thread =
       λ a b again. elim (begun_root_or_explicit rs family b again.task (again.turn + 1) are again.resumes) [
-    | inl root ↦ inr (root_runs_on rs a b trace are.once current gap again root)
-    | inr explicit ↦ inl explicit
-  ];
+        | inl root ↦ inr (root_runs_on rs a b trace are.once current gap again root)
+        | inr explicit ↦ inl explicit
+      ];
   once = λ a b i again explicit suspends.
       suspended_once rs trace are.once current gap again.task again.turn a b explicit again.suspends suspends;
   alike = λ i k task starts none. absurd (told i task (slice_get rs i) refl starts none);
@@ -375,7 +382,7 @@ told_awaits_one rs family trace are current gap = record {
     told i task None e starts none = none-some task starts
     told i task (Some r) e starts none =
         let turned : is_some (told_turns r.body) ≡ is_some (started r.body) =
-            all_get (λ (q : Record). HasItsTurns 2 q.body) rs i r trace.turns e in
+        all_get (λ (q : Record). HasItsTurns 2 q.body) rs i r trace.turns e in
         false≢true (sym (ap is_some none) ∙ turned ∙ ap is_some starts)
 
 -- ---- the facts of a run
@@ -385,12 +392,12 @@ pub sound_awaits_one : (run : RunView) → IsSoundRun run → EachAwaitsOne run.
 sound_awaits_one run sound = elim sound.is_run.of_version.known [
   | inl first ↦
       untold_awaits_one rs sound.is_run.trace
-          (first_version_tells_none rs (subst (λ v. IsTraceOf v rs) first sound.is_run.of_version))
-          (sound.clear Moved (4, omega arith, refl))
+      (first_version_tells_none rs (subst (λ v. IsTraceOf v rs) first sound.is_run.of_version))
+      (sound.clear Moved (4, omega arith, refl))
   | inr second ↦
       told_awaits_one rs run.family (subst (λ v. IsTraceOf v rs) second sound.is_run.of_version)
-          sound.is_run.family (sound.clear NotCurrent (3, omega arith, refl))
-          (sound.clear TurnGap (5, omega arith, refl))
+      sound.is_run.family (sound.clear NotCurrent (3, omega arith, refl))
+      (sound.clear TurnGap (5, omega arith, refl))
 ]
   where
     rs : List Record

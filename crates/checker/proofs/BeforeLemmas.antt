@@ -37,9 +37,9 @@ thread_low rs a thread trace on = of (slice_get rs a) refl on
     of (Some r) e is =
         let within = slice_get_within rs a r e in
         let same : (get_or rs a r).thread ≡ thread =
-            ap (λ (q : Record). q.thread)
-                (same_Some (get_or rs a r) r (sym (slice_get-get_or rs a r within) ∙ e))
-                ∙ same_Some r.thread thread is in
+        ap (λ (q : Record). q.thread)
+        (same_Some (get_or rs a r) r (sym (slice_get-get_or rs a r within) ∙ e))
+        ∙ same_Some r.thread thread is in
         let low = (trace.in_range a r within).thread in
         omega (arith, low, same)
 
@@ -59,8 +59,8 @@ nothing_below : (thread : ℕ) → slice_index (replicate 256 0) thread ≡ 0
 nothing_below thread = elim (cases_lt thread 256) [
   | inl less ↦ get_or-replicate {A = ℕ} 256 thread 0 0 less
   | inr past ↦
-      get_or_past { X = ℕ } (replicate 256 0) thread 0
-          (let len = length-replicate { A = ℕ } 256 0 in omega (arith, past, len))
+      get_or_past {X = ℕ} (replicate 256 0) thread 0
+      (let len = length-replicate {A = ℕ} 256 0 in omega (arith, past, len))
 ]
 
 -- one bound among them
@@ -74,23 +74,25 @@ earlier_in_thread rs i own on low = record {
         below = let h = here in omega (arith, less, h);
       };
   only = λ a is. elim (cases_eq is.thread own) [
-    | inl same ↦
-        (let h = here in
-         let below = is.below in
-         let there = ap (slice_index (set (replicate 256 0) own i)) same in
-         omega (arith, h, below, there), is.is_on ∙ ap Some same ∙ sym on)
+    | inl same ↦ (
+      let h = here in
+          let below = is.below in
+          let there = ap (slice_index (set (replicate 256 0) own i)) same in
+          omega (arith, h, below, there),
+      is.is_on ∙ ap Some same ∙ sym on,
+    )
     | inr apart ↦
         absurd
-            (let below = is.below in
-             let other = get_or-set_other (replicate 256 0) own is.thread i 0 apart in
-             let none = nothing_below is.thread in omega (arith, below, other, none))
+        (let below = is.below in
+        let other = get_or-set_other (replicate 256 0) own is.thread i 0 apart in
+        let none = nothing_below is.thread in omega (arith, below, other, none))
   ];
 }
   where
     here : slice_index (set (replicate 256 0) own i) own ≡ i
     here =
         get_or-set_same (replicate 256 0) own i 0
-            (let len = length-replicate { A = ℕ } 256 0 in omega (arith, low, len))
+        (let len = length-replicate {A = ℕ} 256 0 in omega (arith, low, len))
 
 -- an earlier record of the thread of one that is below
 below_too : (rs : List Record) (bounds : List ℕ) (a b : ℕ) → a ≤ b → thread_at rs a ≡ thread_at rs b
@@ -166,8 +168,8 @@ makes_more : (rs : List Record) (n c : ℕ) (makers : List ℕ) → AreMakers rs
 makes_more rs n c makers are inside (finishes, low) = elim (cases_eq (seen_at rs c) n) [
   | inl here ↦
       inr
-          (sym (are.each c (finishing_within rs c finishes) finishes (omega (arith, inside, here)))
-              ∙ ap (slice_index makers) here)
+      (sym (are.each c (finishing_within rs c finishes) finishes (omega (arith, inside, here)))
+      ∙ ap (slice_index makers) here)
   | inr apart ↦ inl (finishes, omega (arith, low, apart))
 ]
 
@@ -187,8 +189,8 @@ makers_more rs n makers old mid new are inside within one two =
     (λ c holds. makes_more rs n c makers are inside holds)
     (λ c holds. makes_less rs n c holds)
     (λ c is.
-        let P : ℕ → Type 0 = MakesBelow rs (n + 1) in
-        subst P (sym is) (makes.0, (let entry_is = makes.1 in omega (arith, entry_is))))
+    let P : ℕ → Type 0 = MakesBelow rs (n + 1) in
+    subst P (sym is) (makes.0, (let entry_is = makes.1 in omega (arith, entry_is))))
     one two
 
 pub makers_none : (rs : List Record) (n : ℕ) (makers old new : List ℕ) → AreMakers rs (length rs) makers
@@ -209,7 +211,7 @@ makers_none rs n makers old new are inside past one =
 abbrev pub HavePassed : List Record → List ℕ → ℕ → List ℕ → Type 0
 HavePassed rs order passed bounds =
     (q c : ℕ) → length order ≤ q + passed → q < length order → IsBelow rs bounds (slice_index order q)
-        → Awaits rs (slice_index order q) c → IsBelow rs bounds c
+    → Awaits rs (slice_index order q) c → IsBelow rs bounds c
 
 -- no record stands at two positions
 position_once : (rs : List Record) (order : List ℕ) (p q : ℕ) → IsLinearization rs order → p < length order
@@ -231,9 +233,9 @@ stands_before rs order p q linear p_in q_in before =
     let low = earlier.apart in
     let within = earlier.within in
     let first : earlier.first ≡ q =
-        position_once rs order earlier.first q linear (omega (arith, low, within)) q_in earlier.a_stands in
+    position_once rs order earlier.first q linear (omega (arith, low, within)) q_in earlier.a_stands in
     let second : earlier.second ≡ p =
-        position_once rs order earlier.second p linear within p_in earlier.b_stands in
+    position_once rs order earlier.second p linear within p_in earlier.b_stands in
     omega (arith, low, first, second)
 
 -- what comes below by the next record stands before it, and so is not among those that were passed
@@ -243,19 +245,19 @@ pub passed_more : (rs : List Record) (order : List ℕ) (passed p : ℕ) (old ne
     → HavePassed rs order (passed + 1) new
 passed_more rs order passed p old new facts linear here are was q c end inside is awaits =
     elim (cases_eq q p) [
-  | inl same ↦
-      let P : ℕ → Type 0 = λ k. Awaits rs (slice_index order k) c in
-      are.raised c (subst P same awaits)
-  | inr apart ↦ elim (are.only (slice_index order q) is) [
-    | inl below ↦ are.kept c (was q c (omega (arith, end, here, apart)) inside below awaits)
-    | inr (other, holds, most, same_thread) ↦
-        let less =
+      | inl same ↦
+          let P : ℕ → Type 0 = λ k. Awaits rs (slice_index order k) c in
+          are.raised c (subst P same awaits)
+      | inr apart ↦ elim (are.only (slice_index order q) is) [
+        | inl below ↦ are.kept c (was q c (omega (arith, end, here, apart)) inside below awaits)
+        | inr (other, holds, most, same_thread) ↦
+            let less =
             stands_before rs order p q linear (omega (arith, here)) inside
-                (earlier_before rs (slice_index order q) other (slice_index order p) most same_thread
-                    (awaits_before rs (slice_index order p) other facts holds)) in
-        absurd (omega (arith, less, end, here))
-  ]
-]
+            (earlier_before rs (slice_index order q) other (slice_index order p) most same_thread
+            (awaits_before rs (slice_index order p) other facts holds)) in
+            absurd (omega (arith, less, end, here))
+      ]
+    ]
 
 -- a record that is not below needs nothing below
 pub passed_other : (rs : List Record) (order : List ℕ) (passed p : ℕ) (bounds : List ℕ)
@@ -282,8 +284,8 @@ pub passed_all : (rs : List Record) (order : List ℕ) (passed : ℕ) (bounds : 
     → Awaits rs b c → IsBelow rs bounds c
 passed_all rs order passed bounds linear end was b c is awaits =
     of
-        (Contains-permutation (places rs) order b linear.all_once
-            (contains_place rs b (below_within rs bounds b is)))
+    (Contains-permutation (places rs) order b linear.all_once
+    (contains_place rs b (below_within rs bounds b is)))
   where
     of : Contains order b → IsBelow rs bounds c
     of (q, inside, there) =
@@ -345,9 +347,9 @@ all_below : (rs : List Record) (i a b : ℕ) (bounds : List ℕ) → EachAwaitsO
     → AreClosedAt rs i bounds → (b ≡ i) ⊎ IsBelow rs bounds b → HappensBefore rs a b → IsBelow rs bounds a
 all_below rs i a b bounds facts rise are there (step taken) =
     step_below rs i a b bounds facts rise are there taken
-all_below rs i a b bounds facts rise are there (chain { b = mid } first second) =
+all_below rs i a b bounds facts rise are there (chain {b = mid} first second) =
     all_below rs i a mid bounds facts rise are (inr (all_below rs i mid b bounds facts rise are there second))
-        first
+    first
 
 -- so just what happens before i is below
 closed_bounds : (rs : List Record) (i : ℕ) (bounds : List ℕ) → EachAwaitsOne rs → IsFreeOf rs LengthBack
@@ -372,8 +374,8 @@ here_before : (rs : List Record) (i : ℕ) (own makers here : List ℕ) → i < 
     → AreRaisedTo rs (Awaits rs i) makers here → AreAllBefore rs i here
 here_before rs i own makers here within facts earlier to_makers to_awaited =
     before_raised rs (Awaits rs i) i makers here (λ c waits. awaits_before rs i c facts waits) to_awaited
-    ( before_raised rs (MakesBelow rs (seen_at rs i)) i own makers
-        (λ c (finishes, low). step (ledger finishes low)) to_makers
+    (before_raised rs (MakesBelow rs (seen_at rs i)) i own makers
+    (λ c (finishes, low). step (ledger finishes low)) to_makers
     (λ a is. let (less, same) = earlier.only a is in step (program (thread_order less within same))))
 
 -- bounds of the thread, raised to the makers of what is seen and to what is awaited, and then to
@@ -382,13 +384,13 @@ pub found_bounds : (ordered : OrderedView) (i : ℕ) (own makers here all : List
     → i < length ordered.ledger.run.records → HaveAllThreads ordered.ledger.run.records all
     → AreEarlierInThread ordered.ledger.run.records i own
     → AreRaisedTo ordered.ledger.run.records
-        (MakesBelow ordered.ledger.run.records (seen_at ordered.ledger.run.records i)) own makers
+    (MakesBelow ordered.ledger.run.records (seen_at ordered.ledger.run.records i)) own makers
     → AreRaisedTo ordered.ledger.run.records (Awaits ordered.ledger.run.records i) makers here
     → ((a : ℕ) → IsBelow ordered.ledger.run.records here a → IsBelow ordered.ledger.run.records all a)
     → ((b c : ℕ) → IsBelow ordered.ledger.run.records all b → Awaits ordered.ledger.run.records b c
-          → IsBelow ordered.ledger.run.records all c)
+    → IsBelow ordered.ledger.run.records all c)
     → ((j : ℕ) → AreAllBefore ordered.ledger.run.records j here
-          → AreAllBefore ordered.ledger.run.records j all)
+    → AreAllBefore ordered.ledger.run.records j all)
     → AreBounds ordered.ledger.run.records i all
 found_bounds ordered i own makers here all is within threads earlier to_makers to_awaited kept closed before =
     let rs = ordered.ledger.run.records in

@@ -22,7 +22,7 @@ wrong_within rs i (task, part, claimed, finishes, claims, not_right) =
 abbrev pub ClaimRightly : OwnView → ℕ → Type 0
 ClaimRightly own n =
     (place number : ℕ) → place < n → slice_get own.places number ≡ Some place
-        → HasWrongShare own.run.records number → ⊥
+    → HasWrongShare own.run.records number → ⊥
 
 pub first_wrong : (own : OwnView) (place number : ℕ) → slice_get own.places number ≡ Some place
     → HasWrongShare own.run.records number → ClaimRightly own place → IsFirstPlaceWith own ShareWrong place
@@ -37,7 +37,7 @@ free_of_wrong own n all right end number has =
     let is = wrong own.run.records number has in
     let within = wrong_within own.run.records number is in
     let stands : slice_get own.places number ≡ Some (slice_index_or own.places number 0) =
-        slice_get-get_or own.places number 0 (rw all.all within) in
+    slice_get-get_or own.places number 0 (rw all.all within) in
     let below = all.below number (slice_index_or own.places number 0) stands in
     right (slice_index_or own.places number 0) number (omega (arith, below, end)) stands is
 

@@ -72,8 +72,8 @@ greedy_filter rs may p order decides closed greedy =
             missing = λ among. is.ready.missing (filter_contains p xs y among);
             due =
                 λ a before.
-                    Contains-filter p xs a (is.ready.due a before)
-                        ((decides a).1 (closed a y before ((decides y).0 holds)));
+                Contains-filter p xs a (is.ready.due a before)
+                ((decides a).1 (closed a y before ((decides y).0 holds)));
           };
           first = λ j earlier ready. is.first j earlier (record {
             within = ready.within;
@@ -88,7 +88,7 @@ greedy_filter rs may p order decides closed greedy =
         → IsGreedyAfter rs may [] (filter p (take n order) ++ cond t (slice_index order n ∷ []) [])
     one_more n below so_far true holds =
         each_more (IsFirstReady rs may) (filter p (take n order)) (slice_index order n) so_far
-            (next n below holds)
+        (next n below holds)
     one_more n below so_far false fails =
         let P : List ℕ → Type 0 = IsGreedyAfter rs may [] in
         subst P (sym (append-nil (filter p (take n order)))) so_far
@@ -99,9 +99,9 @@ greedy_filter rs may p order decides closed greedy =
         let below : n < length order = omega (arith, most) in
         let P : List ℕ → Type 0 = IsGreedyAfter rs may [] in
         let is : filter p (take (n + 1) order)
-                ≡ filter p (take n order) ++ cond (p (slice_index order n)) (slice_index order n ∷ []) [] =
-            ap (filter p) (take_more order n 0 below)
-                ∙ filter-append p (take n order) (slice_index order n ∷ []) in
+        ≡ filter p (take n order) ++ cond (p (slice_index order n)) (slice_index order n ∷ []) [] =
+        ap (filter p) (take_more order n 0 below)
+        ∙ filter-append p (take n order) (slice_index order n ∷ []) in
         let more = one_more n below (taken n (omega (arith, most))) (p (slice_index order n)) refl in
         let R : ℕ → Type 0 = λ m. IsGreedyAfter rs may [] (filter p (take m order)) in
         let one : n + 1 ≡ suc n = omega arith in
@@ -113,9 +113,9 @@ pub filter_more : (p : ℕ → Bool) (order : List ℕ) (n place : ℕ) → slic
 filter_more p order n place stands =
     let below : n < length order = slice_get_within order n place stands in
     let is : slice_index order n ≡ place =
-        same_Some (slice_index order n) place (sym (slice_get-get_or order n 0 below) ∙ stands) in
+    same_Some (slice_index order n) place (sym (slice_get-get_or order n 0 below) ∙ stands) in
     ap (filter p) (take_more order n 0 below) ∙ filter-append p (take n order) (slice_index order n ∷ [])
-        ∙ ap (λ y. filter p (take n order) ++ cond (p y) (y ∷ []) []) is
+    ∙ ap (λ y. filter p (take n order) ++ cond (p y) (y ∷ []) []) is
 
 -- ---- the records that happen before one
 
@@ -129,20 +129,20 @@ below_told rs bounds a told tells = of (thread_at rs a) refl told tells
     within thread runs true is = let b = is.0 refl in
         let P : ℕ → Type 0 = λ k. a < slice_index bounds k in
         sym
-            (lt-ltb a (slice_index bounds thread)
-                (subst P (same_Some b.thread thread (sym b.is_on ∙ runs)) b.below))
+        (lt-ltb a (slice_index bounds thread)
+        (subst P (same_Some b.thread thread (sym b.is_on ∙ runs)) b.below))
     within thread runs false is = no (ltb a (slice_index bounds thread)) refl
       where
         no : (t : Bool) → ltb a (slice_index bounds thread) ≡ t → false ≡ t
         no false e = refl
         no true e =
             absurd
-                (false≢true
-                    (is.1 (record {
-                      thread = thread;
-                      is_on = runs;
-                      below = ltb-true a (slice_index bounds thread) e;
-                    })))
+            (false≢true
+            (is.1 (record {
+              thread = thread;
+              is_on = runs;
+              below = ltb-true a (slice_index bounds thread) e;
+            })))
 
     of : (o : Option ℕ) → thread_at rs a ≡ o → (t : Bool) → (IsTrue t ↔ IsBelow rs bounds a)
         → t ≡ option_map_or (λ thread. ltb a (slice_index bounds thread)) (thread_at rs a) false
@@ -175,22 +175,22 @@ pub base_in_turn : (rs : List Record) (order bounds : List ℕ) (i : ℕ) → Is
     → IsGreedy rs order → AreBounds rs i bounds → i < length rs
     → AreInTurn rs (filter (is_below rs bounds) order ++ i ∷ [])
 base_in_turn rs order bounds i linear greedy are within =
-    each_more (IsReady rs (λ _. ⊤)) base i ( λ k below. let ready = (so_far k below).ready in record {
-  within = ready.within;
-  taken = tt;
-  missing = ready.missing;
-  due = ready.due;
-}) (record {
-  within = within;
-  taken = tt;
-  missing = λ among. not_itself rs order i linear ((decides i).0 (filter_holds p order i among));
-  due =
-      λ a before.
+    each_more (IsReady rs (λ _. ⊤)) base i (λ k below. let ready = (so_far k below).ready in record {
+      within = ready.within;
+      taken = tt;
+      missing = ready.missing;
+      due = ready.due;
+    }) (record {
+      within = within;
+      taken = tt;
+      missing = λ among. not_itself rs order i linear ((decides i).0 (filter_holds p order i among));
+      due =
+          λ a before.
           Contains-filter p order a
-              (Contains-permutation (places rs) order a linear.all_once
-                  (contains_place rs a (before_from rs a i before)))
-              ((decides a).1 before);
-})
+          (Contains-permutation (places rs) order a linear.all_once
+          (contains_place rs a (before_from rs a i before)))
+          ((decides a).1 before);
+    })
   where
     p : ℕ → Bool
     p = is_below rs bounds
@@ -204,7 +204,7 @@ base_in_turn rs order bounds i linear greedy are within =
     so_far : IsGreedyAfter rs (λ a. HappensBefore rs a i) [] base
     so_far =
         greedy_filter rs (λ a. HappensBefore rs a i) p order decides (λ a b before then. chain before then)
-            greedy
+        greedy
 
 -- the order that goes on behind them is the earliest one for i
 pub earliest_behind : (rs : List Record) (order bounds now : List ℕ) (i : ℕ) → IsLinearization rs order
@@ -218,13 +218,13 @@ earliest_behind rs order bounds now i linear greedy are behind = record {
     (λ among. (decides a).0 (filter_holds p order a among)),
     (λ before.
         Contains-filter p order a
-            (Contains-permutation (places rs) order a linear.all_once
-                (contains_place rs a (before_from rs a i before)))
-            ((decides a).1 before)),
+        (Contains-permutation (places rs) order a linear.all_once
+        (contains_place rs a (before_from rs a i before)))
+        ((decides a).1 before)),
   );
   before_greedy =
       greedy_filter rs (λ a. HappensBefore rs a i) p order decides (λ a b before then. chain before then)
-          greedy;
+      greedy;
   after_greedy = behind.greedy;
 }
   where
@@ -244,24 +244,24 @@ earlier_before rs i k order permutation is e =
     let P : List ℕ → Type 0 = λ l. IsEarlier l k i in
     let Q : List ℕ → Type 0 = λ l. IsEarlier l i i → ⊥ in
     of (subst Q parts (earlier_apart order i (order_apart rs order permutation)))
-        (earlier_append_cases is.before (i ∷ is.after) k i (subst P parts e))
+    (earlier_append_cases is.before (i ∷ is.after) k i (subst P parts e))
   where
     of : (IsEarlier (is.before ++ i ∷ is.after) i i → ⊥)
         → IsEarlier is.before k i
-            ⊎ ((Contains is.before k × Contains (i ∷ is.after) i) ⊎ IsEarlier (i ∷ is.after) k i)
+        ⊎ ((Contains is.before k × Contains (i ∷ is.after) i) ⊎ IsEarlier (i ∷ is.after) k i)
         → HappensBefore rs k i
     of once (inl both) =
         absurd
-            (once
-                (earlier_across is.before (i ∷ is.after) i i (earlier_to is.before k i both)
-                    (0, omega arith, refl)))
+        (once
+        (earlier_across is.before (i ∷ is.after) i i (earlier_to is.before k i both)
+        (0, omega arith, refl)))
     of once (inr (inl (left, right))) = (is.just_before k).0 left
     of once (inr (inr last)) =
-        absurd ( once ( earlier_right is.before (i ∷ is.after) i i ( earlier_first i is.after i (
-            elim (earlier_cases i is.after k i last) [
-      | inl (same, more) ↦ more
-      | inr both ↦ earlier_to is.after k i both
-    ]))))
+        absurd (once (earlier_right is.before (i ∷ is.after) i i (earlier_first i is.after i (
+        elim (earlier_cases i is.after k i last) [
+          | inl (same, more) ↦ more
+          | inr both ↦ earlier_to is.after k i both
+        ]))))
 
 complete_earliest : (rs : List Record) (i task : ℕ) (order : List ℕ) → IsFreeOf rs LengthBack
     → IsPermutation (places rs) order → IsEarliestOrder rs i order → IsCompleteIn rs order task i
@@ -293,8 +293,8 @@ counter_by reading i task order clear free linear is unfinished = record {
   linearization = linear;
   incomplete =
       λ complete.
-          unfinished.incomplete
-              (complete_earliest reading.records i task order free linear.all_once is complete);
+      unfinished.incomplete
+      (complete_earliest reading.records i task order free linear.all_once is complete);
   earliest = is;
 }
 
@@ -305,4 +305,4 @@ pub task_counter : (view : ClearView) (i task : ℕ) (order : List ℕ) → IsCl
     → IsCounterOrderBy (by_task view.run.records) i task order
 task_counter view i task order clear =
     counter_by (by_task view.run.records) i task order (shows_none view.run.records clear.well_formed)
-        (clear.well_formed LengthBack (14, omega arith, refl))
+    (clear.well_formed LengthBack (14, omega arith, refl))

@@ -33,7 +33,7 @@ pub violation_by_open : (rs : List Record) (own : OwnView) (number place task : 
     → IsViolationAt (by_task rs) place (Unfinished task)
 violation_by_open rs own number place task of is stands first =
     let shown : IsFirstOpenShown rs place task =
-        open_shown rs own number place (Some task) of is stands first in
+    open_shown rs own number place (Some task) of is stands first in
     record {
       unfinished =
           open_unfinished (by_task rs) place task (shown.open_there.covered, shown.open_there.incomplete);
@@ -42,10 +42,10 @@ violation_by_open rs own number place task of is stands first =
       is_created = shown.is_created;
       created_first =
           λ k other low creates unfinished. elim (unfinished_cases (by_task rs) place other unfinished) [
-        | inl opened ↦
-            shown.created_first k other low creates (record { covered = opened.0; incomplete = opened.1 })
-        | inr late ↦ (of_tasks rs).apart place task other shown.open_there.covered late.0
-      ];
+            | inl opened ↦
+                shown.created_first k other low creates (record { covered = opened.0; incomplete = opened.1 })
+            | inr late ↦ (of_tasks rs).apart place task other shown.open_there.covered late.0
+          ];
     }
 
 -- a predecessor that is unfinished, where nothing that ends is open
@@ -58,9 +58,9 @@ violation_by_late rs place task complete late = record {
   is_created = late.is_created;
   created_first =
       λ k other low creates unfinished. elim (unfinished_cases (by_task rs) place other unfinished) [
-    | inl opened ↦ opened.1 (complete other opened.0)
-    | inr behind ↦ late.created_first k other low creates behind
-  ];
+        | inl opened ↦ opened.1 (complete other opened.0)
+        | inr behind ↦ late.created_first k other low creates behind
+      ];
 }
 
 pub complete_at : (rs : List Record) (place : ℕ) → IsCompleteShown rs place → AreReady rs place
@@ -106,7 +106,7 @@ pub open_decided : (view : ClearView) (own : OwnView) (done : DoneView) (number 
     → IsViolationAt (by_task view.run.records) place (Unfinished task)
 open_decided view own done number place task clear same teams credit stands finds =
     violation_by_open view.run.records view.own number place task clear.one.of_file clear.one.is_own
-        (stands_there view own number place same stands)
+    (stands_there view own number place same stands)
     (found_there view done (λ o. IsFirstOpen o number task) clear teams credit finds)
 
 pub covered_decided : (view : ClearView) (own : OwnView) (done : DoneView) (number place : ℕ)
@@ -115,7 +115,7 @@ pub covered_decided : (view : ClearView) (own : OwnView) (done : DoneView) (numb
     → IsCompleteShown view.run.records place
 covered_decided view own done number place clear same teams credit stands finds =
     all_shown view.run.records view.own number place clear.one.of_file clear.one.is_own
-        (stands_there view own number place same stands)
+    (stands_there view own number place same stands)
     (found_there view done (λ o. IsCoverComplete o.run.records number) clear teams credit finds)
 
 -- where no wait ends
@@ -126,7 +126,7 @@ pub no_end_decided : (view : ClearView) (own : OwnView) (done : DoneView) (numbe
 no_end_decided view own done number place clear same teams stands ends_none =
     let P : OwnView → Type 0 = λ o. IsEnd o.run.records number → ⊥ in
     all_shown view.run.records view.own number place clear.one.of_file clear.one.is_own
-        (stands_there view own number place same stands)
+    (stands_there view own number place same stands)
     (end_complete view.own.run.records number (subst P teams ends_none))
 
 -- ---- the first violation

@@ -69,11 +69,13 @@ contains_behind x xs a (k, below, is) = (suc k, omega (arith, below), is)
 
 -- what stands before another, and the other, are in the list
 pub earlier_from : (xs : List ℕ) (a b : ℕ) → IsEarlier xs a b → Contains xs a
-earlier_from xs a b e =
-    (e.first, (let low = e.apart in let within = e.within in omega (arith, low, within)),
-        get_or_default xs e.first a 0
-            (let low = e.apart in let within = e.within in omega (arith, low, within))
-            ∙ e.a_stands)
+earlier_from xs a b e = (
+  e.first,
+  (let low = e.apart in let within = e.within in omega (arith, low, within)),
+  get_or_default xs e.first a 0
+      (let low = e.apart in let within = e.within in omega (arith, low, within))
+      ∙ e.a_stands,
+)
 
 pub earlier_to : (xs : List ℕ) (a b : ℕ) → IsEarlier xs a b → Contains xs b
 earlier_to xs a b e = (e.second, e.within, get_or_default xs e.second b 0 e.within ∙ e.b_stands)
@@ -107,7 +109,7 @@ earlier_append_cases [] ys a b e = inr (inr e)
 earlier_append_cases (x ∷ xs) ys a b e = elim (earlier_cases x (xs ++ ys) a b e) [
   | inl (same, has) ↦
       let P : ℕ → Type 0 =
-          λ n. IsEarlier (x ∷ xs) n b ⊎ ((Contains (x ∷ xs) n × Contains ys b) ⊎ IsEarlier ys n b) in
+      λ n. IsEarlier (x ∷ xs) n b ⊎ ((Contains (x ∷ xs) n × Contains ys b) ⊎ IsEarlier ys n b) in
       subst P same (elim (Contains-append_cases xs ys b has) [
         | inl among ↦ inl (earlier_first x xs b among)
         | inr behind ↦ inr (inl (contains_first x xs, behind))
@@ -131,8 +133,8 @@ earlier_filter p (x ∷ xs) a b holds too e = of (λ behind. earlier_filter p xs
     of rest true kept = elim (earlier_cases x xs a b e) [
       | inl (same, has) ↦
           rw kept
-              (let P : ℕ → Type 0 = λ n. IsEarlier (n ∷ filter p xs) a b in
-               subst P (sym same) (earlier_first a (filter p xs) b (Contains-filter p xs b has too)))
+          (let P : ℕ → Type 0 = λ n. IsEarlier (n ∷ filter p xs) a b in
+          subst P (sym same) (earlier_first a (filter p xs) b (Contains-filter p xs b has too)))
       | inr behind ↦ rw kept (earlier_behind x (filter p xs) a b (rest behind))
     ]
     of rest false left = elim (earlier_cases x xs a b e) [
@@ -146,8 +148,8 @@ places_apart : (rs : List Record) → AllPairs (λ x y. x ≢ y) (places rs)
 places_apart rs i j d low within same =
     let len = length-range_with_len 0 (length rs) in
     let there : 0 + i ≡ 0 + j =
-        sym (get_or-range_with_len 0 (length rs) i d (omega (arith, low, within, len))) ∙ same
-            ∙ get_or-range_with_len 0 (length rs) j d (omega (arith, within, len)) in
+    sym (get_or-range_with_len 0 (length rs) i d (omega (arith, low, within, len))) ∙ same
+    ∙ get_or-range_with_len 0 (length rs) j d (omega (arith, within, len)) in
     absurd (omega (arith, there, low))
 
 eqb_flips : (x y : ℕ) → eqb x y ≡ eqb y x
@@ -160,8 +162,8 @@ pub order_apart : (rs : List Record) (order : List ℕ) → IsPermutation (place
     → AllPairs (λ x y. x ≢ y) order
 order_apart rs order permutation =
     AllPairs-from_IsDistinct Decides-eqb order
-        (IsDistinct-IsPermutation eqb eqb_flips (places rs) order permutation
-            (IsDistinct-from_AllPairs Decides-eqb (places rs) (places_apart rs)))
+    (IsDistinct-IsPermutation eqb eqb_flips (places rs) order permutation
+    (IsDistinct-from_AllPairs Decides-eqb (places rs) (places_apart rs)))
 
 -- so no place stands before itself
 pub earlier_apart : (order : List ℕ) (a : ℕ) → AllPairs (λ x y. x ≢ y) order → IsEarlier order a a → ⊥

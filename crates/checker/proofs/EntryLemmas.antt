@@ -36,12 +36,12 @@ named_more rs n own old new finishes seen more are e = (
   λ (k, below, ends, is). elim (cases_eq k n) [
     | inl same ↦
         more e
-            ∙ or_left (e == own) (is_named (length rs) old e)
-                (eq-eqb e own (sym is ∙ ap (seen_at rs) same ∙ seen))
+        ∙ or_left (e == own) (is_named (length rs) old e)
+        (eq-eqb e own (sym is ∙ ap (seen_at rs) same ∙ seen))
     | inr apart ↦
         more e
-            ∙ or_right (e == own) (is_named (length rs) old e)
-                ((are e).1 (k, omega (arith, below, apart), ends, is))
+        ∙ or_right (e == own) (is_named (length rs) old e)
+        ((are e).1 (k, omega (arith, below, apart), ends, is))
   ],
 )
 
@@ -53,15 +53,15 @@ unnamed_free : (records : ℕ) (told : Named) (own : ℕ) → false ≡ is_named
 unnamed_free records told own is low = elim (cases_lt (slice_index told.makers.items own) records) [
   | inl less ↦
       absurd
-          (false≢true
-              (is ∙ inside (ltb own (length told.makers.items)) (lt-ltb own (length told.makers.items) low)
-                  ∙ lt-ltb (slice_index told.makers.items own) records less))
+      (false≢true
+      (is ∙ inside (ltb own (length told.makers.items)) (lt-ltb own (length told.makers.items) low)
+      ∙ lt-ltb (slice_index told.makers.items own) records less))
   | inr more ↦ more
 ]
   where
     inside : (test : Bool) → test ≡ true
         → cond test (ltb (slice_index told.makers.items own) records) (contains nat_cmp told.beyond own)
-            ≡ ltb (slice_index told.makers.items own) records
+        ≡ ltb (slice_index told.makers.items own) records
     inside true is' = refl
     inside false is' = absurd (false≢true is')
 
@@ -77,7 +77,7 @@ naming_more rs n own old new (Ok told) within finishes seen known more makers ar
   named = named_more rs n own old new finishes seen more are.named;
   makers =
       makers_more rs n own old.makers.items new.makers.items are.makers within finishes seen
-          (unnamed_free (length rs) old own (sym is ∙ known)) makers;
+      (unnamed_free (length rs) old own (sym is ∙ known)) makers;
 }
 
 -- ---- the first that repeats an entry

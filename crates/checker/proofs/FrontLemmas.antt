@@ -33,7 +33,7 @@ pub follows : (rs : List Record) (family : FamilyView) (known : Suspensions) (pl
     → IsReadyHead rs placed low i → MayFollow rs placed i
 follows rs family known placed heads low thread i front runs is ready =
     may_follow rs front.suspended.facts placed heads low thread i front.are_heads front.is_low
-        (front.are_heads.all i thread runs) is ready
+    (front.are_heads.all i thread runs) is ready
 
 pub passes : (rs : List Record) (family : FamilyView) (known : Suspensions) (placed : List Bool)
     (heads : List ℕ) (low i : ℕ)
@@ -74,12 +74,12 @@ more_put rs placed place old new moved may = record {
   kept = λ i c. Contains-permutation (place ∷ old) new i moved (contains_behind i place old c);
   only =
       λ i c.
-          elim
-              (contains_cases i place old
-                  (Contains-permutation new (place ∷ old) i (IsPermutation-sym (place ∷ old) new moved) c)) [
-    | inl same ↦ inr (rw same may)
-    | inr before ↦ inl before
-  ];
+      elim
+      (contains_cases i place old
+      (Contains-permutation new (place ∷ old) i (IsPermutation-sym (place ∷ old) new moved) c)) [
+        | inl same ↦ inr (rw same may)
+        | inr before ↦ inl before
+      ];
 }
 
 pub has_put : (place : ℕ) (old new : List ℕ) → IsPermutation (place ∷ old) new → Contains new place
@@ -95,16 +95,15 @@ pub ready_less : (rs : List Record) (placed : List Bool) (place : ℕ) (old new 
 ready_less rs placed place old new moved stands ready = record {
   all =
       λ i may.
-          elim (contains_cases i place new (Contains-permutation old (place ∷ new) i moved (ready.all i may)))
-              [
-    | inl same ↦ absurd (may.missing (rw same stands))
-    | inr c ↦ c
-  ];
+      elim (contains_cases i place new (Contains-permutation old (place ∷ new) i moved (ready.all i may))) [
+        | inl same ↦ absurd (may.missing (rw same stands))
+        | inr c ↦ c
+      ];
   only =
       λ i c.
-          ready.only i
-              (Contains-permutation (place ∷ new) old i (IsPermutation-sym old (place ∷ new) moved)
-                  (contains_behind i place new c));
+      ready.only i
+      (Contains-permutation (place ∷ new) old i (IsPermutation-sym old (place ∷ new) moved)
+      (contains_behind i place new c));
 }
 
 -- one that does not stand is taken out, the least
@@ -114,25 +113,24 @@ pub ready_taken : (rs : List Record) (placed : List Bool) (place : ℕ) (old new
 ready_taken rs placed place old new moved missing least ready = record {
   next =
       elim
-          (ready.only place
-              (Contains-permutation (place ∷ new) old place (IsPermutation-sym old (place ∷ new) moved)
-                  (contains_first place new))) [
-    | inl stands ↦ absurd (missing stands)
-    | inr may ↦ may
-  ];
+      (ready.only place
+      (Contains-permutation (place ∷ new) old place (IsPermutation-sym old (place ∷ new) moved)
+      (contains_first place new))) [
+        | inl stands ↦ absurd (missing stands)
+        | inr may ↦ may
+      ];
   first = λ i below may. let h = least i (ready.all i may) in absurd (omega (arith, below, h));
   kept =
       λ i apart may.
-          elim (contains_cases i place new (Contains-permutation old (place ∷ new) i moved (ready.all i may)))
-              [
-    | inl same ↦ absurd (apart same)
-    | inr c ↦ c
-  ];
+      elim (contains_cases i place new (Contains-permutation old (place ∷ new) i moved (ready.all i may))) [
+        | inl same ↦ absurd (apart same)
+        | inr c ↦ c
+      ];
   only =
       λ i c.
-          ready.only i
-              (Contains-permutation (place ∷ new) old i (IsPermutation-sym old (place ∷ new) moved)
-                  (contains_behind i place new c));
+      ready.only i
+      (Contains-permutation (place ∷ new) old i (IsPermutation-sym old (place ∷ new) moved)
+      (contains_behind i place new c));
 }
 
 -- each record that may stand next is the head of its thread
@@ -150,11 +148,11 @@ length_named rs i within = named (slice_get rs i) refl
     named : (o : Option Record) → slice_get rs i ≡ o → length_of rs i ≡ Some (seen_at rs i)
     named None e =
         absurd
-            (none-some (thread_there rs i within).0
-                (sym (ap (option_map (λ (r : Record). r.thread)) e) ∙ (thread_there rs i within).1))
+        (none-some (thread_there rs i within).0
+        (sym (ap (option_map (λ (r : Record). r.thread)) e) ∙ (thread_there rs i within).1))
     named (Some r) e =
         ap (option_map (λ (q : Record). q.seen)) e
-            ∙ ap Some (sym (ap (λ (o : Option Record). option_map_or (λ (q : Record). q.seen) o 0) e))
+        ∙ ap Some (sym (ap (λ (o : Option Record). option_map_or (λ (q : Record). q.seen) o 0) e))
 
 -- one that may stand next once the place does could do so before, or follows it in its thread, or awaits it,
 -- or names a ledger length that was not reached
@@ -165,13 +163,13 @@ let_stand : (rs : List Record) (family : FamilyView) (known : Suspensions) (plac
     → thread_at rs place ≡ Some thread → slice_index (set heads thread next) thread ≡ next
     → place < length placed → MayFollow rs (set placed place true) i
     → (i ≡ next)
-        ⊎ ((Awaits rs i place)
-              ⊎ (((k : ℕ) × (low < k) × (k ≤ now_low) × (length_of rs i ≡ Some k)) ⊎ MayFollow rs placed i))
+    ⊎ ((Awaits rs i place)
+    ⊎ (((k : ℕ) × (low < k) × (k ≤ now_low) × (length_of rs i ≡ Some k)) ⊎ MayFollow rs placed i))
 let_stand rs family known placed heads low now_low place thread next i before after runs is_next inside may =
     elim (cases_eq own.0 thread) [
-  | inl same ↦ inl (sym head_is ∙ ap (slice_index (set heads thread next)) same ∙ is_next)
-  | inr apart ↦ of_another apart
-]
+      | inl same ↦ inl (sym head_is ∙ ap (slice_index (set heads thread next)) same ∙ is_next)
+      | inr apart ↦ of_another apart
+    ]
   where
     own : (t : ℕ) × (thread_at rs i ≡ Some t)
     own = thread_there rs i may.within
@@ -190,20 +188,20 @@ let_stand rs family known placed heads low now_low place thread next i before af
 
     of_another : own.0 ≢ thread
         → (i ≡ next)
-            ⊎ ((Awaits rs i place)
-                  ⊎ (((k : ℕ) × (low < k) × (k ≤ now_low) × (length_of rs i ≡ Some k))
-                        ⊎ MayFollow rs placed i))
+        ⊎ ((Awaits rs i place)
+        ⊎ (((k : ℕ) × (low < k) × (k ≤ now_low) × (length_of rs i ≡ Some k))
+        ⊎ MayFollow rs placed i))
     of_another apart = elim (awaits_or_not rs family i place before.suspended.facts before.family_of) [
       | inl awaits ↦ inr (inl awaits)
       | inr other ↦ elim (cases_lt low (seen_at rs i)) [
         | inl more ↦ inr (inr (inl (seen_at rs i, more, passes_now.is_entered, length_named rs i may.within)))
         | inr reached ↦
-            inr ( inr ( inr ( follows rs family known placed heads low own.0 i before own.1
-                (sym (get_or-set_other heads thread own.0 next 0 apart) ∙ head_is) ( record {
-          within = may.within;
-          is_let = stood other;
-          is_entered = reached;
-        }))))
+            inr (inr (inr (follows rs family known placed heads low own.0 i before own.1
+            (sym (get_or-set_other heads thread own.0 next 0 apart) ∙ head_is) (record {
+              within = may.within;
+              is_let = stood other;
+              is_entered = reached;
+            }))))
       ]
     ]
 
@@ -217,29 +215,34 @@ pub ready_more : (rs : List Record) (family : FamilyView) (known : Suspensions) 
     → (MayFollow rs (set placed place true) next → Contains ready next)
     → ((i : ℕ) → Awaits rs i place → MayFollow rs (set placed place true) i → Contains ready i)
     → ((i k : ℕ) → low + 1 ≤ k → k < now_low + 1 → length_of rs i ≡ Some k
-          → MayFollow rs (set placed place true) i → Contains ready i)
+    → MayFollow rs (set placed place true) i → Contains ready i)
     → AreOffered rs (set placed place true) ready
 ready_more rs family known placed heads low now_low place thread next rest ready before after runs is_next
-        inside taken more of_thread of_awaited of_length =
+    inside taken more of_thread of_awaited of_length =
     record {
-  all =
-      λ i may.
+      all =
+          λ i may.
           elim
-              (let_stand rs family known placed heads low now_low place thread next i before after runs
-                  is_next inside may) [
-    | inl same ↦ let P : ℕ → Type 0 = λ j. Contains ready j in subst P (sym same) (of_thread (rw same at may))
-    | inr (inl awaits) ↦ of_awaited i awaits may
-    | inr (inr (inl names)) ↦
-        of_length i names.0 (let l = names.1 in omega (arith, l)) (let l = names.2 in omega (arith, l))
-            names.3 may
-    | inr (inr (inr could)) ↦
-        more.kept i (taken.kept i (λ same. may.missing (rw same (stands_here placed place inside))) could)
-  ];
-  only = λ i c. elim (more.only i c) [
-    | inr may ↦ inr may
-    | inl old ↦ still i (taken.only i old)
-  ];
-}
+          (let_stand rs family known placed heads low now_low place thread next i before after runs
+          is_next inside may) [
+            | inl same ↦
+                let P : ℕ → Type 0 = λ j. Contains ready j in
+                subst P (sym same) (of_thread (rw same at may))
+            | inr (inl awaits) ↦ of_awaited i awaits may
+            | inr (inr (inl names)) ↦
+                of_length i names.0 (let l = names.1 in omega (arith, l))
+                (let l = names.2 in omega (arith, l))
+                names.3 may
+            | inr (inr (inr could)) ↦
+                more.kept i
+                (taken.kept i (λ same. may.missing (rw same (stands_here placed place inside)))
+                could)
+          ];
+      only = λ i c. elim (more.only i c) [
+        | inr may ↦ inr may
+        | inl old ↦ still i (taken.only i old)
+      ];
+    }
   where
     still : (i : ℕ) → Stands placed i ⊎ MayFollow rs placed i
         → Stands (set placed place true) i ⊎ MayFollow rs (set placed place true) i
@@ -285,6 +288,6 @@ front_of ledger run makers known placed heads links order low is same_run same_p
       are_heads = standing.are_heads;
       is_low =
           low_reached run.records placed makers low (rw (← same_run, ← same_places) at is.makers)
-              (rw (← same_run, ← same_places) at is.entries) (rw (← same_run) at is.reached) standing.all
-              within passed missing;
+          (rw (← same_run, ← same_places) at is.entries) (rw (← same_run) at is.reached) standing.all
+          within passed missing;
     }

@@ -39,9 +39,9 @@ counts_there : (rs : List Record) (i : ℕ) (r : Record) (b : Bool) → i < leng
     → is_some (at finish rs i) ≡ b → finishes (get_or rs i r) ≡ b
 counts_there rs i r b within is =
     sym
-        (ap (λ o. is_some (option_and_then (λ (q : Record). finish q.body) o))
-            (slice_get-get_or rs i r within))
-        ∙ is
+    (ap (λ o. is_some (option_and_then (λ (q : Record). finish q.body) o))
+    (slice_get-get_or rs i r within))
+    ∙ is
 
 pub entries_same : (rs : List Record) (i : ℕ) (r : Record) → i < length rs → is_some (at finish rs i) ≡ false
     → entries_before rs (i + 1) ≡ entries_before rs i
@@ -56,7 +56,7 @@ before_le : (rs : List Record) (k n : ℕ) → k ≤ n → entries_before rs k �
 before_le rs k n low =
     let same : entries_in (take k (take n rs)) ≡ entries_before rs k = ap entries_in (take-take k n rs low) in
     let fewer : entries_in (take k (take n rs)) ≤ entries_before rs n =
-        sum_by-take-le (λ (r : Record). cond (is_some (finish r.body)) 1 0) (take n rs) k in
+    sum_by-take-le (λ (r : Record). cond (is_some (finish r.body)) 1 0) (take n rs) k in
     omega (arith, same, fewer)
 
 before_all : (rs : List Record) (n : ℕ) → entries_before rs n ≤ entries_in rs
@@ -192,28 +192,28 @@ last_more rs tasks lasts i index turn end are other task last indexed kept low =
   | inl same ↦
       let new : Suspension = record { turn = turn; place = i } in
       let inside : index < length lasts =
-          let within = slice_get_within (set lasts index new) other last kept in
-          let all = length-set lasts index new in omega (arith, within, all, same) in
+      let within = slice_get_within (set lasts index new) other last kept in
+      let all = length-set lasts index new in omega (arith, within, all, same) in
       let here : slice_get (set lasts index new) other ≡ Some new =
-          ap (slice_get (set lasts index new)) same
-              ∙ slice_get-get_or (set lasts index new) index new
-                  (let all = length-set lasts index new in omega (arith, inside, all))
-              ∙ ap Some (get_or-set_same lasts index new new inside) in
+      ap (slice_get (set lasts index new)) same
+      ∙ slice_get-get_or (set lasts index new) index new
+      (let all = length-set lasts index new in omega (arith, inside, all))
+      ∙ ap Some (get_or-set_same lasts index new new inside) in
       let is : new ≡ last = same_Some new last (sym here ∙ kept) in
       let own : end.task ≡ task =
-          same_Some end.task task (sym end.indexed ∙ ap (slice_get tasks) (sym same) ∙ indexed) in
+      same_Some end.task task (sym end.indexed ∙ ap (slice_get tasks) (sym same) ∙ indexed) in
       let P : Suspension → Type 0 = λ s. at suspended_turn rs s.place ≡ Some (task, s.turn) in
       subst P is (end.suspends ∙ ap (λ t. Some (t, turn)) own)
   | inr apart ↦
       let new : Suspension = record { turn = turn; place = i } in
       let inside : other < length lasts =
-          let within = slice_get_within (set lasts index new) other last kept in
-          let all = length-set lasts index new in omega (arith, within, all) in
+      let within = slice_get_within (set lasts index new) other last kept in
+      let all = length-set lasts index new in omega (arith, within, all) in
       let old : slice_get (set lasts index new) other ≡ slice_get lasts other =
       slice_get-get_or (set lasts index new) other new
-          (slice_get_within (set lasts index new) other last kept)
+      (slice_get_within (set lasts index new) other last kept)
       ∙ ap Some (get_or-set_other lasts index other new new apart)
-          ∙ sym (slice_get-get_or lasts other new inside) in
+      ∙ sym (slice_get-get_or lasts other new inside) in
       are other task last indexed (sym old ∙ kept) low
 ]
 
@@ -224,16 +224,16 @@ pub end_follows : (rs : List Record) (tasks : List ℕ) (lasts : List Suspension
     → slice_get lasts index ≡ Some last → turn ≡ last.turn + 1 → last.place < i → i < length rs
     → seen_at rs last.place ≤ seen_at rs i → (c : ℕ) → Awaits rs i c → (c < i) × (seen_at rs c ≤ seen_at rs i)
 end_follows rs tasks lasts i index turn last facts are begins later kept next before within low c
-        (awaits_creation task waits creates) =
+    (awaits_creation task waits creates) =
     absurd (none-some task (sym (later_awaits_none rs i begins.task turn facts begins.starts later) ∙ waits))
 end_follows rs tasks lasts i index turn last facts are begins later kept next before within low c
     (awaits_end again explicit) =
     let parts =
-        some_pair_parts begins.task again.task turn (again.turn + 1) (sym begins.starts ∙ again.resumes) in
+    some_pair_parts begins.task again.task turn (again.turn + 1) (sym begins.starts ∙ again.resumes) in
     let same : last.turn ≡ again.turn = omega (arith, parts.1, next) in
     let suspends : at suspended_turn rs last.place ≡ Some (again.task, again.turn) =
-        are index begins.task last begins.indexed kept (omega (arith, before, within))
-            ∙ ap (λ t. Some (t, last.turn)) parts.0 ∙ ap (λ t. Some (again.task, t)) same in
+    are index begins.task last begins.indexed kept (omega (arith, before, within))
+    ∙ ap (λ t. Some (t, last.turn)) parts.0 ∙ ap (λ t. Some (again.task, t)) same in
     let one : last.place ≡ c = sym (facts.once c last.place i again explicit suspends) in
     let P : ℕ → Type 0 = λ k. (k < i) × (seen_at rs k ≤ seen_at rs i) in
     subst P one (before, low)
@@ -246,5 +246,5 @@ root_follows rs tasks i index turn facts begins later root c (awaits_creation ta
     absurd (none-some task (sym (later_awaits_none rs i begins.task turn facts begins.starts later) ∙ waits))
 root_follows rs tasks i index turn facts begins later root c (awaits_end again explicit) =
     let parts =
-        some_pair_parts begins.task again.task turn (again.turn + 1) (sym begins.starts ∙ again.resumes) in
+    some_pair_parts begins.task again.task turn (again.turn + 1) (sym begins.starts ∙ again.resumes) in
     absurd (root (subst (IsExplicit rs) (sym parts.0) explicit))

@@ -57,7 +57,7 @@ pub predecessor_index : (rs : List Record) (tasks : List ℕ) (task predecessor 
 predecessor_index rs tasks task predecessor noted is =
     let place = predecessor_made rs task predecessor is in
     contains_get tasks predecessor
-        (noted.each place.0 predecessor place.1 (created_at_made predecessor rs place.0 place.2))
+    (noted.each place.0 predecessor place.1 (created_at_made predecessor rs place.0 place.2))
 
 -- ---- the search over the predecessors
 
@@ -86,7 +86,7 @@ one_creation : (file : List Record) (task place other : ℕ) → IsFreeOf file C
     → at created file place ≡ Some task → at created file other ≡ Some task → place ≡ other
 one_creation file task place other once one another =
     made_once file task place other once (created_at_made task file place one)
-        (created_at_made task file other another)
+    (created_at_made task file other another)
 
 -- of a late task among the first n and the next one, which is late too, the one that is created first is the
 -- first of
@@ -108,31 +108,31 @@ first_of_late file own tasks bound n task place _ late once stands behind (the_o
   ],
 )
 first_of_late file own tasks bound n task place _ late once stands behind
-        (the_first { first = first } same less) (among, first_behind, least) =
+    (the_first {first = first} same less) (among, first_behind, least) =
     rw same (
-  kept tasks n first.task among,
-  first_behind,
-  λ other q found late_too. elim (among_more tasks n task other stands found) [
-    | inl earlier ↦ least other q earlier late_too
-    | inr is ↦
-        let P : ℕ → Type 0 = λ t. at created file q ≡ Some t in
-        let same_place = one_creation file task place q once behind.1 (subst P is late_too.1) in
-        omega (arith, same_place, less)
-  ],
-)
+      kept tasks n first.task among,
+      first_behind,
+      λ other q found late_too. elim (among_more tasks n task other stands found) [
+        | inl earlier ↦ least other q earlier late_too
+        | inr is ↦
+            let P : ℕ → Type 0 = λ t. at created file q ≡ Some t in
+            let same_place = one_creation file task place q once behind.1 (subst P is late_too.1) in
+            omega (arith, same_place, less)
+      ],
+    )
 first_of_late file own tasks bound n task place _ late once stands behind
-        (the_other { first = first } same most) (among, first_behind, least) =
+    (the_other {first = first} same most) (among, first_behind, least) =
     rw same (
-  (n, omega arith, stands),
-  behind,
-  λ other q found late_too. elim (among_more tasks n task other stands found) [
-    | inl earlier ↦ let low = least other q earlier late_too in omega (arith, low, most)
-    | inr is ↦
-        let P : ℕ → Type 0 = λ t. at created file q ≡ Some t in
-        let same_place = one_creation file task place q once behind.1 (subst P is late_too.1) in
-        omega (arith, same_place)
-  ],
-)
+      (n, omega arith, stands),
+      behind,
+      λ other q found late_too. elim (among_more tasks n task other stands found) [
+        | inl earlier ↦ let low = least other q earlier late_too in omega (arith, low, most)
+        | inr is ↦
+            let P : ℕ → Type 0 = λ t. at created file q ≡ Some t in
+            let same_place = one_creation file task place q once behind.1 (subst P is late_too.1) in
+            omega (arith, same_place)
+      ],
+    )
 
 -- where the next one is finished nothing changes
 pub first_of_done : (file own : List Record) (tasks : List ℕ) (bound n task : ℕ) (first : Option Late)
@@ -140,9 +140,9 @@ pub first_of_done : (file own : List Record) (tasks : List ℕ) (bound n task : 
     → IsFirstOf file own tasks bound (n + 1) first
 first_of_done file own tasks bound n task None stands is done =
     λ other among. elim (among_more tasks n task other stands among) [
-  | inl earlier ↦ done other earlier
-  | inr same ↦ let P : ℕ → Type 0 = IsDone own bound in subst P (sym same) is
-]
+      | inl earlier ↦ done other earlier
+      | inr same ↦ let P : ℕ → Type 0 = IsDone own bound in subst P (sym same) is
+    ]
 first_of_done file own tasks bound n task (Some late) stands is (among, behind, least) = (
   kept tasks n late.task among,
   behind,
@@ -208,16 +208,16 @@ none_late file own lengths latest i of is_own are_own are none predecessor prece
         let noted = is_own.run.family.noted in
         let place = child_place rs is.parent (length rs) is.number dependent is.is_child in
         let index =
-            contains_get tasks dependent
-                (noted.each place.0 dependent place.1
-                    (created_at_made dependent rs place.0
-                        (creation_at_created is.parent dependent rs place.0 place.2))) in
+        contains_get tasks dependent
+        (noted.each place.0 dependent place.1
+        (created_at_made dependent rs place.0
+        (creation_at_created is.parent dependent rs place.0 place.2))) in
         let within = slice_get_within tasks index.0 dependent index.1 in
         let low : slice_index latest index.0 ≤ 0 =
-            let zero_there = none index.0 (rw are.all within) in omega (arith, zero_there) in
+        let zero_there = none index.0 (rw are.all within) in omega (arith, zero_there) in
         let done =
-            done_by_latest rs tasks lengths latest index.0 dependent 0 noted are_own are index.1 (omega arith)
-                low predecessor is in
+        done_by_latest rs tasks lengths latest index.0 dependent 0 noted are_own are index.1 (omega arith)
+        low predecessor is in
         complete_from_start file i predecessor ((own_done file own 0 predecessor of is_own).0 done)
 
 -- so where nothing is noted of where tasks start
@@ -225,11 +225,11 @@ pub none_waits : (of_edges : RunView) (known : PrecedenceView) (i : ℕ) → IsP
     → known.starts ≡ None → AreReady known.file.records i
 none_waits of_edges known i is none =
     let P : Option (List ℕ) → Type 0 =
-        λ o.
-            MatchOption o (AreNoLengths known.latest)
-                (AreStarts known.file.records known.file.family.tasks) in
+    λ o.
+    MatchOption o (AreNoLengths known.latest)
+    (AreStarts known.file.records known.file.family.tasks) in
     none_late known.file.records known.own known.lengths known.latest i is.of_file is.is_own is.lengths
-        is.latest (subst P none is.starts)
+    is.latest (subst P none is.starts)
 
 -- ---- what it says of the record
 
@@ -281,7 +281,7 @@ found_by rs own i index bound (Some predecessor) is found =
       is_created = first.is_created;
       created_first =
           λ k other below creates late.
-              first.first k other below creates ((late_if rs own i index bound other is).0 late);
+          first.first k other below creates ((late_if rs own i index bound other is).0 late);
     }
 
 -- ---- one task
@@ -292,7 +292,7 @@ pub predecessors_at : (rs others : List Record) (tasks items : List ℕ) (index 
     → ArePredecessors others own items → ArePredecessors rs dependent items
 predecessors_at rs others tasks items index own dependent records_are is there are =
     subst (λ t. ArePredecessors rs t items) (same_Some own dependent (sym is ∙ there))
-        (subst (λ r. ArePredecessors r own items) records_are are)
+    (subst (λ r. ArePredecessors r own items) records_are are)
 
 -- a task that is found where it is created, unless the entries finish it
 pub behind_if : (file own : List Record) (tasks predecessors : List ℕ) (dependent bound task : ℕ)
@@ -300,7 +300,7 @@ pub behind_if : (file own : List Record) (tasks predecessors : List ℕ) (depend
     → AreNoted made own (length own) tasks → ArePredecessors own dependent predecessors
     → Contains predecessors task
     → ((index : ℕ) → slice_get tasks index ≡ Some task → IsExplicit own task
-          → MatchOption found (IsDone own bound task) (IsBehindAt file own bound task))
+    → MatchOption found (IsDone own bound task) (IsBehindAt file own bound task))
     → IsTrue (is_some found) ↔ IsBehind own dependent bound task
 behind_if file own tasks predecessors dependent bound task found noted are among tells =
     let is = are.only task among in
@@ -340,7 +340,7 @@ wait_starts_none rs i task other trace completes starts = there (slice_get rs i)
         let within = slice_get_within rs i r e in
         let P : Record → Type 0 = λ q. IsSound q.body in
         subst P (same_Some (get_or rs i r) r (sym (slice_get-get_or rs i r within) ∙ e))
-            (trace.sound i r within)
+        (trace.sound i r within)
 
     there : (o : Option Record) → slice_get rs i ≡ o
         → option_and_then (λ (r : Record). wait_completed r.body) o ≡ Some task
@@ -355,7 +355,7 @@ preceded_at_start rs i task trace explicit start p = (
   (λ preceded. elim preceded [
     | inl (other, is_explicit, starts, is) ↦
         subst (λ t. IsPredecessor (in_own_order rs) t p)
-            (same_Some other task (sym (start_starts rs i other starts) ∙ start_starts rs i task start)) is
+        (same_Some other task (sym (start_starts rs i other starts) ∙ start_starts rs i task start)) is
     | inr (other, completes, is) ↦
         absurd (wait_starts_none rs i other task trace completes (start_starts rs i task start))
   ]),
@@ -396,17 +396,17 @@ pub dependent_start : (rs : List Record) (own : OwnView) (tasks : List ℕ) (i f
 dependent_start rs own tasks i first index bound trace of is_own (task, there, explicit, start) stands
     is_bound =
     dependent_own rs own i index bound task of is_own stands
-        (preceded_at_start rs i task trace explicit start) is_bound
+    (preceded_at_start rs i task trace explicit start) is_bound
 
 pub dependent_wait : (rs : List Record) (own : OwnView) (i index task : ℕ) → IsTrace rs → IsOwnOf rs own
     → IsOwn own → slice_get own.run.family.tasks index ≡ Some task → at wait_completed rs i ≡ Some task
     → IsDependentAt rs own.run i index (seen_at rs i)
 dependent_wait rs own i index task trace of is_own there completes =
     dependent_own rs own i index (seen_at rs i) task of is_own there
-        (preceded_at_wait rs i task trace completes)
+    (preceded_at_wait rs i task trace completes)
     (bound_still rs i
-        (λ (other, explicit, start).
-            wait_starts_none rs i task other trace completes (start_starts rs i other start)))
+    (λ (other, explicit, start).
+    wait_starts_none rs i task other trace completes (start_starts rs i other start)))
 
 pub preceded_by_none : (rs : List Record) (i : ℕ) → StartsNoneAt rs i
     → ((task : ℕ) → at wait_completed rs i ≡ Some task → ⊥) → IsPrecededByNone rs i
@@ -418,10 +418,10 @@ preceded_by_none rs i starts completes task preceded = elim preceded [
 pub ready_past : (rs : List Record) (i : ℕ) → length rs ≤ i → AreReady rs i
 ready_past rs i past task preceded = absurd (preceded_by_none rs i
     (λ other explicit start.
-        let inside = at_within started rs i other (start_starts rs i other start) in
-        omega (arith, inside, past))
+    let inside = at_within started rs i other (start_starts rs i other start) in
+    omega (arith, inside, past))
     (λ other completes.
-        let inside = at_within wait_completed rs i other completes in omega (arith, inside, past))
+    let inside = at_within wait_completed rs i other completes in omega (arith, inside, past))
     task preceded)
 
 -- where nothing is there whose predecessors must be complete

@@ -41,12 +41,12 @@ known_start rs = record {
     none_known thread more = elim (cases_lt thread 256) [
       | inl less ↦
           let zero_there : get_or (replicate 256 0) thread 0 ≡ 0 =
-              get_or-replicate { A = ℕ } 256 thread 0 0 less in
+          get_or-replicate {A = ℕ} 256 thread 0 0 less in
           omega (arith, more, zero_there)
       | inr past ↦
           let zero_there : get_or (replicate 256 0) thread 0 ≡ 0 =
-              Rattle.std.proofs.lemmas.List.get_or_past { X = ℕ } (replicate 256 0) thread 0
-                  (let len = length-replicate { A = ℕ } 256 0 in omega (arith, past, len)) in
+          Rattle.std.proofs.lemmas.List.get_or_past {X = ℕ} (replicate 256 0) thread 0
+          (let len = length-replicate {A = ℕ} 256 0 in omega (arith, past, len)) in
           omega (arith, more, zero_there)
     ]
 
@@ -62,7 +62,7 @@ known_more rs n own after known runs low is more are = record {
     there : (thread : ℕ) → thread ≡ own → get_or (set known own after) thread 0 ≡ known_after rs n
     there thread same =
         ap (λ t. get_or (set known own after) t 0) same
-            ∙ get_or-set_same known own after 0 (let all = are.all in omega (arith, low, all)) ∙ is
+        ∙ get_or-set_same known own after 0 (let all = are.all in omega (arith, low, all)) ∙ is
 
     elsewhere : (thread : ℕ) → thread ≢ own → get_or (set known own after) thread 0 ≡ get_or known thread 0
     elsewhere thread apart = get_or-set_other known own thread after 0 apart
@@ -93,7 +93,7 @@ known_more rs n own after known runs low is more are = record {
 
     last : (thread : ℕ) → 0 < get_or (set known own after) thread 0 → (thread ≡ own) ⊎ (thread ≢ own)
         → (k : ℕ) × (k < n + 1) × (thread_at rs k ≡ Some thread)
-            × (known_after rs k ≡ get_or (set known own after) thread 0)
+        × (known_after rs k ≡ get_or (set known own after) thread 0)
     last thread positive (inl same) = (n, omega arith, runs ∙ ap Some (sym same), sym (there thread same))
     last thread positive (inr apart) =
         let value = elsewhere thread apart in

@@ -41,10 +41,10 @@ lists_more key n k at firsts nexts all within low is lists = record {
     | inl same ↦
         let same_key : other ≡ k = same_Some other k (sym there ∙ ap key same ∙ is) in
         rw (same, same_key, get_or-set_same nexts at (slice_index firsts k) 0 (rw all within))
-            (lists.first k low)
+        (lists.first k low)
     | inr beyond ↦
         rw (get_or-set_other nexts at i (slice_index firsts k) 0 beyond)
-            (lists.next i other (omega arith) below there)
+        (lists.next i other (omega arith) below there)
   ];
 }
 
@@ -88,7 +88,7 @@ seen_is rs i k names = is (slice_get rs i) refl
     is None e = absurd (none-some k (sym (ap (option_map (λ (r : Record). r.seen)) e) ∙ names))
     is (Some r) e =
         ap (λ o. option_map_or (λ (q : Record). q.seen) o 0) e
-            ∙ same_Some r.seen k (sym (ap (option_map (λ (q : Record). q.seen)) e) ∙ names)
+        ∙ same_Some r.seen k (sym (ap (option_map (λ (q : Record). q.seen)) e) ∙ names)
 
 -- no record names a greater length than there are entries
 pub length_within : (rs : List Record) (i k : ℕ) → IsFreeOf rs LengthAhead → length_of rs i ≡ Some k
@@ -108,6 +108,6 @@ pub names_length : (rs : List Record) (i seen : ℕ) → i < length rs → seen 
 names_length rs i seen within is = elim (slice_get_cases rs i).1 [
   | inl (r, inside, stands, same) ↦
       ap (option_map (λ (q : Record). q.seen)) stands
-          ∙ ap Some (sym (is ∙ ap (λ (o : Option Record). option_map_or (λ (q : Record). q.seen) o 0) stands))
+      ∙ ap Some (sym (is ∙ ap (λ (o : Option Record). option_map_or (λ (q : Record). q.seen) o 0) stands))
   | inr past ↦ absurd (let end = past.0 in omega (arith, end, within))
 ]

@@ -28,21 +28,21 @@ makers_more rs n seen old new are inside finishes is free noted = rw noted (reco
         let within : seen_at rs i < length old = rw (length-set old seen n) at low in
         let before = are.each i (omega (arith, below, apart)) finishing within in
         let other : seen_at rs i ≢ seen =
-            (λ same.
-                let there = ap (slice_index old) (sym same) ∙ before in
-                let past = free (let l = within in omega (arith, l, same)) in
-                let real = finishing_within rs i finishing in omega (arith, past, there, real)) in
+        (λ same.
+        let there = ap (slice_index old) (sym same) ∙ before in
+        let past = free (let l = within in omega (arith, l, same)) in
+        let real = finishing_within rs i finishing in omega (arith, past, there, real)) in
         get_or-set_other old seen (seen_at rs i) n 0 other ∙ before
   ];
   only = λ entry below low. elim (cases_eq entry seen) [
     | inl same ↦
         let within : seen < length old = rw (length-set old seen n, same) at below in
         let here : slice_index (set old seen n) entry ≡ n =
-            ap (slice_index (set old seen n)) same ∙ get_or-set_same old seen n 0 within in
+        ap (slice_index (set old seen n)) same ∙ get_or-set_same old seen n 0 within in
         rw here (finishes, is ∙ sym same)
     | inr apart ↦
         let there : slice_index (set old seen n) entry ≡ slice_index old entry =
-            get_or-set_other old seen entry n 0 apart in
+        get_or-set_other old seen entry n 0 apart in
         rw there (are.only entry (rw (length-set old seen n) at below) (rw there at low))
   ];
 })
@@ -57,7 +57,7 @@ low_reached rs placed makers low are entries reached all within passed missing =
   below = λ i finishes less.
       let is = are.each i (finishing_within rs i finishes) finishes (omega (arith, less, within)) in
       stands_same placed (slice_index makers (seen_at rs i)) i is
-          (passed (seen_at rs i) less (rw (is, all) (finishing_within rs i finishes)));
+      (passed (seen_at rs i) less (rw (is, all) (finishing_within rs i finishes)));
   next = λ i more. elim (cases_lt low (length makers)) [
     | inl inside ↦
         let lacks = missing inside in

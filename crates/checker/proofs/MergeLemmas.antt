@@ -32,7 +32,7 @@ may_follow rs facts placed heads low thread head are is_low inside is ready = re
   within = ready.within;
   missing =
       λ standing.
-          are.missing thread inside (stands_same placed head (slice_index heads thread) (sym is) standing);
+      are.missing thread inside (stands_same placed head (slice_index heads thread) (sym is) standing);
   steps = λ a step. stands_before a step;
 }
   where
@@ -51,7 +51,7 @@ may_follow rs facts placed heads low thread head are is_low inside is ready = re
 all_before : (rs : List Record) (placed : List Bool) (a i : ℕ) → AreClosed rs placed
     → ((c : ℕ) → IsStep rs c i → Stands placed c) → HappensBefore rs a i → Stands placed a
 all_before rs placed a i closed steps (step s) = steps a s
-all_before rs placed a i closed steps (chain { b = mid } first second) =
+all_before rs placed a i closed steps (chain {b = mid} first second) =
     closed a mid first (all_before rs placed mid i closed steps second)
 
 -- a record that may stand next passes the test
@@ -80,9 +80,9 @@ is_head rs placed heads i thread are runs may = elim (cases_lt i (slice_index he
         let low = are.all i thread runs in
         let inside : slice_index heads thread < length rs = let w = may.within in omega arith in
         absurd
-            (are.missing thread low
-                (may.steps (slice_index heads thread)
-                    (program
-                        (thread_order (omega arith) may.within (are.head thread low inside ∙ sym runs)))))
+        (are.missing thread low
+        (may.steps (slice_index heads thread)
+        (program
+        (thread_order (omega arith) may.within (are.head thread low inside ∙ sym runs)))))
   ]
 ]

@@ -41,14 +41,14 @@ pub stands_here : (placed : List Bool) (place : ℕ) → place < length placed
     → Stands (set placed place true) place
 stands_here placed place within =
     slice_get-get_or (set placed place true) place false (rw (length-set placed place true) within)
-        ∙ ap Some (get_or-set_same placed place true false within)
+    ∙ ap Some (get_or-set_same placed place true false within)
 
 pub get_other : (placed : List Bool) (place i : ℕ) → i ≢ place → i < length placed
     → slice_get (set placed place true) i ≡ slice_get placed i
 get_other placed place i apart within =
     slice_get-get_or (set placed place true) i false (rw (length-set placed place true) within)
-        ∙ ap Some (get_or-set_other placed place i true false apart)
-        ∙ sym (slice_get-get_or placed i false within)
+    ∙ ap Some (get_or-set_other placed place i true false apart)
+    ∙ sym (slice_get-get_or placed i false within)
 
 pub stands_still : (placed : List Bool) (place i : ℕ) → Stands placed i → Stands (set placed place true) i
 stands_still placed place i stands = elim (cases_eq i place) [
@@ -64,22 +64,22 @@ stands_cases placed place i stands = elim (cases_eq i place) [
   | inl same ↦ inr same
   | inr apart ↦
       inl
-          (sym
-              (get_other placed place i apart
-                  (rw (← length-set placed place true) (stands_within (set placed place true) i stands)))
-              ∙ stands)
+      (sym
+      (get_other placed place i apart
+      (rw (← length-set placed place true) (stands_within (set placed place true) i stands)))
+      ∙ stands)
 ]
 
 pub none_stands : (n i : ℕ) → Stands (replicate n false) i → ⊥
 none_stands n i stands =
     let within : i < n = rw (length-replicate n false) at (stands_within (replicate n false) i stands) in
     let e : false ≡ true =
-        sym (get_or-replicate n i false false within)
-            ∙ same_Some (get_or (replicate n false) i false) true
-                (sym
-                    (slice_get-get_or (replicate n false) i false
-                        (stands_within (replicate n false) i stands))
-                    ∙ stands) in
+    sym (get_or-replicate n i false false within)
+    ∙ same_Some (get_or (replicate n false) i false) true
+    (sym
+    (slice_get-get_or (replicate n false) i false
+    (stands_within (replicate n false) i stands))
+    ∙ stands) in
     false≢true e
 
 -- what is in the first part of a list is in the list
@@ -116,7 +116,7 @@ each_more P order place each next k below = elim (cases_lt k (length order)) [
     take_whole : take (length order) (order ++ place ∷ []) ≡ order
     take_whole =
         take-append-le (length order) order (place ∷ []) (omega arith)
-            ∙ take_all (length order) order (omega arith)
+        ∙ take_all (length order) order (omega arith)
 
 -- what stands does so with all that happens before it
 pub standing_closed : (rs : List Record) (placed : List Bool) (heads links order : List ℕ)
@@ -140,7 +140,7 @@ none_standing rs heads links placed is lists all rising = rw is (record {
     all = all;
     below =
         λ thread i runs below.
-            absurd ((lists.first thread (all i thread runs)).none i (omega arith) below runs);
+        absurd ((lists.first thread (all i thread runs)).none i (omega arith) below runs);
     head = λ thread low inside. (lists.first thread low).found inside;
     missing = λ thread low stands. none_stands (length rs) (slice_index heads thread) stands;
   };
@@ -162,28 +162,28 @@ heads_more rs placed heads links order place thread next merging may runs is_nex
     | inl same ↦ stands_below i (runs_there ∙ ap Some same) (rw (same, here) at below)
     | inr apart ↦
         stands_still placed place i
-            (merging.are_heads.below other i runs_there (rw (there other apart) at below))
+        (merging.are_heads.below other i runs_there (rw (there other apart) at below))
   ];
   head = λ other low inside. elim (cases_eq other thread) [
     | inl same ↦ rw (same, here) (is_next.found (rw (same, here) at inside))
     | inr apart ↦
         rw (there other apart)
-            (merging.are_heads.head other (rw (length-set heads thread next) at low)
-                (rw (there other apart) at inside))
+        (merging.are_heads.head other (rw (length-set heads thread next) at low)
+        (rw (there other apart) at inside))
   ];
   missing = λ other low stands. elim (cases_eq other thread) [
     | inl same ↦ next_missing (rw (same, here) at stands)
     | inr apart ↦
         elim (stands_cases placed place (slice_index heads other) (rw (there other apart) at stands)) [
-      | inl old ↦ merging.are_heads.missing other (rw (length-set heads thread next) at low) old
-      | inr is ↦
-          apart
+          | inl old ↦ merging.are_heads.missing other (rw (length-set heads thread next) at low) old
+          | inr is ↦
+              apart
               (same_Some other thread
-                  (sym
-                      (merging.are_heads.head other (rw (length-set heads thread next) at low)
-                          (rw is may.within))
-                      ∙ ap (thread_at rs) is ∙ runs))
-    ]
+              (sym
+              (merging.are_heads.head other (rw (length-set heads thread next) at low)
+              (rw is may.within))
+              ∙ ap (thread_at rs) is ∙ runs))
+        ]
   ];
 }
   where
@@ -225,7 +225,7 @@ heads_more rs placed heads links order place thread next merging may runs is_nex
 pub standing_more : (rs : List Record) (placed : List Bool) (heads links order : List ℕ) (place thread : ℕ)
     → AreStanding rs placed heads links order → MayFollow rs placed place → thread_at rs place ≡ Some thread
     → AreStanding rs (set placed place true) (set heads thread (slice_index links place)) links
-        (order ++ place ∷ [])
+    (order ++ place ∷ [])
 standing_more rs placed heads links order place thread standing may runs = record {
   all = length-set placed place true ∙ standing.all;
   to_order = λ i stands. elim (stands_cases placed place i stands) [
@@ -281,19 +281,20 @@ standing_more rs placed heads links order place thread standing may runs = recor
     left_after : (rest : List ℕ) × IsPermutation (places rs) ((order ++ place ∷ []) ++ rest)
     left_after =
         elim
-            (Contains-append_cases order standing.left place
-                (Contains-permutation (places rs) (order ++ standing.left) place standing.permutation
-                    (contains_place rs place may.within))) [
-      | inl c ↦ absurd (may.missing (standing.from_order place c))
-      | inr c ↦
-          (remove standing.left c.0,
-              IsPermutation-more (places rs) order standing.left c.0 place c.1 (sym c.2) standing.permutation)
-    ]
+        (Contains-append_cases order standing.left place
+        (Contains-permutation (places rs) (order ++ standing.left) place standing.permutation
+        (contains_place rs place may.within))) [
+          | inl c ↦ absurd (may.missing (standing.from_order place c))
+          | inr c ↦ (
+            remove standing.left c.0,
+            IsPermutation-more (places rs) order standing.left c.0 place c.1 (sym c.2) standing.permutation,
+          )
+        ]
 
     due : IsDue rs order place
     due a before =
         due_from_steps rs order (turn_closed rs order standing.in_turn) a place before
-            (λ c s. standing.to_order c (may.steps c s))
+        (λ c s. standing.to_order c (may.steps c s))
 
 -- what may stand next in the list may follow what stands
 pub ready_follows : (rs : List Record) (placed : List Bool) (heads links order : List ℕ) (place : ℕ)
@@ -326,7 +327,7 @@ pub merging_more : (rs : List Record) (placed : List Bool) (heads links base ord
     → IsMerging rs placed heads links base order → MayFollow rs placed place
     → ((i : ℕ) → i < place → MayFollow rs placed i → ⊥) → thread_at rs place ≡ Some thread
     → IsMerging rs (set placed place true) (set heads thread (slice_index links place)) links base
-        (order ++ place ∷ [])
+    (order ++ place ∷ [])
 merging_more rs placed heads links base order place thread merging may first runs = record {
   standing = now;
   behind = record {
@@ -335,7 +336,7 @@ merging_more rs placed heads links base order place thread merging may first run
         ap (λ l. l ++ place ∷ []) merging.behind.parts ∙ append_assoc base merging.behind.more (place ∷ []);
     greedy =
         each_more (λ xs i. IsFirstReady rs (λ _. ⊤) (base ++ xs) i) merging.behind.more place
-            merging.behind.greedy (
+        merging.behind.greedy (
         let P : List ℕ → Type 0 = λ l. IsFirstReady rs (λ _. ⊤) l place in
         subst P merging.behind.parts first_ready);
   };
@@ -353,12 +354,12 @@ merging_more rs placed heads links base order place thread merging may first run
         missing = λ c. may.missing (merging.standing.from_order place c);
         due =
             λ a before.
-                due_from_steps rs order (turn_closed rs order merging.standing.in_turn) a place before
-                    (λ c s. merging.standing.to_order c (may.steps c s));
+            due_from_steps rs order (turn_closed rs order merging.standing.in_turn) a place before
+            (λ c s. merging.standing.to_order c (may.steps c s));
       };
       first =
           λ k earlier ready.
-              first k earlier (ready_follows rs placed heads links order k merging.standing ready);
+          first k earlier (ready_follows rs placed heads links order k merging.standing ready);
     }
 
 -- where no record may follow, none is ready
@@ -374,15 +375,16 @@ pub all_ordered : (rs : List Record) (placed : List Bool) (heads links order : L
     → IsLinearization rs order
 all_ordered rs placed heads links order standing full = record {
   all_once =
-      rw
-          (nothing_left rs order standing.left standing.permutation
-              (λ i inside. standing.to_order i (full i inside)),
-              append-nil)
-          at standing.permutation;
+      rw (
+        nothing_left rs order standing.left standing.permutation
+            (λ i inside. standing.to_order i (full i inside)),
+        append-nil,
+      )
+      at standing.permutation;
   rising =
       λ a b before.
-          grounded_rising rs order (turn_grounded rs order standing.in_turn) a b before
-              (standing.to_order b (full b (before_to rs a b before)));
+      grounded_rising rs order (turn_grounded rs order standing.in_turn) a b before
+      (standing.to_order b (full b (before_to rs a b before)));
 }
 
 -- each record that stands has an order
@@ -401,8 +403,8 @@ missing_unordered rs placed heads links order i standing none within missing = r
       let P : ℕ → Type 0 = λ j. Contains order j in
       let is : slice_index other c.0 ≡ i = get_or_default other c.0 0 i c.1 ∙ c.2 in
       subst P is
-          (grounded_stands rs placed heads links order other standing none grounded (c.0 + 1) c.0
-              (omega arith) c.1 (rw is within))
+      (grounded_stands rs placed heads links order other standing none grounded (c.0 + 1) c.0
+      (omega arith) c.1 (rw is within))
       ));
 }
   where
@@ -413,28 +415,30 @@ missing_unordered rs placed heads links order i standing none within missing = r
     grounded_stands rs' placed' heads' links' order' other standing' none' grounded zero q below inside real =
         absurd (omega arith)
     grounded_stands rs' placed' heads' links' order' other standing' none' grounded (suc n) q below inside
-            real =
+        real =
         elim (stands_or_not placed' (slice_index other q)) [
-      | inl stands ↦ standing'.to_order (slice_index other q) stands
-      | inr missing' ↦
-          absurd ( none_ready rs' placed' heads' links' order' standing' none' (slice_index other q) (
+          | inl stands ↦ standing'.to_order (slice_index other q) stands
+          | inr missing' ↦
+              absurd (none_ready rs' placed' heads' links' order' standing' none' (slice_index other q) (
               record {
-        within = real;
-        taken = tt;
-        missing = λ c. missing' (standing'.from_order (slice_index other q) c);
-        due = λ a before.
-            let earlier = grounded q inside a before in
-            let p_low : earlier.0 < q =
-                let e = earlier.1 in let t = length-take q other in omega (arith, e, t) in
-            let is : slice_index other earlier.0 ≡ a =
-                get_or_default other earlier.0 0 a (omega arith) ∙ sym (get_or-take q other earlier.0 a p_low)
+                within = real;
+                taken = tt;
+                missing = λ c. missing' (standing'.from_order (slice_index other q) c);
+                due = λ a before.
+                    let earlier = grounded q inside a before in
+                    let p_low : earlier.0 < q =
+                    let e = earlier.1 in let t = length-take q other in omega (arith, e, t) in
+                    let is : slice_index other earlier.0 ≡ a =
+                    get_or_default other earlier.0 0 a (omega arith)
+                    ∙ sym (get_or-take q other earlier.0 a p_low)
                     ∙ earlier.2 in
-            let P : ℕ → Type 0 = λ j. Contains order' j in
-            subst P is
-                (grounded_stands rs' placed' heads' links' order' other standing' none' grounded n earlier.0
+                    let P : ℕ → Type 0 = λ j. Contains order' j in
+                    subst P is
+                    (grounded_stands rs' placed' heads' links' order' other standing' none' grounded n
+                    earlier.0
                     (omega arith) (omega arith) (rw is (before_from rs' a (slice_index other q) before)));
-      }))
-    ]
+              }))
+        ]
 
 abbrev pub is_missing : Bool → ℕ
 is_missing true = 0
@@ -453,23 +457,23 @@ pub missing_less : (placed : List Bool) (place : ℕ) → place < length placed 
     → sum_by is_missing (set placed place true) < sum_by is_missing placed
 missing_less placed place within missing =
     let change : sum_by is_missing (set placed place true) + is_missing (get_or placed place false)
-            ≡ sum_by is_missing placed + 0 =
-        sum_by-set is_missing placed place true false within in
+    ≡ sum_by is_missing placed + 0 =
+    sum_by-set is_missing placed place true false within in
     let one : is_missing (get_or placed place false) ≡ 1 =
-        ap is_missing (not_standing placed place within missing) in
+    ap is_missing (not_standing placed place within missing) in
     omega (arith, change, one)
 
 -- the makers of the entries before one stand after one more record does
 pub passed_more : (placed : List Bool) (makers : List ℕ) (low next place : ℕ)
     → ((k : ℕ) → k < low → slice_index makers k < length placed → Stands placed (slice_index makers k))
     → ((k : ℕ) → low ≤ k → k < next → slice_index makers k < length (set placed place true)
-          → Stands (set placed place true) (slice_index makers k))
+    → Stands (set placed place true) (slice_index makers k))
     → (k : ℕ) → k < next → slice_index makers k < length (set placed place true)
     → Stands (set placed place true) (slice_index makers k)
 passed_more placed makers low next place old new k below real = elim (cases_lt k low) [
   | inl before ↦
       stands_still placed place (slice_index makers k)
-          (old k before (rw (length-set placed place true) at real))
+      (old k before (rw (length-set placed place true) at real))
   | inr after ↦ new k after below real
 ]
 
@@ -485,8 +489,8 @@ pub finds_unordered : (rs : List Record) (placed : List Bool) (heads links order
     → FindsFirst rs NoOrder found
 finds_unordered rs placed heads links order None standing none every =
     λ i has.
-        stands_ordered rs placed heads links order i standing
-            (every i (rw standing.all (unordered_within rs i has))) has
+    stands_ordered rs placed heads links order i standing
+    (every i (rw standing.all (unordered_within rs i has))) has
 finds_unordered rs placed heads links order (Some i) standing none is =
     let within : i < length rs = rw standing.all at is.unplaced.within in
     record {
@@ -504,7 +508,7 @@ all_stand rs placed heads links order standing none free i within = elim (stands
   | inl stands ↦ stands
   | inr missing ↦
       absurd
-          (free i (no_order (missing_unordered rs placed heads links order i standing none within missing)))
+      (free i (no_order (missing_unordered rs placed heads links order i standing none within missing)))
 ]
 
 -- behind nothing the order is the greedy one

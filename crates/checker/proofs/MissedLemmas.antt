@@ -93,15 +93,15 @@ moved_all rs i front back permutation =
     let seen = filter (is_seen rs i) front in
     let unseen = filter (is_unseen rs i) front in
     let parted : IsPermutation (front ++ i ∷ back) ((seen ++ unseen) ++ i ∷ back) =
-        IsPermutation-append_left (i ∷ back) front (seen ++ unseen)
-            (IsPermutation-filter_both (is_seen rs i) (is_unseen rs i) (λ x. refl) front) in
+    IsPermutation-append_left (i ∷ back) front (seen ++ unseen)
+    (IsPermutation-filter_both (is_seen rs i) (is_unseen rs i) (λ x. refl) front) in
     let up : IsPermutation (seen ++ (unseen ++ i ∷ back)) (moved_up rs i front back) =
-        IsPermutation-append_right seen (unseen ++ i ∷ back) (i ∷ (unseen ++ back))
-            (IsPermutation-middle unseen i back) in
+    IsPermutation-append_right seen (unseen ++ i ∷ back) (i ∷ (unseen ++ back))
+    (IsPermutation-middle unseen i back) in
     let P : List ℕ → Type 0 = IsPermutation (front ++ i ∷ back) in
     IsPermutation-trans (places rs) (front ++ i ∷ back) (moved_up rs i front back) permutation
     (IsPermutation-trans (front ++ i ∷ back) (seen ++ (unseen ++ i ∷ back)) (moved_up rs i front back)
-        (subst P (append_assoc seen unseen (i ∷ back)) parted) up)
+    (subst P (append_assoc seen unseen (i ∷ back)) parted) up)
 
 moved_rising : (rs : List Record) (i a b : ℕ) (front back : List ℕ) → IsFreeOf rs LengthBack
     → HappensBefore rs a b → IsEarlier (front ++ i ∷ back) a b → IsEarlier (moved_up rs i front back) a b
@@ -127,35 +127,35 @@ moved_rising rs i a b front back free before e = elim (earlier_append_cases fron
         → IsEarlier (moved_up rs i front back) a b
     in_front both true holds =
         earlier_left seen (i ∷ (unseen ++ back)) a b
-            (earlier_filter (is_seen rs i) front a b (seen_before rs i a b free before holds) holds both)
+        (earlier_filter (is_seen rs i) front a b (seen_before rs i a b free before holds) holds both)
     in_front both false fails = of (is_seen rs i a) refl
       where
         of : (t : Bool) → is_seen rs i a ≡ t → IsEarlier (moved_up rs i front back) a b
         of true holds =
             earlier_across seen (i ∷ (unseen ++ back)) a b (kept a (earlier_from front a b both) holds)
-                (Contains-append_right (i ∷ []) (unseen ++ back) b
-                    (Contains-append_left unseen back b (later b (earlier_to front a b both) fails)))
+            (Contains-append_right (i ∷ []) (unseen ++ back) b
+            (Contains-append_left unseen back b (later b (earlier_to front a b both) fails)))
         of false fails_too =
             earlier_right seen (i ∷ (unseen ++ back)) a b
-                (earlier_behind i (unseen ++ back) a b
-                    (earlier_left unseen back a b
-                        (earlier_filter (is_unseen rs i) front a b (ap not fails_too) (ap not fails) both)))
+            (earlier_behind i (unseen ++ back) a b
+            (earlier_left unseen back a b
+            (earlier_filter (is_unseen rs i) front a b (ap not fails_too) (ap not fails) both)))
 
     across : Contains front a → Contains (i ∷ back) b → (t : Bool) → is_seen rs i a ≡ t
         → IsEarlier (moved_up rs i front back) a b
     across left right true holds =
         earlier_across seen (i ∷ (unseen ++ back)) a b (kept a left holds) (
-            elim (Contains-append_cases (i ∷ []) back b right) [
-      | inl here ↦ Contains-append_left (i ∷ []) (unseen ++ back) b here
-      | inr more ↦
-          Contains-append_right (i ∷ []) (unseen ++ back) b (Contains-append_right unseen back b more)
-    ])
+        elim (Contains-append_cases (i ∷ []) back b right) [
+          | inl here ↦ Contains-append_left (i ∷ []) (unseen ++ back) b here
+          | inr more ↦
+              Contains-append_right (i ∷ []) (unseen ++ back) b (Contains-append_right unseen back b more)
+        ])
     across left right false fails = elim (Contains-append_cases (i ∷ []) back b right) [
       | inl here ↦ absurd (at_i here fails)
       | inr more ↦
           earlier_right seen (i ∷ (unseen ++ back)) a b
-              (earlier_behind i (unseen ++ back) a b
-                  (earlier_across unseen back a b (later a left fails) more))
+          (earlier_behind i (unseen ++ back) a b
+          (earlier_across unseen back a b (later a left fails) more))
     ]
       where
         -- what happens before i itself is seen
@@ -170,11 +170,11 @@ moved_rising rs i a b front back free before e = elim (earlier_append_cases fron
       | inl (same, more) ↦
           let P : ℕ → Type 0 = λ k. IsEarlier (moved_up rs i front back) k b in
           subst P same
-              (earlier_right seen (i ∷ (unseen ++ back)) i b
-                  (earlier_first i (unseen ++ back) b (Contains-append_right unseen back b more)))
+          (earlier_right seen (i ∷ (unseen ++ back)) i b
+          (earlier_first i (unseen ++ back) b (Contains-append_right unseen back b more)))
       | inr both ↦
           earlier_right seen (i ∷ (unseen ++ back)) a b
-              (earlier_behind i (unseen ++ back) a b (earlier_right unseen back a b both))
+          (earlier_behind i (unseen ++ back) a b (earlier_right unseen back a b both))
     ]
 
 moved_linear : (rs : List Record) (i : ℕ) (front back : List ℕ) → IsFreeOf rs LengthBack
@@ -195,11 +195,11 @@ earlier_seen rs i k front back permutation e = elim (earlier_append_cases seen (
       absurd (once (earlier_across seen (i ∷ rest) i i (earlier_to seen k i both) (0, omega arith, refl)))
   | inr (inl (left, right)) ↦ seen_low rs i k (filter_holds (is_seen rs i) front k left)
   | inr (inr last) ↦
-      absurd ( once ( earlier_right seen (i ∷ rest) i i ( earlier_first i rest i (
-          elim (earlier_cases i rest k i last) [
-    | inl (same, more) ↦ more
-    | inr both ↦ earlier_to rest k i both
-  ]))))
+      absurd (once (earlier_right seen (i ∷ rest) i i (earlier_first i rest i (
+      elim (earlier_cases i rest k i last) [
+        | inl (same, more) ↦ more
+        | inr both ↦ earlier_to rest k i both
+      ]))))
 ]
   where
     seen : List ℕ
@@ -250,8 +250,8 @@ pub missed_by : (reading : Reading) (order : List ℕ) (i task : ℕ) → IsOfRe
 missed_by reading order i task of free linear unfinished =
     let rs = reading.records in
     let has : Contains order i =
-        Contains-permutation (places rs) order i linear.all_once
-            (contains_place rs i (required_within reading i task of unfinished.required)) in
+    Contains-permutation (places rs) order i linear.all_once
+    (contains_place rs i (required_within reading i task of unfinished.required)) in
     let parts = split_at order i has in
     let P : List ℕ → Type 0 = IsLinearization rs in
     let moved = moved_linear rs i parts.0 parts.1 free (subst P parts.2 linear) in
@@ -269,7 +269,7 @@ unfinished_by reading i task missed = record {
   required = missed.required;
   incomplete =
       λ complete.
-          missed.incomplete (complete_in reading.records missed.order i task missed.linearization complete);
+      missed.incomplete (complete_in reading.records missed.order i task missed.linearization complete);
 }
 
 -- so the first unfinished task is the first missed one
@@ -283,7 +283,7 @@ first_missed reading order i task of free linear is = record {
   is_created = is.is_created;
   created_first =
       λ k other below creates missed.
-          is.created_first k other below creates (unfinished_by reading i other missed);
+      is.created_first k other below creates (unfinished_by reading i other missed);
 }
 
 -- a no
@@ -294,6 +294,6 @@ rejected view i why clear found = record {
   unfinished = found.unfinished;
   missed =
       first_missed (by_task view.run.records) view.order i (task_of why) (of_tasks view.run.records)
-          (clear.well_formed LengthBack (14, omega arith, refl)) clear.linearization found.unfinished;
+      (clear.well_formed LengthBack (14, omega arith, refl)) clear.linearization found.unfinished;
   reason = found.reason;
 }

@@ -45,14 +45,14 @@ rising_above low [] other rising (j, below, is) = absurd (omega arith)
 rising_above low (c ∷ rest) other rising (zero, below, is) =
     let P : Cause → Type 0 = λ x. low ≤ cause_number x in
     subst P is
-        (leb-true low (cause_number c) (left (leb low (cause_number c)) (rises (cause_number c) rest) rising))
+    (leb-true low (cause_number c) (left (leb low (cause_number c)) (rises (cause_number c) rest) rising))
 rising_above low (c ∷ rest) other rising (suc j, below, is) =
     let first =
-        leb-true low (cause_number c)
-            (left (leb low (cause_number c)) (rises (cause_number c) rest) rising) in
+    leb-true low (cause_number c)
+    (left (leb low (cause_number c)) (rises (cause_number c) rest) rising) in
     let above =
-        rising_above (cause_number c) rest other
-            (right (leb low (cause_number c)) (rises (cause_number c) rest) rising) (j, omega arith, is) in
+    rising_above (cause_number c) rest other
+    (right (leb low (cause_number c)) (rises (cause_number c) rest) rising) (j, omega arith, is) in
     omega (arith, first, above)
 
 -- a cause behind others has no smaller number than any of them
@@ -62,13 +62,13 @@ rising_behind low [] rest cause other rising (j, below, is) has = absurd (omega 
 rising_behind low (c ∷ xs) rest cause other rising (zero, below, is) has =
     let P : Cause → Type 0 = λ x. cause_number x ≤ cause_number other in
     subst P is
-        (rising_above (cause_number c) (xs ++ rest) other
-            (right (leb low (cause_number c)) (rises (cause_number c) (xs ++ rest)) rising)
-            (Contains-append_right xs rest other has))
+    (rising_above (cause_number c) (xs ++ rest) other
+    (right (leb low (cause_number c)) (rises (cause_number c) (xs ++ rest)) rising)
+    (Contains-append_right xs rest other has))
 rising_behind low (c ∷ xs) rest cause other rising (suc j, below, is) has =
     rising_behind (cause_number c) xs rest cause other
-        (right (leb low (cause_number c)) (rises (cause_number c) (xs ++ rest)) rising) (j, omega arith, is)
-        has
+    (right (leb low (cause_number c)) (rises (cause_number c) (xs ++ rest)) rising) (j, omega arith, is)
+    has
 
 -- ---- causes that are read in the order of the file
 
@@ -117,7 +117,7 @@ fault_shown rs sought (Malformed i cause) all is = record {
   };
   least =
       λ other has less k shown.
-          is.least other has less k ((of_file_shown rs k other (among_file sought other all has)).0 shown);
+      is.least other has less k ((of_file_shown rs k other (among_file sought other all has)).0 shown);
 }
   where
     own : is_own_cause cause ≡ false
@@ -133,8 +133,8 @@ shown_more rs all cleared sought rest Memory parts rise clear found = tt
 shown_more rs all cleared sought rest (Malformed i cause) parts rise clear found = record {
   sought_for =
       whole cause
-          (Contains-append_left (cleared ++ sought) rest cause
-              (Contains-append_right cleared sought cause found.sought_for));
+      (Contains-append_left (cleared ++ sought) rest cause
+      (Contains-append_right cleared sought cause found.sought_for));
   found = found.found;
   least = λ other has less. elim (Contains-append_cases (cleared ++ sought) rest other (part other has)) [
     | inl among ↦ elim (Contains-append_cases cleared sought other among) [
@@ -143,10 +143,10 @@ shown_more rs all cleared sought rest (Malformed i cause) parts rise clear found
     ]
     | inr later ↦
         absurd
-            (let more =
-                 rising_behind 0 (cleared ++ sought) rest cause other rising
-                     (Contains-append_right cleared sought cause found.sought_for) later in
-             omega (arith, more, less))
+        (let more =
+        rising_behind 0 (cleared ++ sought) rest cause other rising
+        (Contains-append_right cleared sought cause found.sought_for) later in
+        omega (arith, more, less))
   ];
 }
   where
@@ -171,9 +171,9 @@ pub clear_more : (rs : List Record) (cleared sought : List Cause) → IsClear rs
     → IsClear rs (cleared ++ sought)
 clear_more rs cleared sought before here cause among =
     elim (Contains-append_cases cleared sought cause among) [
-  | inl earlier ↦ before cause earlier
-  | inr part ↦ here cause part
-]
+      | inl earlier ↦ before cause earlier
+      | inr part ↦ here cause part
+    ]
 
 -- causes one by one
 pub none_clear : (rs : List Record) → IsClear rs []
@@ -195,22 +195,22 @@ pub states_clear : (rs : List Record) (own : OwnView) → IsOwnOf rs own → IsF
 states_clear rs own of current stay gapless ordered closed =
     let regions = own_free rs own RegionOrder of_regions of closed in
     one_clear rs NotCurrent (Moved ∷ TurnGap ∷ StatusOrder ∷ RegionOrder ∷ []) current
-        (one_clear rs Moved (TurnGap ∷ StatusOrder ∷ RegionOrder ∷ []) stay
-            (one_clear rs TurnGap (StatusOrder ∷ RegionOrder ∷ []) gapless
-                (one_clear rs StatusOrder (RegionOrder ∷ []) ordered (only_clear rs RegionOrder regions))))
+    (one_clear rs Moved (TurnGap ∷ StatusOrder ∷ RegionOrder ∷ []) stay
+    (one_clear rs TurnGap (StatusOrder ∷ RegionOrder ∷ []) gapless
+    (one_clear rs StatusOrder (RegionOrder ∷ []) ordered (only_clear rs RegionOrder regions))))
 
 pub teams_clear : (rs : List Record) (own : OwnView) → IsOwnOf rs own → IsClear rs (before TeamShort)
     → IsFreeOf own.run.records TeamShort → IsClear rs (before NestedParallel)
 teams_clear rs own of clear whole =
     clear_more rs (before TeamShort) (TeamShort ∷ []) clear
-        (only_clear rs TeamShort (own_free rs own TeamShort of_teams of whole))
+    (only_clear rs TeamShort (own_free rs own TeamShort of_teams of whole))
 
 pub edges_clear : (rs : List Record) (own : OwnView) → IsOwnOf rs own → IsFreeOf rs NestedParallel
     → IsFreeOf rs DepsPlace → IsFreeOf own.run.records ShareWrong → IsClear rs edge_causes
 edges_clear rs own of flat placed claims =
     one_clear rs NestedParallel (DepsPlace ∷ ShareWrong ∷ []) flat
-        (one_clear rs DepsPlace (ShareWrong ∷ []) placed
-            (only_clear rs ShareWrong (own_free rs own ShareWrong of_claims of claims)))
+    (one_clear rs DepsPlace (ShareWrong ∷ []) placed
+    (only_clear rs ShareWrong (own_free rs own ShareWrong of_claims of claims)))
 
 -- two views of a run in its tasks' own order with the same run and the same places are the same
 pub same_own : (own other : OwnView) → own.run ≡ other.run → own.places ≡ other.places → own ≡ other

@@ -12,7 +12,7 @@ all_behind : (top : Reverse ℕ) (heap : List (Reverse ℕ)) → IsUpperBound la
 all_behind top [] bound = All-nil (λ i. top.0 ≤ i)
 all_behind top (r ∷ heap) bound =
     All-cons (λ i. top.0 ≤ i) r.0 (places_of heap) (ge_from_not_lt r.0 top.0 bound.0)
-        (all_behind top heap bound.1)
+    (all_behind top heap bound.1)
 
 -- the top is no greater than any place
 pub least_on_top : (top : Reverse ℕ) (heap : List (Reverse ℕ)) → IsUpperBound later top heap → (i : ℕ)

@@ -145,7 +145,7 @@ first_so a b is_so is_too i task alike both is = record {
   is_created = (alike.creates is.creation task).0 is.is_created;
   created_first =
       λ k other below creates so.
-          is.created_first k other below ((alike.creates k other).1 creates) ((both i other).1 so);
+      is.created_first k other below ((alike.creates k other).1 creates) ((both i other).1 so);
 }
 
 alike_reason : (a b : Reading) (i : ℕ) (why : Why) → AreAlike a b → IsReason a i why → IsReason b i why
@@ -161,8 +161,8 @@ alike_yes a b order alike is = record {
       λ i task unfinished. is.finished i task (alike_unfinished b a i task (alike_back a b alike) unfinished);
   always_complete = λ other linear i task required.
       (alike.complete_in other task i).0
-          (is.always_complete other ((alike.ordered other).1 linear) i task
-              (alike_required b a i task (alike_back a b alike) required));
+      (is.always_complete other ((alike.ordered other).1 linear) i task
+      (alike_required b a i task (alike_back a b alike) required));
 }
 
 pub alike_no : (a b : Reading) (i : ℕ) (why : Why) → AreAlike a b → IsRejected a i why → IsRejected b i why
@@ -172,11 +172,11 @@ alike_no a b i why alike is =
       well_formed = alike_none a b alike is.well_formed;
       unfinished =
           first_so a b (IsUnfinished a) (IsUnfinished b) i (task_of why) alike
-              (λ k other. (alike_unfinished a b k other alike, alike_unfinished b a k other back))
-              is.unfinished;
+          (λ k other. (alike_unfinished a b k other alike, alike_unfinished b a k other back))
+          is.unfinished;
       missed =
           first_so a b (IsMissed a) (IsMissed b) i (task_of why) alike
-              (λ k other. (alike_missed a b k other alike, alike_missed b a k other back)) is.missed;
+          (λ k other. (alike_missed a b k other alike, alike_missed b a k other back)) is.missed;
       reason = alike_reason a b i why alike is.reason;
     }
 
@@ -241,8 +241,8 @@ pub of_tasks : (rs : List Record) → IsOfRecords (by_task rs)
 of_tasks rs = record {
   within =
       λ i task covers.
-          let ends = cover_ends (in_own_order rs) (own_place rs i) task covers in
-          (own_region rs i ends.0 ends.1).0;
+      let ends = cover_ends (in_own_order rs) (own_place rs i) task covers in
+      (own_region rs i ends.0 ends.1).0;
   apart = λ i task other covers preceded.
       let ends = cover_ends (in_own_order rs) (own_place rs i) task covers in
       let starts = preceded_starts (by_task rs) i other preceded in
@@ -262,9 +262,9 @@ task_required rs i task = (to, from)
 
     from : violations.MustBeComplete rs i task → IsRequiredBy (by_task rs) i task
     from (violations.wait_ends covers) = inl covers
-    from (violations.dependent_starts { dependent = dependent } explicit start after) =
+    from (violations.dependent_starts {dependent = dependent} explicit start after) =
         inr (inl (dependent, explicit, start, after))
-    from (violations.taskwait_completes { dependent = dependent } completes after) =
+    from (violations.taskwait_completes {dependent = dependent} completes after) =
         inr (inr (dependent, completes, after))
 
 pub file_required : (rs : List Record) (i task : ℕ)
@@ -278,9 +278,9 @@ file_required rs i task = (to, from)
 
     from : violations.IsRequired rs i task → IsRequiredBy (by_file rs) i task
     from (violations.covered covers) = inl covers
-    from (violations.preceding { dependent = dependent } explicit start after) =
+    from (violations.preceding {dependent = dependent} explicit start after) =
         inr (inl (dependent, explicit, start, after))
-    from (violations.awaited { dependent = dependent } completes after) =
+    from (violations.awaited {dependent = dependent} completes after) =
         inr (inr (dependent, completes, after))
 
 -- ---- what the phases find
@@ -303,11 +303,11 @@ claims_right : (rs : List Record) (own : OwnView) → IsOwnOf rs own → IsOwn o
     → IsFreeOf own.run.records ShareWrong
 claims_right rs own of is_own none number (share_wrong (task, part, claimed, finishes, claims, wrong)) =
     let place =
-        place_of_number rs own is_own.places number
-            (at_within finish own.run.records number (task, part) finishes) in
+    place_of_number rs own is_own.places number
+    (at_within finish own.run.records number (task, part) finishes) in
     none place.0
-        ((shown_there rs own ShareWrong of_claims of number place.0 place.1).1
-            (share_wrong (task, part, claimed, finishes, claims, wrong)))
+    ((shown_there rs own ShareWrong of_claims of number place.0 place.1).1
+    (share_wrong (task, part, claimed, finishes, claims, wrong)))
 
 -- and the run in the tasks' own order has right entries where no cause occurs
 pub clear_entries : (view : ClearView) → IsClearView view → HasRightEntries view.own.run.records
@@ -316,7 +316,7 @@ clear_entries view clear =
     let none = clear.well_formed in
     own_entries rs view.own clear.one.of_file
     (none CreatedTwice (1, omega arith, refl)) (none TurnGap (5, omega arith, refl))
-        (none StatusOrder (6, omega arith, refl))
+    (none StatusOrder (6, omega arith, refl))
     (none EntryTwice (12, omega arith, refl)) (none LengthAhead (13, omega arith, refl))
     (claims_right rs view.own clear.one.of_file clear.one.is_own (none ShareWrong (11, omega arith, refl)))
 
@@ -325,7 +325,7 @@ pub clear_and_known : (view : SoundView) (order : List ℕ) (known : KnownView) 
     → IsClear view.run.records all_causes → IsLinearization view.run.records order
     → IsGreedy view.run.records order → IsKnownOf view.own known
     → IsClearView (record { run = view.run; own = view.own; order = order })
-        × (own_of known.done.teams ≡ view.own) × AreDone known.done × AreCreditLengths known.done
+    × (own_of known.done.teams ≡ view.own) × AreDone known.done × AreCreditLengths known.done
 clear_and_known view order known sound clear linear greedy is =
     let whole : IsClearView (record { run = view.run; own = view.own; order = order }) = record {
       is_run = sound.sound.is_run;
@@ -333,9 +333,12 @@ clear_and_known view order known sound clear linear greedy is =
       well_formed = clear;
       linearization = linear;
       greedy = greedy;
-    } in
-    (whole, is.of_own, is.done,
-        is.credit (clear_entries (record { run = view.run; own = view.own; order = order }) whole))
+    } in (
+      whole,
+      is.of_own,
+      is.done,
+      is.credit (clear_entries (record { run = view.run; own = view.own; order = order }) whole),
+    )
 
 -- ---- what the searches in the tasks' own order find
 
@@ -355,5 +358,5 @@ pub open_told : (view : ClearView) (number place task : ℕ) (told : Bool) → I
     → IsTrue told ↔ IsOpenBy (by_task view.run.records) place task
 open_told view number place task told clear stands tells =
     let there =
-        open_there view.run.records view.own number place task clear.one.of_file clear.one.is_own stands in
+    open_there view.run.records view.own number place task clear.one.of_file clear.one.is_own stands in
     (λ yes. there.0 (tells.0 yes), λ opened. tells.1 (there.1 opened))

@@ -51,14 +51,14 @@ first_begins : (b : Body) (task : ℕ) → first_started b ≡ Some task → beg
 first_begins b task starts = by (begun_turn b) starts
   where
     by : (o : Option (ℕ × ℕ))
-        → option_and_then { U = ℕ } (λ (p : ℕ × ℕ). cond (p.1 == 0) (Some p.0) None) o ≡ Some task
+        → option_and_then {U = ℕ} (λ (p : ℕ × ℕ). cond (p.1 == 0) (Some p.0) None) o ≡ Some task
         → o ≡ Some (task, 0)
     by None is = absurd (none-some task is)
     by (Some (t, turn)) is = elim (cases_eq turn 0) [
       | inl first ↦
           let Q : Bool → Type 0 = λ b. cond b (Some t) None ≡ Some task in
           ap (λ u. Some (t, u)) first
-              ∙ ap (λ u. Some (u, 0)) (same_Some t task (subst Q (eq-eqb turn 0 first) is))
+          ∙ ap (λ u. Some (u, 0)) (same_Some t task (subst Q (eq-eqb turn 0 first) is))
       | inr later ↦
           let Q : Bool → Type 0 = λ b. cond b (Some t) None ≡ Some task in
           absurd (none-some task (subst Q (ne_eqb turn 0 later) is))
@@ -66,7 +66,7 @@ first_begins b task starts = by (begun_turn b) starts
 
 begins_first : (b : Body) (task : ℕ) → begun_turn b ≡ Some (task, 0) → first_started b ≡ Some task
 begins_first b task begins =
-    ap (option_and_then { U = ℕ } (λ (p : ℕ × ℕ). cond (p.1 == 0) (Some p.0) None)) begins
+    ap (option_and_then {U = ℕ} (λ (p : ℕ × ℕ). cond (p.1 == 0) (Some p.0) None)) begins
 
 awaited_fulfilled : (b : Body) (task : ℕ) → fulfilled b ≡ Some task → awaited b ≡ Some task
 awaited_fulfilled b task fulfils = ap (λ o. option_or o (option_or (discarded b) (first_started b))) fulfils
@@ -131,13 +131,13 @@ silent {X} {Y} f g x rs i each is = by (slice_get rs i) is
 
 pub awaited_at : (rs : List Record) (i task : ℕ) → at awaited rs i ≡ Some task
     → (at fulfilled rs i ≡ Some task)
-        ⊎ ((at discarded rs i ≡ Some task) ⊎ (at begun_turn rs i ≡ Some (task, 0)))
+    ⊎ ((at discarded rs i ≡ Some task) ⊎ (at begun_turn rs i ≡ Some (task, 0)))
 awaited_at rs i task is = there (slice_get rs i) is
   where
     there : (o : Option Record) → option_and_then (λ (r : Record). awaited r.body) o ≡ Some task
         → (option_and_then (λ (r : Record). fulfilled r.body) o ≡ Some task)
-            ⊎ ((option_and_then (λ (r : Record). discarded r.body) o ≡ Some task)
-                  ⊎ (option_and_then (λ (r : Record). begun_turn r.body) o ≡ Some (task, 0)))
+        ⊎ ((option_and_then (λ (r : Record). discarded r.body) o ≡ Some task)
+        ⊎ (option_and_then (λ (r : Record). begun_turn r.body) o ≡ Some (task, 0)))
     there None is' = absurd (none-some task is')
     there (Some r) is' = awaited_of r.body task is'
 
@@ -147,13 +147,13 @@ start_awaits rs i task facts begins = there (slice_get rs i) (facts.apart i) beg
   where
     there : (o : Option Record)
         → ((t other : ℕ) → option_and_then (λ (r : Record). fulfilled r.body) o ≡ Some t
-              → option_and_then (λ (r : Record). started r.body) o ≡ Some other → ⊥)
+        → option_and_then (λ (r : Record). started r.body) o ≡ Some other → ⊥)
         → option_and_then (λ (r : Record). begun_turn r.body) o ≡ Some (task, 0)
         → option_and_then (λ (r : Record). awaited r.body) o ≡ Some task
     there None none is = absurd (none-some (task, 0) is)
     there (Some r) none is =
         awaited_start r.body task (fulfilled r.body) refl
-            (λ other fulfils. none other task fulfils (begun_starts r.body task 0 is)) is
+        (λ other fulfils. none other task fulfils (begun_starts r.body task 0 is)) is
 
 -- a record that begins a later turn awaits no creation
 pub later_awaits_none : (rs : List Record) (i task turn : ℕ) → EachAwaitsOne rs
@@ -166,11 +166,11 @@ later_awaits_none rs i task turn facts begins later = by (at awaited rs i) refl
       | inl fulfils ↦ absurd (facts.apart i own task fulfils (begun_started rs i task turn begins))
       | inr (inl gone) ↦
           absurd
-              (none-some own
-                  (sym
-                      (silent started discarded task rs i (λ b. started_keeps b task)
-                          (begun_started rs i task turn begins))
-                      ∙ gone))
+          (none-some own
+          (sym
+          (silent started discarded task rs i (λ b. started_keeps b task)
+          (begun_started rs i task turn begins))
+          ∙ gone))
       | inr (inr first) ↦
           let parts = some_pair_parts own task 0 turn (sym first ∙ begins) in
           absurd (omega (arith, later, parts.1))
@@ -180,7 +180,7 @@ pub created_suspends : (rs : List Record) (c task other turn : ℕ) → at creat
     → at suspended_turn rs c ≡ Some (other, turn) → ⊥
 created_suspends rs c task other turn creates suspends =
     none-some (other, turn)
-        (sym (silent created suspended_turn task rs c (λ b. created_goes_on b task) creates) ∙ suspends)
+    (sym (silent created suspended_turn task rs c (λ b. created_goes_on b task) creates) ∙ suspends)
 
 known_unfinished : (rs : List Record) (c : ℕ) → at finish rs c ≡ None → known_after rs c ≡ seen_at rs c
 known_unfinished rs c none = ap (λ o. cond (is_some o) (seen_at rs c + 1) (seen_at rs c)) none
@@ -191,8 +191,8 @@ known_awaited rs i c (awaits_creation task waits creates) =
     known_unfinished rs c (silent created finish task rs c (λ b. created_unfinished b task) creates)
 known_awaited rs i c (awaits_end again explicit) =
     known_unfinished rs c
-        (silent suspended_turn finish (again.task, again.turn) rs c
-            (λ b. suspended_finishes b again.task again.turn) again.suspends)
+    (silent suspended_turn finish (again.task, again.turn) rs c
+    (λ b. suspended_finishes b again.task again.turn) again.suspends)
 
 pub awaits_within : (rs : List Record) (i c : ℕ) → Awaits rs i c → c < length rs
 awaits_within rs i c (awaits_creation task waits creates) = at_within created rs c task creates
@@ -219,13 +219,13 @@ program_awaits rs a b facts (resumption again) = elim (facts.on_thread a b again
 ]
 program_awaits rs a b facts (discard task creates gone) =
     inr
-        (awaits_creation task
-            (at_through discarded awaited task task rs b (λ body. awaited_discard body task) gone) creates)
+    (awaits_creation task
+    (at_through discarded awaited task task rs b (λ body. awaited_discard body task) gone) creates)
 program_awaits rs a b facts (fulfilment task creates fulfils) =
     inr
-        (awaits_creation task
-            (at_through fulfilled awaited task task rs b (λ body. awaited_fulfilled body task) fulfils)
-            creates)
+    (awaits_creation task
+    (at_through fulfilled awaited task task rs b (λ body. awaited_fulfilled body task) fulfils)
+    creates)
 
 -- from what a record awaits a step leads to it, or to an earlier one of its thread
 pub awaits_program : (rs : List Record) (i c : ℕ) → EachAwaitsOne rs → Awaits rs i c
@@ -256,9 +256,9 @@ pub begun_index : (rs : List Record) (family : FamilyView) (i task turn : ℕ) �
     → at begun_turn rs i ≡ Some (task, turn) → (index : ℕ) × (slice_get family.tasks index ≡ Some task)
 begun_index rs family i task turn are begins =
     let found =
-        call_index family.tasks (at object rs i) _ task (object_calls rs family i are)
-            (at_through started object task task rs i (λ b. started_object task b)
-                (begun_started rs i task turn begins)) in
+    call_index family.tasks (at object rs i) _ task (object_calls rs family i are)
+    (at_through started object task task rs i (λ b. started_object task b)
+    (begun_started rs i task turn begins)) in
     (found.0, found.2)
 
 -- and either explicit or not
@@ -268,8 +268,8 @@ begun_root_or_explicit rs family i task turn are begins =
     let found = begun_index rs family i task turn are begins in
     let within = slice_get_within family.tasks found.0 task found.1 in
     let same =
-        same_Some (get_or family.tasks found.0 task) task
-            (sym (slice_get-get_or family.tasks found.0 task within) ∙ found.1) in
+    same_Some (get_or family.tasks found.0 task) task
+    (sym (slice_get-get_or family.tasks found.0 task within) ∙ found.1) in
     let makes = are.noted.only task (found.0, within, same) in
     by makes.0 (slice_get rs makes.0) refl makes.2
   where
@@ -279,11 +279,12 @@ begun_root_or_explicit rs family i task turn are begins =
     by k None stands is = absurd (none-some task is)
     by k (Some r) stands is = elim (made_cases task r.body is) [
       | inl begins' ↦
-          inl
-              (k,
-                  ap (option_and_then (λ (q : Record). Rattle.ompt_events.specs.Records.begun_root q.body))
-                      stands
-                      ∙ begins')
+          inl (
+            k,
+            ap (option_and_then (λ (q : Record). Rattle.ompt_events.specs.Records.begun_root q.body))
+                stands
+                ∙ begins',
+          )
       | inr creates ↦ inr (k, ap (option_and_then (λ (q : Record). created q.body)) stands ∙ creates)
     ]
 
@@ -301,12 +302,12 @@ awaits_or_not rs family i c facts are = decide (at awaited rs i) (at created rs 
     of_end (Some (task, turn)) (Some (other, before)) e f = elim (cases_eq other task) [
       | inr apart ↦
           inr
-              (λ again explicit.
-                  apart
-                      ((some_pair_parts other again.task before again.turn (sym f ∙ again.suspends)).0
-                          ∙ sym
-                              (some_pair_parts task again.task turn (again.turn + 1)
-                                  (sym e ∙ again.resumes)).0))
+          (λ again explicit.
+          apart
+          ((some_pair_parts other again.task before again.turn (sym f ∙ again.suspends)).0
+          ∙ sym
+          (some_pair_parts task again.task turn (again.turn + 1)
+          (sym e ∙ again.resumes)).0))
       | inl same ↦ elim (cases_eq turn (before + 1)) [
         | inr apart ↦ inr (λ again explicit.
             let one = (some_pair_parts other again.task before again.turn (sym f ∙ again.suspends)).1 in
@@ -317,24 +318,24 @@ awaits_or_not rs family i c facts are = decide (at awaited rs i) (at created rs 
           | inr another ↦ elim (begun_root_or_explicit rs family i task turn are e) [
             | inr explicit ↦
                 inl
-                    (awaits_end
-                        (record {
-                          task = task;
-                          turn = before;
-                          suspends = f ∙ ap (λ t. Some (t, before)) same;
-                          resumes = e ∙ ap (λ t. Some (task, t)) next;
-                          another = another;
-                        })
-                        explicit)
+                (awaits_end
+                (record {
+                  task = task;
+                  turn = before;
+                  suspends = f ∙ ap (λ t. Some (t, before)) same;
+                  resumes = e ∙ ap (λ t. Some (task, t)) next;
+                  another = another;
+                })
+                explicit)
             | inl root ↦
                 inr
-                    (λ again explicit.
-                        root_or_explicit rs task are.once root
-                            (subst (IsExplicit rs)
-                                (sym
-                                    (some_pair_parts task again.task turn (again.turn + 1)
-                                        (sym e ∙ again.resumes)).0)
-                                explicit))
+                (λ again explicit.
+                root_or_explicit rs task are.once root
+                (subst (IsExplicit rs)
+                (sym
+                (some_pair_parts task again.task turn (again.turn + 1)
+                (sym e ∙ again.resumes)).0)
+                explicit))
           ]
         ]
       ]
@@ -359,8 +360,8 @@ awaits_or_not rs family i c facts are = decide (at awaited rs i) (at created rs 
       | inl same ↦ inl (awaits_creation own e (f ∙ ap Some (sym same)))
       | inr apart ↦
           both
-              (λ task first second.
-                  apart (same_Some own task (sym e ∙ first) ∙ sym (same_Some other task (sym f ∙ second))))
+          (λ task first second.
+          apart (same_Some own task (sym e ∙ first) ∙ sym (same_Some other task (sym f ∙ second))))
     ]
 
 -- ---- by indices of tasks
@@ -371,14 +372,14 @@ index_first : (tasks : List ℕ) (index task : ℕ) → AreApart tasks → slice
 index_first tasks index task apart is =
     let inside = slice_get_within tasks index task is in
     let here : get_or tasks index 0 ≡ task =
-        same_Some (get_or tasks index 0) task (sym (slice_get-get_or tasks index 0 inside) ∙ is) in
+    same_Some (get_or tasks index 0) task (sym (slice_get-get_or tasks index 0 inside) ∙ is) in
     let first : position_or_len (λ t. t == task) tasks ≡ index =
     position_or_len_is (λ t. t == task) tasks index 0 (omega arith)
     (λ k below.
-        ne_eqb (get_or tasks k 0) task
-            (λ same.
-                (let one = apart k index task (slice_get-get_or tasks k 0 (omega arith) ∙ ap Some same) is in
-                 omega (arith, below, one))))
+    ne_eqb (get_or tasks k 0) task
+    (λ same.
+    (let one = apart k index task (slice_get-get_or tasks k 0 (omega arith) ∙ ap Some same) is in
+    omega (arith, below, one))))
     (λ low. eq-eqb (get_or tasks index 0) task here) in
     rw (first, lt-ltb index (length tasks) inside) refl
 
@@ -399,9 +400,9 @@ creation_called rs tasks i index place facts calls is c =
         (is task c there).1 (creates ∙ sym waits' ∙ waits)
     of task waits there (awaits_end again explicit) =
         absurd
-            (none-some task
-                (sym (later_awaits_none rs i again.task (again.turn + 1) facts again.resumes (omega arith))
-                    ∙ waits))
+        (none-some task
+        (sym (later_awaits_none rs i again.task (again.turn + 1) facts again.resumes (omega arith))
+        ∙ waits))
 
 -- ---- keys
 
@@ -415,23 +416,23 @@ pub key_creation : (rs : List Record) (tasks rows : List ℕ) (i index : ℕ) �
     → Calls tasks (at awaited rs i) (Some index) → key_of tasks rs rows i ≡ Some index
 key_creation rs tasks rows i index apart calls =
     ap (λ o. option_or o (turn_of tasks rs rows i))
-        (called_position tasks (at awaited rs i) index apart calls)
+    (called_position tasks (at awaited rs i) index apart calls)
 
 pub key_turn : (rs : List Record) (tasks rows : List ℕ) (i index turn : ℕ) → EachAwaitsOne rs → AreApart tasks
     → IsStartOf rs tasks i index turn → 0 < turn
     → key_of tasks rs rows i ≡ Some (length tasks + (slice_index rows index + turn))
 key_turn rs tasks rows i index turn facts apart begins later =
     ap
-        (λ o.
-            option_or (option_and_then (λ task. position (λ t. t == task) tasks) o) (turn_of tasks rs rows i))
-        (later_awaits_none rs i begins.task turn facts begins.starts later)
+    (λ o.
+    option_or (option_and_then (λ task. position (λ t. t == task) tasks) o) (turn_of tasks rs rows i))
+    (later_awaits_none rs i begins.task turn facts begins.starts later)
     ∙ ap
-        (option_and_then
-            (λ (b : ℕ × ℕ).
-                option_map (λ k. length tasks + (slice_index rows k + b.1)) (position (λ t. t == b.0) tasks)))
-        begins.starts
+    (option_and_then
+    (λ (b : ℕ × ℕ).
+    option_map (λ k. length tasks + (slice_index rows k + b.1)) (position (λ t. t == b.0) tasks)))
+    begins.starts
     ∙ ap (option_map (λ k. length tasks + (slice_index rows k + turn)))
-        (index_first tasks index begins.task apart begins.indexed)
+    (index_first tasks index begins.task apart begins.indexed)
 
 -- ---- when file order is an order
 

@@ -62,13 +62,13 @@ pub met_more : (reading : Reading) (stops : List ℕ) (workers worker stop place
     → index < stop + workers → IsShared workers worker index → IsMet reading stops index
 met_more reading stops workers worker stop place stands complete shared before index below is =
     elim (cases_lt index stop) [
-  | inl less ↦ before index less is
-  | inr more ↦
-      let same = one_of_share workers worker stop index shared is more below in
-      λ other there.
+      | inl less ↦ before index less is
+      | inr more ↦
+          let same = one_of_share workers worker stop index shared is more below in
+          λ other there.
           subst (AreComplete reading)
-              (same_Some place other (sym stands ∙ ap (slice_get stops) (sym same) ∙ there)) complete
-]
+          (same_Some place other (sym stands ∙ ap (slice_get stops) (sym same) ∙ there)) complete
+    ]
 
 -- past the last stop there is nothing to decide
 pub met_whole : (reading : Reading) (stops : List ℕ) (workers worker stop : ℕ) → length stops ≤ stop
@@ -84,27 +84,27 @@ met_whole reading stops workers worker stop past before index is place there =
 abbrev pub AreOutcomes : WorkView → (ℕ → Type 0) → List Outcome → Type 0
 AreOutcomes work may_refuse outcomes =
     (worker : ℕ) (outcome : Outcome) → slice_get outcomes worker ≡ Some outcome
-        → IsOutcome work may_refuse worker outcome
+    → IsOutcome work may_refuse worker outcome
 
 pub outcomes_by : (work : WorkView) (may_refuse : ℕ → Type 0) (outcomes : List Outcome)
     → length outcomes ≡ work.workers
     → ((worker : ℕ) (d : Outcome) → worker < work.workers
-          → IsOutcome work may_refuse worker (slice_index_or outcomes worker d))
+    → IsOutcome work may_refuse worker (slice_index_or outcomes worker d))
     → AreOutcomes work may_refuse outcomes
 outcomes_by work may_refuse outcomes all each worker outcome there =
     let inside = slice_get_within outcomes worker outcome there in
     let P : Outcome → Type 0 = IsOutcome work may_refuse worker in
     subst P
-        (same_Some (get_or outcomes worker outcome) outcome
-            (sym (slice_get-get_or outcomes worker outcome inside) ∙ there))
-        (each worker outcome (omega (arith, inside, all)))
+    (same_Some (get_or outcomes worker outcome) outcome
+    (sym (slice_get-get_or outcomes worker outcome inside) ∙ there))
+    (each worker outcome (omega (arith, inside, all)))
 
 -- at a stop before all that was found nothing is open
 decided_at : (work : WorkView) (may_refuse : ℕ → Type 0) (outcomes : List Outcome) (index : ℕ) → IsWork work
     → length outcomes ≡ work.workers → AreOutcomes work may_refuse outcomes
     → HaveAllDecided outcomes (length outcomes)
     → ((worker : ℕ) (found : Finding) → worker < length outcomes → found_by outcomes worker ≡ Some found
-          → index < found.stop)
+    → index < found.stop)
     → IsMet (by_task work.records) work.stops index
 decided_at work may_refuse outcomes index is all are decided later =
     of (get_or outcomes worker (Ok None)) (slice_get-get_or outcomes worker (Ok None) inside)
@@ -124,12 +124,12 @@ decided_at work may_refuse outcomes index is all are decided later =
     of (Ok None) there = are worker (Ok None) there index share
     of (Ok (Some found)) there =
         (are worker (Ok (Some found)) there).before index
-            (later worker found inside
-                (ap
-                    (λ (o : Option Outcome).
-                        option_and_then (λ (outcome : Outcome). result_unwrap_or outcome None) o)
-                    there))
-            share
+        (later worker found inside
+        (ap
+        (λ (o : Option Outcome).
+        option_and_then (λ (outcome : Outcome). result_unwrap_or outcome None) o)
+        there))
+        share
 
 -- where no worker found anything all is complete
 pub none_of_all : (work : WorkView) (may_refuse : ℕ → Type 0) (outcomes : List Outcome) → IsWork work
@@ -142,7 +142,7 @@ none_of_all work may_refuse outcomes is all are decided none_found i =
       | inl there ↦
           let found = contains_get work.stops k there in
           decided_at work may_refuse outcomes found.0 is all are decided
-              (λ worker finding inside finds. absurd (none_found worker finding inside finds)) k found.1
+          (λ worker finding inside finds. absurd (none_found worker finding inside finds)) k found.1
       | inr complete ↦ complete
     ])
     (omega arith)
@@ -206,7 +206,7 @@ least_of_all work may_refuse outcomes finding place is all are decided least sta
             absurd (omega (arith, equal, below))
         | inr differ ↦
             let rising =
-                is.stops.rising finding.stop index place k (omega (arith, more, differ)) stands here in
+            is.stops.rising finding.stop index place k (omega (arith, more, differ)) stands here in
             absurd (omega (arith, rising, below))
       ]
     ]
@@ -230,8 +230,8 @@ stop_more reading n stops are = record {
   each = λ i below. elim (cases_eq i n) [
     | inl same ↦
         inl
-            (get_contains (stops ++ n ∷ []) i (length stops)
-                (get_last stops n (length stops) refl ∙ ap Some (sym same)))
+        (get_contains (stops ++ n ∷ []) i (length stops)
+        (get_last stops n (length stops) refl ∙ ap Some (sym same)))
     | inr differ ↦ elim (are.each i (omega (arith, below, differ))) [
       | inl there ↦
           let found = contains_get stops i there in

@@ -49,7 +49,7 @@ finished_to rs A B task follows done = elim done [
 pub complete_from_start : (rs : List Record) (i task : ℕ) → IsDone rs 0 task → IsCompleteAt rs task i
 complete_from_start rs i task done =
     finished_to rs (λ k. seen_at rs k < 0) (CountsAt rs i) task (λ k there less. absurd (omega (arith, less)))
-        done
+    done
 
 pub bound_by : (rs : List Record) (i bound : ℕ)
     → ((k : ℕ) → IsFinishing rs k → CountsAt rs i k → seen_at rs k < bound)
@@ -119,9 +119,9 @@ starts_more rs n index own tasks starts within once is says unset are = record {
     | inl same ↦ let here = set_here other same in inl (omega (arith, here))
     | inr apart ↦
         let kept = set_apart other apart in elim (are.low other (rw (length-set starts index n) at inside)) [
-      | inl less ↦ inl (omega (arith, kept, less))
-      | inr none ↦ inr (kept ∙ none)
-    ]
+          | inl less ↦ inl (omega (arith, kept, less))
+          | inr none ↦ inr (kept ∙ none)
+        ]
   ];
   begins = λ other task there below. elim (cases_eq other index) [
     | inl same ↦
@@ -130,7 +130,7 @@ starts_more rs n index own tasks starts within once is says unset are = record {
     | inr apart ↦
         let kept = set_apart other apart in
         ap (at begun_turn rs) kept
-            ∙ are.begins other task there (low_or_unset other task there (omega (arith, below, kept)))
+        ∙ are.begins other task there (low_or_unset other task there (omega (arith, below, kept)))
   ];
   first = λ other task k there below begins. elim (cases_eq other index) [
     | inl same ↦ elim (cases_eq k n) [
@@ -143,12 +143,12 @@ starts_more rs n index own tasks starts within once is says unset are = record {
     | inr apart ↦ elim (cases_eq k n) [
       | inl last ↦
           absurd
-              (apart
-                  (once other index task there
-                      (is
-                          ∙ ap Some
-                              (some_pair_parts own task 0 0
-                                  (sym says ∙ ap (at begun_turn rs) (sym last) ∙ begins)).0)))
+          (apart
+          (once other index task there
+          (is
+          ∙ ap Some
+          (some_pair_parts own task 0 0
+          (sym says ∙ ap (at begun_turn rs) (sym last) ∙ begins)).0)))
       | inr differ ↦
           let kept = set_apart other apart in
           let low = are.first other task k there (omega (arith, below, differ)) begins in
@@ -162,7 +162,7 @@ starts_more rs n index own tasks starts within once is says unset are = record {
         let inside = slice_get_within tasks index own is in
         let all = are.all in
         ap (λ k. get_or (set starts index n) k 0) same
-            ∙ get_or-set_same starts index n 0 (omega (arith, inside, all))
+        ∙ get_or-set_same starts index n 0 (omega (arith, inside, all))
 
     set_apart : (other : ℕ) → (other ≡ index → ⊥)
         → slice_index (set starts index n) other ≡ slice_index starts other
@@ -181,13 +181,13 @@ starts_more rs n index own tasks starts within once is says unset are = record {
 starts_kept : (rs : List Record) (n : ℕ) (tasks starts : List ℕ) → n < length rs
     → AreStartsBelow rs n tasks starts
     → ((index task : ℕ) → slice_get tasks index ≡ Some task → at begun_turn rs n ≡ Some (task, 0)
-          → slice_index starts index ≤ n)
+    → slice_index starts index ≤ n)
     → AreStartsBelow rs (n + 1) tasks starts
 starts_kept rs n tasks starts within are here = record {
   all = are.all;
   low =
       λ index inside.
-          elim (are.low index inside) [inl less ↦ inl (omega (arith, less)) | inr none ↦ inr none];
+      elim (are.low index inside) [ inl less ↦ inl (omega (arith, less)) | inr none ↦ inr none ];
   begins = λ index task there below.
       let inside = slice_get_within tasks index task there in
       let all = are.all in
@@ -209,9 +209,9 @@ pub starts_still : (rs : List Record) (n index own : ℕ) (tasks starts : List �
     → (slice_index starts index ≡ length rs → ⊥) → AreStartsBelow rs n tasks starts
     → AreStartsBelow rs (n + 1) tasks starts
 starts_still rs n index own tasks starts within once is says noted are =
-    starts_kept rs n tasks starts within are ( λ other task there begins.
+    starts_kept rs n tasks starts within are (λ other task there begins.
     let same =
-        once other index task there (is ∙ ap Some (some_pair_parts own task 0 0 (sym says ∙ begins)).0) in
+    once other index task there (is ∙ ap Some (some_pair_parts own task 0 0 (sym says ∙ begins)).0) in
     let inside = slice_get_within tasks index own is in
     let all = are.all in
     elim (are.low index (omega (arith, inside, all))) [
@@ -250,6 +250,6 @@ known_small rs i reached few = of (is_some (at finish rs i)) refl
       | inl more ↦ absurd (reached i (length_ahead (ledger_length more)))
       | inr low ↦
           let most : entries_in rs ≤ length rs =
-              count_by-le-length (λ (r : Record). is_some (finish r.body)) rs in
+          count_by-le-length (λ (r : Record). is_some (finish r.body)) rs in
           omega (arith, low, most, few)
     ])

@@ -76,8 +76,8 @@ pub ends_start : (rs : List Record) (tasks rows : List ℕ) (n : ℕ) → ((k : 
 ends_start rs tasks rows n within = record {
   only = λ index task turn indexed has below.
       let empty : slice_index (replicate n (length rs)) (slice_index rows index + turn) ≡ length rs =
-          get_or-replicate n (slice_index rows index + turn) (length rs) 0
-              (slot_within rows index turn n has within) in
+      get_or-replicate n (slice_index rows index + turn) (length rs) 0
+      (slot_within rows index turn n has within) in
       absurd (omega (arith, below, empty));
   all = λ i slot below. absurd (omega (arith, below));
 }
@@ -97,7 +97,7 @@ ends_other rs n tasks rows places none are = record {
 pub slot_found : (rs : List Record) (tasks rows : List ℕ) (i index turn : ℕ) (found : Option ℕ)
     → AreApart tasks → (end : IsEndOf rs tasks i index turn) → IsExplicit rs end.task
     → MatchOption found (HasSlot rows index (turn + 1) → ⊥)
-        (λ slot. HasSlot rows index (turn + 1) × (slot ≡ slice_index rows index + (turn + 1)))
+    (λ slot. HasSlot rows index (turn + 1) × (slot ≡ slice_index rows index + (turn + 1)))
     → MatchOption found (HasNoSlotBehind rs tasks rows i) (IsSlotBehind rs tasks rows i)
 slot_found rs tasks rows i index turn (Some slot) apart end explicit (has, is) = record {
   index = index;
@@ -109,8 +109,8 @@ slot_found rs tasks rows i index turn (Some slot) apart end explicit (has, is) =
 }
 slot_found rs tasks rows i index turn None apart end explicit none = λ slot behind.
     let parts =
-        some_pair_parts behind.end_of.task end.task behind.turn turn
-            (sym behind.end_of.suspends ∙ end.suspends) in
+    some_pair_parts behind.end_of.task end.task behind.turn turn
+    (sym behind.end_of.suspends ∙ end.suspends) in
     let same = apart behind.index index end.task (behind.end_of.indexed ∙ ap Some parts.0) end.indexed in
     let has = behind.has in
     let row = ap (slice_index rows) same in
@@ -123,10 +123,10 @@ slot_once : (rs : List Record) (tasks rows : List ℕ) (i one other : ℕ) → A
     → IsSlotBehind rs tasks rows i one → IsSlotBehind rs tasks rows i other → one ≡ other
 slot_once rs tasks rows i one other apart a b =
     let parts =
-        some_pair_parts a.end_of.task b.end_of.task a.turn b.turn
-            (sym a.end_of.suspends ∙ b.end_of.suspends) in
+    some_pair_parts a.end_of.task b.end_of.task a.turn b.turn
+    (sym a.end_of.suspends ∙ b.end_of.suspends) in
     let index =
-        apart a.index b.index a.end_of.task a.end_of.indexed (b.end_of.indexed ∙ ap Some (sym parts.0)) in
+    apart a.index b.index a.end_of.task a.end_of.indexed (b.end_of.indexed ∙ ap Some (sym parts.0)) in
     let row = ap (slice_index rows) index in
     let is = a.is in
     let is' = b.is in
@@ -142,14 +142,14 @@ ends_more rs n slot tasks rows places within apart rise inside is are = record {
     | inl same ↦ let here = value other same in omega (arith, here, within)
     | inr different ↦
         let old : slice_index (set places slot n) other ≡ slice_index places other =
-            get_or-set_other places slot other n 0 different in
+        get_or-set_other places slot other n 0 different in
         elim (cases_eq i n) [
           | inl last ↦
               absurd
-                  (different
-                      (slot_once rs tasks rows n other slot apart
-                          (let P : ℕ → Type 0 = λ k. IsSlotBehind rs tasks rows k other in
-                           subst P last behind) is))
+              (different
+              (slot_once rs tasks rows n other slot apart
+              (let P : ℕ → Type 0 = λ k. IsSlotBehind rs tasks rows k other in
+              subst P last behind) is))
           | inr before ↦
               let low = are.all i other (omega (arith, below, before)) behind in omega (arith, low, old)
         ]
@@ -166,8 +166,8 @@ ends_more rs n slot tasks rows places within apart rise inside is are = record {
       | inl same ↦
           let both = slots_apart rows index turn is.index (is.turn + 1) rise has is.has (same ∙ is.is) in
           let own : is.end_of.task ≡ task =
-              same_Some is.end_of.task task
-                  (sym is.end_of.indexed ∙ ap (slice_get tasks) (sym both.0) ∙ indexed) in
+          same_Some is.end_of.task task
+          (sym is.end_of.indexed ∙ ap (slice_get tasks) (sym both.0) ∙ indexed) in
           let P : ℕ → Type 0 = IsEndBefore rs task turn in
           subst P (sym (value (slice_index rows index + turn) same)) (record {
             explicit = subst (IsExplicit rs) own is.explicit;
@@ -177,8 +177,8 @@ ends_more rs n slot tasks rows places within apart rise inside is are = record {
           })
       | inr different ↦
           let old : slice_index (set places slot n) (slice_index rows index + turn)
-                  ≡ slice_index places (slice_index rows index + turn) =
-              get_or-set_other places slot (slice_index rows index + turn) n 0 different in
+          ≡ slice_index places (slice_index rows index + turn) =
+          get_or-set_other places slot (slice_index rows index + turn) n 0 different in
           let P : ℕ → Type 0 = IsEndBefore rs task turn in
           subst P (sym old) (are.only index task turn indexed has (omega (arith, below, old)))
     ]
@@ -191,7 +191,7 @@ slot_before : (rs : List Record) (tasks rows : List ℕ) (i index turn c : ℕ) 
     → IsExplicit rs again.task → IsSlotBehind rs tasks rows c (slice_index rows index + turn)
 slot_before rs tasks rows i index turn c room begins later again explicit =
     let parts =
-        some_pair_parts again.task begins.task (again.turn + 1) turn (sym again.resumes ∙ begins.starts) in
+    some_pair_parts again.task begins.task (again.turn + 1) turn (sym again.resumes ∙ begins.starts) in
     let has : HasSlot rows index turn = room i index turn begins later in
     let next : again.turn + 1 ≡ turn = parts.1 in
     record {
@@ -220,8 +220,8 @@ end_awaited rs tasks known i index turn place are begins later read within apart
     at_end =
         let P : ℕ → Type 0 = IsEndBefore rs begins.task turn in
         subst P (sym read)
-            (are.ends.only index begins.task turn begins.indexed (are.room i index turn begins later)
-                (omega (arith, within, read)))
+        (are.ends.only index begins.task turn begins.indexed (are.room i index turn begins later)
+        (omega (arith, within, read)))
 
     again : IsResumption rs place i
     again = record {
@@ -238,18 +238,18 @@ end_awaited rs tasks known i index turn place are begins later read within apart
     of : Awaits rs i c → Some place ≡ Some c
     of (awaits_creation task waits creates) =
         absurd
-            (none-some task
-                (sym (later_awaits_none rs i begins.task turn are.facts begins.starts later) ∙ waits))
+        (none-some task
+        (sym (later_awaits_none rs i begins.task turn are.facts begins.starts later) ∙ waits))
     of (awaits_end other explicit) =
         let parts =
-            some_pair_parts other.task begins.task (other.turn + 1) turn
-                (sym other.resumes ∙ begins.starts) in
+        some_pair_parts other.task begins.task (other.turn + 1) turn
+        (sym other.resumes ∙ begins.starts) in
         let next = at_end.next in
         let same : other.turn ≡ at_end.before = omega (arith, parts.1, next) in
         ap Some
-            (are.facts.once place c i again at_end.explicit
-                (other.suspends ∙ ap (λ t. Some (t, other.turn)) parts.0
-                    ∙ ap (λ t. Some (begins.task, t)) same))
+        (are.facts.once place c i again at_end.explicit
+        (other.suspends ∙ ap (λ t. Some (t, other.turn)) parts.0
+        ∙ ap (λ t. Some (begins.task, t)) same))
 
 -- a slot that has no other record than the one that runs on shows that this awaits nothing
 end_not_awaited : (rs : List Record) (tasks : List ℕ) (known : Suspensions) (i index turn place : ℕ)
@@ -257,28 +257,28 @@ end_not_awaited : (rs : List Record) (tasks : List ℕ) (known : Suspensions) (i
     → place ≡ slice_index known.places.items (slice_index known.rows.items index + turn)
     → (place < length rs → place ≢ i → ⊥) → (c : ℕ) → Awaits rs i c → ⊥
 end_not_awaited rs tasks known i index turn place are begins later read none c
-        (awaits_creation task waits creates) =
+    (awaits_creation task waits creates) =
     none-some task (sym (later_awaits_none rs i begins.task turn are.facts begins.starts later) ∙ waits)
 end_not_awaited rs tasks known i index turn place are begins later read none c (awaits_end again explicit) =
     let slot = slot_before rs tasks known.rows.items i index turn c are.room begins later again explicit in
     let filled =
-        are.ends.all c (slice_index known.rows.items index + turn)
-            (at_within suspended_turn rs c (again.task, again.turn) again.suspends) slot in
+    are.ends.all c (slice_index known.rows.items index + turn)
+    (at_within suspended_turn rs c (again.task, again.turn) again.suspends) slot in
     let within : place < length rs = omega (arith, filled, read) in
     let P : ℕ → Type 0 = IsEndBefore rs begins.task turn in
     let at_end : IsEndBefore rs begins.task turn place =
-        subst P (sym read)
-            (are.ends.only index begins.task turn begins.indexed (are.room i index turn begins later)
-                (omega (arith, within, read))) in
+    subst P (sym read)
+    (are.ends.only index begins.task turn begins.indexed (are.room i index turn begins later)
+    (omega (arith, within, read))) in
     let parts =
-        some_pair_parts again.task begins.task (again.turn + 1) turn (sym again.resumes ∙ begins.starts) in
+    some_pair_parts again.task begins.task (again.turn + 1) turn (sym again.resumes ∙ begins.starts) in
     let next = at_end.next in
     let same : at_end.before ≡ again.turn = omega (arith, parts.1, next) in
     let task : begins.task ≡ again.task = sym parts.0 in
     let Q : ℕ → ℕ → Type 0 = λ t u. at suspended_turn rs place ≡ Some (t, u) in
     let one : c ≡ place =
-        are.facts.once c place i again explicit
-            (subst (Q again.task) same (subst (λ t. Q t at_end.before) task at_end.suspends)) in
+    are.facts.once c place i again explicit
+    (subst (Q again.task) same (subst (λ t. Q t at_end.before) task at_end.suspends)) in
     none within (λ here. again.another (one ∙ here))
 
 -- what is found in the slot is what is awaited
@@ -287,8 +287,8 @@ pub end_found : (rs : List Record) (tasks : List ℕ) (known : Suspensions) (i i
     → AreSuspensions rs tasks known → IsStartOf rs tasks i index turn → 0 < turn
     → place ≡ slice_index known.places.items (slice_index known.rows.items index + turn)
     → MatchOption found (place < length rs → place ≢ i → ⊥)
-        (λ k. (k ≡ place) × (place < length rs) × (place ≢ i))
-        → (c : ℕ) → (found ≡ Some c) ↔ Awaits rs i c
+    (λ k. (k ≡ place) × (place < length rs) × (place ≢ i))
+    → (c : ℕ) → (found ≡ Some c) ↔ Awaits rs i c
 end_found rs tasks known i index turn place None are begins later read none c = (
   λ here. absurd (none-some c here),
   λ awaits. absurd (end_not_awaited rs tasks known i index turn place are begins later read none c awaits),
@@ -316,8 +316,8 @@ slot_key rs tasks rows i c slot facts apart is (awaits_creation task waits creat
     absurd (created_suspends rs c task is.end_of.task is.turn creates is.end_of.suspends)
 slot_key rs tasks rows i c slot facts apart is (awaits_end again explicit) =
     let parts =
-        some_pair_parts again.task is.end_of.task again.turn is.turn
-            (sym again.suspends ∙ is.end_of.suspends) in
+    some_pair_parts again.task is.end_of.task again.turn is.turn
+    (sym again.suspends ∙ is.end_of.suspends) in
     let begins : IsStartOf rs tasks i is.index (again.turn + 1) = record {
       task = again.task;
       starts = again.resumes;
@@ -327,7 +327,7 @@ slot_key rs tasks rows i c slot facts apart is (awaits_end again explicit) =
     let turn = parts.1 in
     let same : slice_index rows is.index + (again.turn + 1) ≡ slot = omega (arith, there, turn) in
     key_turn rs tasks rows i is.index (again.turn + 1) facts apart begins (omega arith)
-        ∙ ap (λ k. Some (length tasks + k)) same
+    ∙ ap (λ k. Some (length tasks + k)) same
 
 -- a record that creates nothing, and behind which no slot is, is awaited by none
 pub no_key : (rs : List Record) (family : FamilyView) (known : Suspensions) (i c : ℕ) → IsFamilyOf rs family
@@ -338,9 +338,9 @@ no_key rs family known i c are is none no_slot (awaits_creation task waits creat
 no_key rs family known i c are is none no_slot (awaits_end again explicit) =
     let found = begun_index rs family i again.task (again.turn + 1) are again.resumes in
     no_slot _
-        (slot_before rs family.tasks known.rows.items i found.0 (again.turn + 1) c is.room
-            (record { task = again.task; starts = again.resumes; indexed = found.1 }) (omega arith) again
-            explicit)
+    (slot_before rs family.tasks known.rows.items i found.0 (again.turn + 1) c is.room
+    (record { task = again.task; starts = again.resumes; indexed = found.1 }) (omega arith) again
+    explicit)
 
 -- ---- how long each row is
 
@@ -359,37 +359,38 @@ pub lengths_more : (rs : List Record) (n index turn long : ℕ) (tasks lengths :
     → IsStartOf rs tasks n index turn → index < length lengths → slice_index lengths index ≤ long
     → turn < long → AreLengths rs n tasks lengths → AreLengths rs (n + 1) tasks (set lengths index long)
 lengths_more rs n index turn long tasks lengths apart begins inside kept more are i other later below begins'
-        =
+    =
     elim (cases_eq other index) [
-  | inl same ↦
-      let value : slice_index (set lengths index long) other ≡ long =
+      | inl same ↦
+          let value : slice_index (set lengths index long) other ≡ long =
           ap (slice_index (set lengths index long)) same ∙ get_or-set_same lengths index long 0 inside in
-      elim (cases_eq i n) [
-        | inl here ↦
-            let parts =
+          elim (cases_eq i n) [
+            | inl here ↦
+                let parts =
                 some_pair_parts begins'.task begins.task later turn
-                    (sym begins'.starts ∙ ap (at begun_turn rs) here ∙ begins.starts) in
-            omega (arith, value, more, parts.1)
-        | inr before ↦
-            let old = are i other later (omega (arith, below, before)) begins' in
-            let e = ap (slice_index lengths) same in
-            omega (arith, value, old, kept, e)
-      ]
-  | inr different ↦
-      let value : slice_index (set lengths index long) other ≡ slice_index lengths other =
+                (sym begins'.starts ∙ ap (at begun_turn rs) here ∙ begins.starts) in
+                omega (arith, value, more, parts.1)
+            | inr before ↦
+                let old = are i other later (omega (arith, below, before)) begins' in
+                let e = ap (slice_index lengths) same in
+                omega (arith, value, old, kept, e)
+          ]
+      | inr different ↦
+          let value : slice_index (set lengths index long) other ≡ slice_index lengths other =
           get_or-set_other lengths index other long 0 different in
-      elim (cases_eq i n) [
-        | inl here ↦
-            let parts =
+          elim (cases_eq i n) [
+            | inl here ↦
+                let parts =
                 some_pair_parts begins'.task begins.task later turn
-                    (sym begins'.starts ∙ ap (at begun_turn rs) here ∙ begins.starts) in
-            absurd
+                (sym begins'.starts ∙ ap (at begun_turn rs) here ∙ begins.starts) in
+                absurd
                 (different
-                    (apart other index begins'.task begins'.indexed (begins.indexed ∙ ap Some (sym parts.0))))
-        | inr before ↦
-            let old = are i other later (omega (arith, below, before)) begins' in omega (arith, value, old)
-      ]
-]
+                (apart other index begins'.task begins'.indexed (begins.indexed ∙ ap Some (sym parts.0))))
+            | inr before ↦
+                let old = are i other later (omega (arith, below, before)) begins' in
+                omega (arith, value, old)
+          ]
+    ]
 
 -- rows of these lengths, one behind the other
 pub record AreLaid (n : ℕ) (lengths rows : List ℕ) : Type 0 where

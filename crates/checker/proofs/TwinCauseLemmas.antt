@@ -52,10 +52,10 @@ twin_gap rs ss i twins (r, stands, gap) =
           ap (λ (q : Record). q.seq) other.2
           ∙ is
           ∙ ap (λ t. count_by (λ (q : Record). q.thread == t) (take i ss))
-              (sym (ap (λ (q : Record). q.thread) other.2))
+          (sym (ap (λ (q : Record). q.thread) other.2))
           ∙ sym
-              (twin_count (λ (q : Record). q.thread == r.thread) (λ q. refl) (take i rs) (take i ss)
-                  (twins_take rs ss i twins))
+          (twin_count (λ (q : Record). q.thread == r.thread) (λ q. refl) (take i rs) (take i ss)
+          (twins_take rs ss i twins))
           ),
     )
 
@@ -70,14 +70,24 @@ twin_forked rs ss parallel twins (k, task, says) =
     (k, task, twin_says forked blind_forked (task, parallel) rs ss k twins says)
 
 twin_made_again : (rs ss : List Record) (i : ℕ) → AreTwins rs ss → IsMadeAgain rs i → IsMadeAgain ss i
-twin_made_again rs ss i twins (task, k, below, before, says) =
-    (task, k, below, twin_says made blind_made task rs ss k twins before,
-        twin_says made blind_made task rs ss i twins says)
+twin_made_again rs ss i twins (task, k, below, before, says) = (
+  task,
+  k,
+  below,
+  twin_says made blind_made task rs ss k twins before,
+  twin_says made blind_made task rs ss i twins says,
+)
 
 twin_forked_again : (rs ss : List Record) (i : ℕ) → AreTwins rs ss → IsForkedAgain rs i → IsForkedAgain ss i
-twin_forked_again rs ss i twins (parallel, k, own, other, below, before, says) =
-    (parallel, k, own, other, below, twin_says forked blind_forked (other, parallel) rs ss k twins before,
-        twin_says forked blind_forked (own, parallel) rs ss i twins says)
+twin_forked_again rs ss i twins (parallel, k, own, other, below, before, says) = (
+  parallel,
+  k,
+  own,
+  other,
+  below,
+  twin_says forked blind_forked (other, parallel) rs ss k twins before,
+  twin_says forked blind_forked (own, parallel) rs ss i twins says,
+)
 
 twin_named : (rs ss : List Record) (i task : ℕ) → AreTwins rs ss → IsNamedAt rs i task → IsNamedAt ss i task
 twin_named rs ss i task twins (r, stands, has) =
@@ -92,20 +102,20 @@ twin_rooted rs ss task twins is = moved_rooted (reordered (twin_renaming rs ss t
 twin_rootless : (rs ss : List Record) (i : ℕ) → AreTwins rs ss → HasNoRoot rs i → HasNoRoot ss i
 twin_rootless rs ss i twins (unmade task names none) =
     unmade task (twin_named rs ss i task twins names)
-        (λ is. none (twin_made ss rs task (twins_back rs ss twins) is))
+    (λ is. none (twin_made ss rs task (twins_back rs ss twins) is))
 twin_rootless rs ss i twins (unrooted task creates none) =
     unrooted task (twin_says created blind_created task rs ss i twins creates)
-        (λ is. none (twin_rooted ss rs task (twins_back rs ss twins) is))
+    (λ is. none (twin_rooted ss rs task (twins_back rs ss twins) is))
 twin_rootless rs ss i twins (no_region parallel names none) =
     no_region parallel (twin_says region_named blind_region_named parallel rs ss i twins names)
-        (λ is. none (twin_forked ss rs parallel (twins_back rs ss twins) is))
+    (λ is. none (twin_forked ss rs parallel (twins_back rs ss twins) is))
 
 -- ---- the walk along a thread
 
 pub twin_walk : (rs ss : List Record) (thread : ℕ) → AreTwins rs ss → walk_of thread rs ≡ walk_of thread ss
 twin_walk rs ss thread twins =
     twin_fold after_record (λ walk r. blind_walk walk r.body) at_start (filter on rs) (filter on ss)
-        (twins_filter on (λ r. refl) rs ss twins)
+    (twins_filter on (λ r. refl) rs ss twins)
   where
     on : Record → Bool
     on r = r.thread == thread
@@ -118,17 +128,17 @@ twin_misfit rs ss walk b c twins same (not_innermost task ends apart) =
     not_innermost task (sym (same_said ended_root blind_ended_root b c same) ∙ ends) apart
 twin_misfit rs ss walk b c twins same (other_root task starts is_root apart) =
     other_root task (sym (same_said started blind_started b c same) ∙ starts)
-        (moved_root (reordered (twin_renaming rs ss twins)) task is_root) apart
+    (moved_root (reordered (twin_renaming rs ss twins)) task is_root) apart
 twin_misfit rs ss walk b c twins same (other_parent task i parent completes creates apart) =
     other_parent task i parent (sym (same_said wait_completed blind_wait_completed b c same) ∙ completes)
-        (moved_creation (reordered (twin_renaming rs ss twins)) i parent task creates) apart
+    (moved_creation (reordered (twin_renaming rs ss twins)) i parent task creates) apart
 
 -- the walk before the record and before its twin
 walk_before : (rs ss : List Record) (i : ℕ) (r s : Record) → AreTwins rs ss → blank r ≡ blank s
     → walk_of r.thread (take i rs) ≡ walk_of s.thread (take i ss)
 walk_before rs ss i r s twins same =
     twin_walk (take i rs) (take i ss) r.thread (twins_take rs ss i twins)
-        ∙ ap (λ t. walk_of t (take i ss)) (ap (λ (q : Record). q.thread) same)
+    ∙ ap (λ t. walk_of t (take i ss)) (ap (λ (q : Record). q.thread) same)
 
 pub twin_misfits : (rs ss : List Record) (i : ℕ) → AreTwins rs ss → MisfitsAt rs i → MisfitsAt ss i
 twin_misfits rs ss i twins is =
@@ -141,8 +151,8 @@ twin_misfits rs ss i twins is =
       stands = other.1;
       misfits =
           subst P (walk_before rs ss i r s twins other.2)
-              (twin_misfit rs ss (walk_of r.thread (take i rs)) r.body s.body twins (twin_body r s other.2)
-                  is.misfits);
+          (twin_misfit rs ss (walk_of r.thread (take i rs)) r.body s.body twins (twin_body r s other.2)
+          is.misfits);
     }
 
 twin_not_current : (rs ss : List Record) (i : ℕ) → AreTwins rs ss → IsNotCurrent rs i → IsNotCurrent ss i
@@ -150,8 +160,8 @@ twin_not_current rs ss i twins is = record {
   misfits = twin_misfits rs ss i twins is.misfits;
   first =
       λ k below same there.
-          is.first k below (twin_thread rs ss k twins ∙ same ∙ sym (twin_thread rs ss i twins))
-              (twin_misfits ss rs k (twins_back rs ss twins) there);
+      is.first k below (twin_thread rs ss k twins ∙ same ∙ sym (twin_thread rs ss i twins))
+      (twin_misfits ss rs k (twins_back rs ss twins) there);
 }
 
 twin_walk_at : (rs ss : List Record) (i : ℕ) (walk : Walk) → AreTwins rs ss → IsWalkAt rs i walk
@@ -163,14 +173,14 @@ twin_walk_at rs ss i walk twins (r, stands, is) =
 twin_nested : (rs ss : List Record) (i : ℕ) → AreTwins rs ss → IsNested rs i → IsNested ss i
 twin_nested rs ss i twins (forked_inside task parallel forks none) =
     forked_inside task parallel (twin_says forked blind_forked (task, parallel) rs ss i twins forks)
-        (λ is. none (moved_initial (reordered (twin_renaming ss rs (twins_back rs ss twins))) task is))
+    (λ is. none (moved_initial (reordered (twin_renaming ss rs (twins_back rs ss twins))) task is))
 twin_nested rs ss i twins (joined_inside m walk outer joins stands innermost member) =
     joined_inside m walk outer (twin_says joined blind_joined m rs ss i twins joins)
-        (twin_walk_at rs ss i walk twins stands) innermost
-        (moved_member (reordered (twin_renaming rs ss twins)) outer member)
+    (twin_walk_at rs ss i walk twins stands) innermost
+    (moved_member (reordered (twin_renaming rs ss twins)) outer member)
 twin_nested rs ss i twins (initial_inside task walk begins stands some) =
     initial_inside task walk (twin_says begun_initial blind_begun_initial task rs ss i twins begins)
-        (twin_walk_at rs ss i walk twins stands) some
+    (twin_walk_at rs ss i walk twins stands) some
 
 -- ---- dependences
 
@@ -181,7 +191,7 @@ twin_next rs ss a b twins is = record {
   same_thread = sym (twin_thread rs ss a twins) ∙ is.same_thread ∙ twin_thread rs ss b twins;
   next =
       λ k after before same.
-          is.next k after before (twin_thread rs ss k twins ∙ same ∙ sym (twin_thread rs ss a twins));
+      is.next k after before (twin_thread rs ss k twins ∙ same ∙ sym (twin_thread rs ss a twins));
 }
 
 twin_followed : (rs ss : List Record) (a b : ℕ) → AreTwins rs ss → AreFollowed rs a b → AreFollowed ss a b
@@ -197,10 +207,10 @@ twin_misplaced : (rs ss : List Record) (i : ℕ) → AreTwins rs ss → HasMispl
     → HasMisplacedDeps ss i
 twin_misplaced rs ss i twins (stray lists none) =
     stray (ap is_some (sym (twin_at dependences blind_dependences rs ss i twins)) ∙ lists)
-        (λ a is. none a (twin_followed ss rs a i (twins_back rs ss twins) is))
+    (λ a is. none a (twin_followed ss rs a i (twins_back rs ss twins) is))
 twin_misplaced rs ss i twins (missing creates none) =
     missing (ap is_some (sym (twin_at created_with_deps blind_created_with_deps rs ss i twins)) ∙ creates)
-        (λ b is. none b (twin_followed ss rs i b (twins_back rs ss twins) is))
+    (λ b is. none b (twin_followed ss rs i b (twins_back rs ss twins) is))
 
 -- ---- the ledger
 
@@ -208,9 +218,13 @@ pub twin_finishing : (rs ss : List Record) (i : ℕ) → AreTwins rs ss → IsFi
 twin_finishing rs ss i twins is = ap is_some (sym (twin_at finish blind_finish rs ss i twins)) ∙ is
 
 twin_repeats : (rs ss : List Record) (i : ℕ) → AreTwins rs ss → RepeatsEntry rs i → RepeatsEntry ss i
-twin_repeats rs ss i twins (k, below, one, other, same) =
-    (k, below, twin_finishing rs ss k twins one, twin_finishing rs ss i twins other,
-        sym (twin_seen rs ss k twins) ∙ same ∙ twin_seen rs ss i twins)
+twin_repeats rs ss i twins (k, below, one, other, same) = (
+  k,
+  below,
+  twin_finishing rs ss k twins one,
+  twin_finishing rs ss i twins other,
+  sym (twin_seen rs ss k twins) ∙ same ∙ twin_seen rs ss i twins,
+)
 
 twin_entries : (rs ss : List Record) → AreTwins rs ss → entries_in rs ≡ entries_in ss
 twin_entries rs ss twins =
@@ -219,22 +233,26 @@ twin_entries rs ss twins =
 twin_ahead : (rs ss : List Record) (i : ℕ) → AreTwins rs ss → IsAhead rs i → IsAhead ss i
 twin_ahead rs ss i twins (entry makes past) =
     entry (twin_finishing rs ss i twins makes)
-        (omega (arith, twin_entries rs ss twins, twin_seen rs ss i twins, past))
+    (omega (arith, twin_entries rs ss twins, twin_seen rs ss i twins, past))
 twin_ahead rs ss i twins (ledger_length past) =
     ledger_length (omega (arith, twin_entries rs ss twins, twin_seen rs ss i twins, past))
 
 pub twin_known : (rs ss : List Record) (i : ℕ) → AreTwins rs ss → known_after rs i ≡ known_after ss i
 twin_known rs ss i twins =
     ap (λ b. cond b (seen_at rs i + 1) (seen_at rs i))
-        (ap is_some (twin_at finish blind_finish rs ss i twins))
+    (ap is_some (twin_at finish blind_finish rs ss i twins))
     ∙ ap (λ n. cond (is_some (at finish ss i)) (n + 1) n) (twin_seen rs ss i twins)
 
 -- ---- target tasks
 
 twin_target : (rs ss : List Record) (i : ℕ) → AreTwins rs ss → MakesTarget rs i → MakesTarget ss i
-twin_target rs ss i twins (task, bits, makes, has, target) =
-    (task, bits, twin_says made blind_made task rs ss i twins makes,
-        twin_says flags blind_flags bits rs ss i twins has, target)
+twin_target rs ss i twins (task, bits, makes, has, target) = (
+  task,
+  bits,
+  twin_says made blind_made task rs ss i twins makes,
+  twin_says flags blind_flags bits rs ss i twins has,
+  target,
+)
 
 -- ---- all of these
 

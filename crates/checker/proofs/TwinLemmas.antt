@@ -49,21 +49,21 @@ twin_thread rs ss i twins = twin_read (λ (r : Record). r.thread) (λ r. refl) r
 pub twin_seen : (rs ss : List Record) (i : ℕ) → AreTwins rs ss → seen_at rs i ≡ seen_at ss i
 twin_seen rs ss i twins =
     sym (through (slice_get rs i))
-        ∙ ap (λ (o : Option ℕ). option_map_or (λ n. n) o 0)
-            (twin_read (λ (r : Record). r.seen) (λ r. refl) rs ss i twins)
-        ∙ through (slice_get ss i)
+    ∙ ap (λ (o : Option ℕ). option_map_or (λ n. n) o 0)
+    (twin_read (λ (r : Record). r.seen) (λ r. refl) rs ss i twins)
+    ∙ through (slice_get ss i)
   where
     through : (o : Option Record)
         → option_map_or (λ n. n) (option_map (λ (r : Record). r.seen) o) 0
-            ≡ option_map_or (λ (r : Record). r.seen) o 0
+        ≡ option_map_or (λ (r : Record). r.seen) o 0
     through None = refl
     through (Some r) = refl
 
 pub twins_alike : (rs ss : List Record) (i : ℕ) → AreTwins rs ss → SayAlike rs i ss i
 twins_alike rs ss i twins =
     sym (through (slice_get rs i))
-        ∙ twin_read (λ (r : Record). untold r.body) (λ r. untold_twice r.body) rs ss i twins
-        ∙ through (slice_get ss i)
+    ∙ twin_read (λ (r : Record). untold r.body) (λ r. untold_twice r.body) rs ss i twins
+    ∙ through (slice_get ss i)
   where
     untold_twice : (b : Body) → untold (untold b) ≡ untold b
     untold_twice (TaskSchedule status turns prior next share) = refl
@@ -71,7 +71,7 @@ twins_alike rs ss i twins =
 
     through : (o : Option Record)
         → option_map (λ (r : Record). untold r.body) o
-            ≡ option_and_then (λ (r : Record). Some (untold r.body)) o
+        ≡ option_and_then (λ (r : Record). Some (untold r.body)) o
     through None = refl
     through (Some r) = refl
 
@@ -88,12 +88,14 @@ twin_of rs ss i r twins stands = by (slice_get ss i) refl
         → (s : Record) × (slice_get ss i ≡ Some s) × (blank r ≡ blank s)
     by None e =
         absurd
-            (none-some (blank r)
-                (ap (option_map blank) (sym e) ∙ sym (twin_get rs ss i twins) ∙ ap (option_map blank) stands))
-    by (Some s) e =
-        (s, e,
-            same_Some (blank r) (blank s)
-                (sym (ap (option_map blank) stands) ∙ twin_get rs ss i twins ∙ ap (option_map blank) e))
+        (none-some (blank r)
+        (ap (option_map blank) (sym e) ∙ sym (twin_get rs ss i twins) ∙ ap (option_map blank) stands))
+    by (Some s) e = (
+      s,
+      e,
+      same_Some (blank r) (blank s)
+          (sym (ap (option_map blank) stands) ∙ twin_get rs ss i twins ∙ ap (option_map blank) e),
+    )
 
 -- ---- lists
 
@@ -115,7 +117,7 @@ filter_blank : (p : Record → Bool) → ((r : Record) → p (blank r) ≡ p r) 
 filter_blank p blind [] = refl
 filter_blank p blind (r ∷ rs) =
     kept_blank (p (blank r)) (p r) r (filter p (map blank rs)) (filter p rs) (blind r)
-        (filter_blank p blind rs)
+    (filter_blank p blind rs)
 
 pub twins_filter : (p : Record → Bool) → ((r : Record) → p (blank r) ≡ p r) → (rs ss : List Record)
     → AreTwins rs ss → AreTwins (filter p rs) (filter p ss)
@@ -144,7 +146,7 @@ found_blank p blind (r ∷ rs) = by (p (blank r)) (p r) (blind r) (found_blank p
   where
     by : (here there : Bool) → here ≡ there → is_some (find p (map blank rs)) ≡ is_some (find p rs)
         → is_some (cond here (Some (blank r)) (find p (map blank rs)))
-            ≡ is_some (cond there (Some r) (find p rs))
+        ≡ is_some (cond there (Some r) (find p rs))
     by true true same rest = refl
     by false false same rest = rest
     by true false same rest = absurd (true≢false same)

@@ -28,7 +28,7 @@ filter_same : (p q : ℕ → Bool) → ((i : ℕ) → p i ≡ q i) → (is : Lis
 filter_same p q same [] = refl
 filter_same p q same (i ∷ is) =
     ap (λ l. cond (p i) (i ∷ l) l) (filter_same p q same is)
-        ∙ ap (λ b. cond b (i ∷ filter q is) (filter q is)) (same i)
+    ∙ ap (λ b. cond b (i ∷ filter q is) (filter q is)) (same i)
 
 find_same : (p q : ℕ → Bool) → ((i : ℕ) → p i ≡ q i) → (is : List ℕ) → find p is ≡ find q is
 find_same p q same [] = refl
@@ -57,21 +57,21 @@ twin_made_so test blind rs ss twins = twin_found (λ (r : Record). test r.body) 
 twin_nature : (rs ss : List Record) (task : ℕ) → AreTwins rs ss → nature_of rs task ≡ nature_of ss task
 twin_nature rs ss task twins =
     ap (λ b. cond b Root (cond (is_made_so (creates_wait task) rs) Wait Plain))
-        (twin_made_so (λ b. is_task task (begun_root b)) (λ b. ap (is_task task) (blind_begun_root b)) rs ss
-            twins)
+    (twin_made_so (λ b. is_task task (begun_root b)) (λ b. ap (is_task task) (blind_begun_root b)) rs ss
+    twins)
     ∙ ap (λ b. cond (is_made_so (λ b. is_task task (begun_root b)) ss) Root (cond b Wait Plain))
-        (twin_made_so (creates_wait task) (blind_wait task) rs ss twins)
+    (twin_made_so (creates_wait task) (blind_wait task) rs ss twins)
 
 -- ---- where it runs
 
 -- the thread of the first record at which the task is read
 thread_found : (f : Body → Option ℕ) → IsBlind f → (rs ss : List Record) (task : ℕ) → AreTwins rs ss
     → option_and_then (thread_at rs) (find (λ i. is_task task (at f rs i)) (places rs))
-        ≡ option_and_then (thread_at ss) (find (λ i. is_task task (at f ss i)) (places ss))
+    ≡ option_and_then (thread_at ss) (find (λ i. is_task task (at f ss i)) (places ss))
 thread_found f blind rs ss task twins =
     ap (option_and_then (thread_at rs)) (
     find_same (λ i. is_task task (at f rs i)) (λ i. is_task task (at f ss i))
-        (λ i. ap (is_task task) (twin_at f blind rs ss i twins)) (places rs)
+    (λ i. ap (is_task task) (twin_at f blind rs ss i twins)) (places rs)
     ∙ ap (find (λ i. is_task task (at f ss i))) (twin_places rs ss twins)
     )
     ∙ there (find (λ i. is_task task (at f ss i)) (places ss))
@@ -84,14 +84,14 @@ pub twin_home : (rs ss : List Record) (task : ℕ) → AreTwins rs ss → home_o
 twin_home rs ss task twins =
     ap (λ o. cond (is_some o) o (run_on rs task)) (thread_found begun_root blind_begun_root rs ss task twins)
     ∙ ap (λ o. cond (is_some (begun_on ss task)) (begun_on ss task) o)
-        (thread_found started blind_started rs ss task twins)
+    (thread_found started blind_started rs ss task twins)
 
 twin_on : (rs ss : List Record) (task i : ℕ) → AreTwins rs ss
     → is_on rs (home_of rs task) i ≡ is_on ss (home_of ss task) i
 twin_on rs ss task i twins =
     ap (λ home. is_on rs home i) (twin_home rs ss task twins)
     ∙ ap (λ o. option_map_or (λ h. option_map_or (λ t. t == h) o false) (home_of ss task) false)
-        (twin_thread rs ss i twins)
+    (twin_thread rs ss i twins)
 
 -- ---- its moves
 
@@ -99,22 +99,22 @@ twin_on rs ss task i twins =
 read_same : {X : Type 0} (f : Body → X) (none : X) → IsBlind f → (rs ss : List Record) (i : ℕ)
     → AreTwins rs ss
     → option_map_or (λ (r : Record). f r.body) (slice_get rs i) none
-        ≡ option_map_or (λ (r : Record). f r.body) (slice_get ss i) none
+    ≡ option_map_or (λ (r : Record). f r.body) (slice_get ss i) none
 read_same {X} f none blind rs ss i twins =
     sym (through (slice_get rs i))
-        ∙ ap (λ o. option_map_or (λ (r : Record). f r.body) o none) (twin_get rs ss i twins)
-        ∙ through (slice_get ss i)
+    ∙ ap (λ o. option_map_or (λ (r : Record). f r.body) o none) (twin_get rs ss i twins)
+    ∙ through (slice_get ss i)
   where
     through : (o : Option Record)
         → option_map_or (λ (r : Record). f r.body) (option_map blank o) none
-            ≡ option_map_or (λ (r : Record). f r.body) o none
+        ≡ option_map_or (λ (r : Record). f r.body) o none
     through None = refl
     through (Some r) = blind r.body
 
 twin_early : (rs ss : List Record) (task i : ℕ) → AreTwins rs ss → is_early rs task i ≡ is_early ss task i
 twin_early rs ss task i twins =
     sym (through rs (slice_get rs i)) ∙ ap (λ o. option_map_or early_there o false) (twin_get rs ss i twins)
-        ∙ through ss (slice_get ss i)
+    ∙ through ss (slice_get ss i)
   where
     early_body : Body → Bool
     early_body (TaskSchedule EarlyFulfill turns prior next share) = prior == task
@@ -139,13 +139,13 @@ twin_moves_at rs ss task i twins =
 twin_places_of : (rs ss : List Record) (task : ℕ) → AreTwins rs ss → places_of rs task ≡ places_of ss task
 twin_places_of rs ss task twins =
     ap (λ l. l ++ filter (on_of rs) (places rs) ++ filter (late_of rs) (places rs))
-        (kept (ahead_of rs) (ahead_of ss)
-            (λ i. ap2 (λ a b. a && not b) (twin_early rs ss task i twins) (twin_on rs ss task i twins)))
+    (kept (ahead_of rs) (ahead_of ss)
+    (λ i. ap2 (λ a b. a && not b) (twin_early rs ss task i twins) (twin_on rs ss task i twins)))
     ∙ ap (λ l. filter (ahead_of ss) (places ss) ++ l ++ filter (late_of rs) (places rs))
-        (kept (on_of rs) (on_of ss) (λ i. twin_on rs ss task i twins))
+    (kept (on_of rs) (on_of ss) (λ i. twin_on rs ss task i twins))
     ∙ ap (λ l. filter (ahead_of ss) (places ss) ++ filter (on_of ss) (places ss) ++ l)
-        (kept (late_of rs) (late_of ss)
-            (λ i. ap2 (λ a b. not a && not b) (twin_early rs ss task i twins) (twin_on rs ss task i twins)))
+    (kept (late_of rs) (late_of ss)
+    (λ i. ap2 (λ a b. not a && not b) (twin_early rs ss task i twins) (twin_on rs ss task i twins)))
   where
     ahead_of : List Record → ℕ → Bool
     ahead_of l i = is_early l task i && not (is_on l (home_of l task) i)
@@ -169,7 +169,7 @@ twin_moves rs ss task twins still at_home =
     ap (λ b. cond b (moved_moves rs task) (moves_of rs task)) still
     ∙ ap (λ l. flat_map (moves_at rs task) l) (twin_places_of rs ss task twins)
     ∙ flat_same (moves_at rs task) (moves_at ss task) (λ i. twin_moves_at rs ss task i twins)
-        (places_of ss task)
+    (places_of ss task)
     ∙ sym (ap (λ b. cond b (moved_moves ss task) (moves_of ss task)) at_home)
 
 pub twin_states : (rs ss : List Record) (i : ℕ) → AreTwins rs ss → ((task : ℕ) → has_moved rs task ≡ false)
@@ -177,7 +177,7 @@ pub twin_states : (rs ss : List Record) (i : ℕ) → AreTwins rs ss → ((task 
 twin_states rs ss i twins still at_home (status_order is) =
     let nature : nature_of rs is.task ≡ nature_of ss is.task = twin_nature rs ss is.task twins in
     let moves : all_moves_of rs is.task ≡ all_moves_of ss is.task =
-        twin_moves rs ss is.task twins (still is.task) (at_home is.task) in
+    twin_moves rs ss is.task twins (still is.task) (at_home is.task) in
     status_order (record {
       task = is.task;
       number = is.number;
@@ -185,12 +185,12 @@ twin_states rs ss i twins still at_home (status_order is) =
       made_there = sym (ap (λ l. slice_get l is.number) moves) ∙ is.made_there;
       allowed =
           sym
-              (ap (λ n. is_some (state_of n (take is.number (all_moves_of rs is.task)))) nature
-                  ∙ ap (λ l. is_some (state_of (nature_of ss is.task) (take is.number l))) moves)
-              ∙ is.allowed;
+          (ap (λ n. is_some (state_of n (take is.number (all_moves_of rs is.task)))) nature
+          ∙ ap (λ l. is_some (state_of (nature_of ss is.task) (take is.number l))) moves)
+          ∙ is.allowed;
       not_allowed =
           sym
-              (ap (λ n. state_of n (take (is.number + 1) (all_moves_of rs is.task))) nature
-                  ∙ ap (λ l. state_of (nature_of ss is.task) (take (is.number + 1) l)) moves)
-              ∙ is.not_allowed;
+          (ap (λ n. state_of n (take (is.number + 1) (all_moves_of rs is.task))) nature
+          ∙ ap (λ l. state_of (nature_of ss is.task) (take (is.number + 1) l)) moves)
+          ∙ is.not_allowed;
     })

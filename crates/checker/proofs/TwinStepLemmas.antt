@@ -56,7 +56,7 @@ same_steps_back rs ss same = record { there = same.back; back = same.there }
 later_step : (rs ss : List Record) (a b : ℕ) → AreTwins rs ss → IsLaterThere rs a b → IsProgramStep ss a b
 later_step rs ss a b twins is =
     thread_order is.later (let long = twins_long rs ss twins in let inside = is.within in omega arith)
-        (sym (twin_thread rs ss a twins) ∙ is.same_thread ∙ twin_thread rs ss b twins)
+    (sym (twin_thread rs ss a twins) ∙ is.same_thread ∙ twin_thread rs ss b twins)
 
 pub kept_program : (rs ss : List Record) (a b : ℕ) → KeepsSteps rs ss → IsProgramStep rs a b
     → IsProgramStep ss a b
@@ -64,25 +64,25 @@ kept_program rs ss a b keeps (thread_order later within same) =
     later_step rs ss a b keeps.twins (record { later = later; within = within; same_thread = same })
 kept_program rs ss a b keeps (creation task creates starts) =
     creation task (twin_says created blind_created task rs ss a keeps.twins creates)
-        (keeps.starts b task (a, creates) starts)
+    (keeps.starts b task (a, creates) starts)
 kept_program rs ss a b keeps (resumption is) = later_step rs ss a b keeps.twins (keeps.resumes a b is)
 kept_program rs ss a b keeps (discard task creates discards) =
     discard task (twin_says created blind_created task rs ss a keeps.twins creates)
-        (twin_says discarded blind_discarded task rs ss b keeps.twins discards)
+    (twin_says discarded blind_discarded task rs ss b keeps.twins discards)
 kept_program rs ss a b keeps (fulfilment task creates fulfils) =
     fulfilment task (twin_says created blind_created task rs ss a keeps.twins creates)
-        (twin_says fulfilled blind_fulfilled task rs ss b keeps.twins fulfils)
+    (twin_says fulfilled blind_fulfilled task rs ss b keeps.twins fulfils)
 
 kept_step : (rs ss : List Record) (a b : ℕ) → KeepsSteps rs ss → IsStep rs a b → IsStep ss a b
 kept_step rs ss a b keeps (program is) = program (kept_program rs ss a b keeps is)
 kept_step rs ss a b keeps (ledger makes less) =
     ledger (twin_finishing rs ss a keeps.twins makes)
-        (omega (arith, twin_seen rs ss a keeps.twins, twin_seen rs ss b keeps.twins, less))
+    (omega (arith, twin_seen rs ss a keeps.twins, twin_seen rs ss b keeps.twins, less))
 
 pub kept_before : (rs ss : List Record) (a b : ℕ) → KeepsSteps rs ss → HappensBefore rs a b
     → HappensBefore ss a b
 kept_before rs ss a b keeps (step is) = step (kept_step rs ss a b keeps is)
-kept_before rs ss a b keeps (chain { b = mid } one other) =
+kept_before rs ss a b keeps (chain {b = mid} one other) =
     chain (kept_before rs ss a mid keeps one) (kept_before rs ss mid b keeps other)
 
 -- ---- orders
@@ -117,12 +117,12 @@ kept_greedy_after rs ss may can standing order same allows greedy k below =
     record {
       ready =
           kept_ready rs ss may can (standing ++ take k order) (slice_index order k) same (λ j. (allows j).0)
-              here.ready;
+          here.ready;
       first =
           λ j before ready.
-              here.first j before
-                  (kept_ready ss rs can may (standing ++ take k order) j (same_steps_back rs ss same)
-                      (λ j. (allows j).1) ready);
+          here.first j before
+          (kept_ready ss rs can may (standing ++ take k order) j (same_steps_back rs ss same)
+          (λ j. (allows j).1) ready);
     }
 
 pub kept_greedy : (rs ss : List Record) (order : List ℕ) → HaveSameSteps rs ss → IsGreedy rs order
@@ -142,14 +142,14 @@ kept_earliest rs ss i order same is = record {
   parts = is.parts;
   just_before =
       λ a.
-          let both = both_before rs ss a i same in
-          let has = is.just_before a in (λ c. both.0 (has.0 c), λ h. has.1 (both.1 h));
+      let both = both_before rs ss a i same in
+      let has = is.just_before a in (λ c. both.0 (has.0 c), λ h. has.1 (both.1 h));
   before_greedy =
       kept_greedy_after rs ss (λ a. HappensBefore rs a i) (λ a. HappensBefore ss a i) [] is.before same
-          (λ a. both_before rs ss a i same) is.before_greedy;
+      (λ a. both_before rs ss a i same) is.before_greedy;
   after_greedy =
       kept_greedy_after rs ss (λ _. ⊤) (λ _. ⊤) (is.before ++ i ∷ []) is.after same (λ k. (λ x. x, λ x. x))
-          is.after_greedy;
+      is.after_greedy;
 }
 
 kept_grounded : (rs ss : List Record) (order : List ℕ) → HaveSameSteps rs ss → IsGrounded rs order
@@ -165,15 +165,17 @@ kept_no_order rs ss i same (no_order is) = no_order (record {
   within = let long = twins_long rs ss same.there.twins in let inside = is.within in omega arith;
   never =
       λ order grounded has.
-          is.never order (kept_grounded ss rs order (same_steps_back rs ss same) grounded) has;
+      is.never order (kept_grounded ss rs order (same_steps_back rs ss same) grounded) has;
 })
 
 pub kept_behind : (rs ss : List Record) (i : ℕ) → HaveSameSteps rs ss → HasCause rs i LengthBack
     → HasCause ss i LengthBack
 kept_behind rs ss i same (length_back (k, before, less)) =
-    length_back
-        (k, kept_program rs ss k i same.there before,
-            omega (arith, twin_seen rs ss i same.there.twins, twin_known rs ss k same.there.twins, less))
+    length_back (
+      k,
+      kept_program rs ss k i same.there before,
+      omega (arith, twin_seen rs ss i same.there.twins, twin_known rs ss k same.there.twins, less),
+    )
 
 -- ---- what is complete
 
@@ -195,9 +197,10 @@ kept_finished : (rs ss : List Record) (counts tells : ℕ → Type 0) (task : �
 kept_finished rs ss counts tells task twins passes (inl whole) =
     inl (kept_part rs ss counts tells task Whole twins passes whole)
 kept_finished rs ss counts tells task twins passes (inr (body, event)) =
-    inr
-        (kept_part rs ss counts tells task Body twins passes body,
-            kept_part rs ss counts tells task Event twins passes event)
+    inr (
+      kept_part rs ss counts tells task Body twins passes body,
+      kept_part rs ss counts tells task Event twins passes event,
+    )
 
 pub kept_complete_in : (rs ss : List Record) (order : List ℕ) (task i : ℕ) → KeepsSteps rs ss
     → IsCompleteIn rs order task i → IsCompleteIn ss order task i

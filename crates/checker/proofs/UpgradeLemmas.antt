@@ -49,24 +49,24 @@ untold_upgraded rs ss i b = by (started b)
   where
     by : (o : Option ℕ)
         → untold
-            (option_map_or
-                (λ task. telling (record { prior = turn_at ss i; next = turn_counted rs i task }) b) o b)
-            ≡ untold b
+        (option_map_or
+        (λ task. telling (record { prior = turn_at ss i; next = turn_counted rs i task }) b) o b)
+        ≡ untold b
     by None = refl
     by (Some task) = untold_telling (record { prior = turn_at ss i; next = turn_counted rs i task }) b
 
 pub upgrade_twins : (rs ss : List Record) → IsUpgrade rs ss → AreTwins rs ss
 upgrade_twins rs ss upgrade =
     same_lists (map blank rs) (map blank ss)
-        (λ i. slice_get-map blank rs i ∙ there i ∙ sym (slice_get-map blank ss i))
+    (λ i. slice_get-map blank rs i ∙ there i ∙ sym (slice_get-map blank ss i))
   where
     there : (i : ℕ) → option_map blank (slice_get rs i) ≡ option_map blank (slice_get ss i)
     there i = elim (slice_get_cases rs i).1 [
       | inl (r, within, stands, read) ↦
           ap (option_map blank) stands
           ∙ sym
-              (ap (λ b. Some (record { thread = r.thread; seq = r.seq; seen = r.seen; body = b }))
-                  (untold_upgraded rs ss i r.body))
+          (ap (λ b. Some (record { thread = r.thread; seq = r.seq; seen = r.seen; body = b }))
+          (untold_upgraded rs ss i r.body))
           ∙ sym (ap (option_map blank) (upgrade.each i r stands))
       | inr (past, none) ↦
           ap (option_map blank) none ∙ sym (ap (option_map blank) (beyond (slice_get_cases ss i).1 past))
@@ -94,8 +94,8 @@ starts_here rs task k starts = elim (slice_get_cases rs k).1 [
   | inl (r, within, stands, read) ↦
       let is : is_task task (started (get_or rs k r).body) ≡ true =
       ap (λ (q : Record). is_task task (started q.body)) read
-          ∙ the_task task (started r.body)
-              (sym (ap (option_and_then (λ (q : Record). started q.body)) stands) ∙ starts) in
+      ∙ the_task task (started r.body)
+      (sym (ap (option_and_then (λ (q : Record). started q.body)) stands) ∙ starts) in
       let more = count_by_more_yes (λ (q : Record). is_task task (started q.body)) rs k r within is in
       omega (arith, more)
   | inr (past, none) ↦
@@ -108,10 +108,10 @@ starts_elsewhere : (rs : List Record) (task k : ℕ) → at started rs k ≢ Som
 starts_elsewhere rs task k apart = elim (slice_get_cases rs k).1 [
   | inl (r, within, stands, read) ↦
       let more =
-          count_by_more_no (λ (q : Record). is_task task (started q.body)) rs k r within
-              (ap (λ (q : Record). is_task task (started q.body)) read
-                  ∙ not_it (started r.body)
-                      (λ is. apart (ap (option_and_then (λ (q : Record). started q.body)) stands ∙ is))) in
+      count_by_more_no (λ (q : Record). is_task task (started q.body)) rs k r within
+      (ap (λ (q : Record). is_task task (started q.body)) read
+      ∙ not_it (started r.body)
+      (λ is. apart (ap (option_and_then (λ (q : Record). started q.body)) stands ∙ is))) in
       omega (arith, more)
   | inr (past, none) ↦
       ap (λ l. turn_in l) (take_past rs (k + 1) (omega (arith, past)) ∙ sym (take_past rs k past))
@@ -120,7 +120,7 @@ starts_elsewhere rs task k apart = elim (slice_get_cases rs k).1 [
     turn_in : List Record → ℕ
     turn_in l =
         count_by (λ (r : Record). is_task task (started r.body)) l
-            + (if is_made_so (λ b. is_task task (begun_root b)) rs then 1 else 0)
+        + (if is_made_so (λ b. is_task task (begun_root b)) rs then 1 else 0)
 
     not_it : (o : Option ℕ) → (o ≢ Some task) → is_task task o ≡ false
     not_it None other = refl
@@ -145,7 +145,7 @@ counted_rises rs task k zero =
 counted_rises rs task k (suc n) =
     let next : k + suc n ≡ k + n + 1 = omega arith in
     subst (λ m. turn_counted rs k task ≤ turn_counted rs m task) (sym next) (
-        elim (starts_or_not rs task (k + n)) [
+    elim (starts_or_not rs task (k + n)) [
       | inl starts ↦ omega (arith, counted_rises rs task k n, starts_here rs task (k + n) starts)
       | inr apart ↦ omega (arith, counted_rises rs task k n, starts_elsewhere rs task (k + n) apart)
     ])
@@ -167,8 +167,8 @@ root_made : (rs : List Record) (task : ℕ) → IsRoot rs task
 root_made rs task (i, begins) = elim (slice_get_cases rs i).1 [
   | inl (r, within, stands, read) ↦
       found_some (λ (q : Record). is_task task (begun_root q.body)) rs r (get_contains rs r i stands)
-          (the_task task (begun_root r.body)
-              (sym (ap (option_and_then (λ (q : Record). begun_root q.body)) stands) ∙ begins))
+      (the_task task (begun_root r.body)
+      (sym (ap (option_and_then (λ (q : Record). begun_root q.body)) stands) ∙ begins))
   | inr (past, none) ↦
       absurd (none-some task (sym (ap (option_and_then (λ (q : Record). begun_root q.body)) none) ∙ begins))
 ]
@@ -182,10 +182,11 @@ made_root rs task = by (find (λ (q : Record). is_task task (begun_root q.body))
     by None e is = absurd (false≢true is)
     by (Some r) e is =
         let found = found_passes (λ (q : Record). is_task task (begun_root q.body)) rs r e in
-        let place = contains_get rs r found.1 in
-        (place.0,
-            ap (option_and_then (λ (q : Record). begun_root q.body)) place.1
-                ∙ is_the_task task (begun_root r.body) found.0)
+        let place = contains_get rs r found.1 in (
+          place.0,
+          ap (option_and_then (λ (q : Record). begun_root q.body)) place.1
+              ∙ is_the_task task (begun_root r.body) found.0,
+        )
 
 pub root_counted : (rs : List Record) (task i : ℕ) → IsRoot rs task → 0 < turn_counted rs i task
 root_counted rs task i root =
@@ -212,26 +213,26 @@ first_counted rs task i not_root none = from i none
     from (suc n) never =
         let next : suc n ≡ n + 1 = omega arith in
         subst (λ m. turn_counted rs m task ≡ 0) (sym next)
-            (starts_elsewhere rs task n (never n (omega arith))
-                ∙ from n (λ k below. never k (omega (arith, below))))
+        (starts_elsewhere rs task n (never n (omega arith))
+        ∙ from n (λ k below. never k (omega (arith, below))))
 
 -- the turn before one that is counted began at an earlier record, or is the first turn of a root
 counted_before : (rs : List Record) (task turn i : ℕ) → turn_counted rs i task ≡ turn + 1
     → ((k : ℕ) × (k < i) × (at started rs k ≡ Some task) × (turn_counted rs k task ≡ turn))
-        ⊎ ((turn ≡ 0) × IsRoot rs task)
+    ⊎ ((turn ≡ 0) × IsRoot rs task)
 counted_before rs task turn zero is =
     by (is_made_so (λ b. is_task task (begun_root b)) rs) refl
-        (let none : starts_in rs 0 task ≡ 0 = refl in omega (arith, none, is))
+    (let none : starts_in rs 0 task ≡ 0 = refl in omega (arith, none, is))
   where
-    by : (b : Bool) → is_made_so (λ b. is_task task (begun_root b)) rs ≡ b → cond { A = ℕ } b 1 0 ≡ turn + 1
+    by : (b : Bool) → is_made_so (λ b. is_task task (begun_root b)) rs ≡ b → cond {A = ℕ} b 1 0 ≡ turn + 1
         → ((k : ℕ) × (k < 0) × (at started rs k ≡ Some task) × (turn_counted rs k task ≡ turn))
-            ⊎ ((turn ≡ 0) × IsRoot rs task)
+        ⊎ ((turn ≡ 0) × IsRoot rs task)
     by true e is = inr (omega (arith, is), made_root rs task e)
     by false e is = absurd (omega (arith, is))
 counted_before rs task turn (suc i) is =
     let next : suc i ≡ i + 1 = omega arith in
     let here : turn_counted rs (i + 1) task ≡ turn + 1 =
-        subst (λ m. turn_counted rs m task ≡ turn + 1) next is in
+    subst (λ m. turn_counted rs m task ≡ turn + 1) next is in
     elim (starts_or_not rs task i) [
       | inl starts ↦ inl (i, omega arith, starts, omega (arith, starts_here rs task i starts, here))
       | inr apart ↦ elim (counted_before rs task turn i (sym (starts_elsewhere rs task i apart) ∙ here)) [
@@ -261,27 +262,27 @@ starts_telling rs ss i task upgrade starts = elim (slice_get_cases rs i).1 [
 
     tells : (b : Body) → started b ≡ Some task
         → (told_turns (telling rule b) ≡ Some rule)
-            × (begun_turn (telling rule b) ≡ Some (task, turn_counted rs i task))
+        × (begun_turn (telling rule b) ≡ Some (task, turn_counted rs i task))
     tells (TaskSchedule status turns prior next share) is =
-        (refl, ap (option_map { U = ℕ × ℕ } (λ t. (t, turn_counted rs i task))) is)
+        (refl, ap (option_map {U = ℕ × ℕ} (λ t. (t, turn_counted rs i task))) is)
     tells _ is = absurd (none-some task is)
 
     there : (r : Record) → slice_get rs i ≡ Some r → started r.body ≡ Some task → TellsAt rs ss i task
     there r stands is =
         let body : body_upgraded rs ss i r.body ≡ telling rule r.body =
-            ap
-                (λ o.
-                    option_map_or
-                        (λ t. telling (record { prior = turn_at ss i; next = turn_counted rs i t }) r.body) o
-                        r.body) is in
+        ap
+        (λ o.
+        option_map_or
+        (λ t. telling (record { prior = turn_at ss i; next = turn_counted rs i t }) r.body) o
+        r.body) is in
         let said = tells r.body is in
         record {
           told =
               ap (option_and_then (λ (q : Record). told_turns q.body)) (upgrade.each i r stands)
-                  ∙ ap told_turns body ∙ said.0;
+              ∙ ap told_turns body ∙ said.0;
           begun =
               ap (option_and_then (λ (q : Record). begun_turn q.body)) (upgrade.each i r stands)
-                  ∙ ap begun_turn body ∙ said.1;
+              ∙ ap begun_turn body ∙ said.1;
         }
 
 -- elsewhere it tells none
@@ -290,15 +291,15 @@ pub silent_telling : (rs ss : List Record) (i : ℕ) → TellsNoTurns rs → IsU
 silent_telling rs ss i untold upgrade none = elim (slice_get_cases rs i).1 [
   | inl (r, within, stands, read) ↦
       let quiet : started r.body ≡ None =
-          sym (ap (option_and_then (λ (q : Record). started q.body)) stands) ∙ none in
+      sym (ap (option_and_then (λ (q : Record). started q.body)) stands) ∙ none in
       ap (option_and_then (λ (q : Record). told_turns q.body)) (upgrade.each i r stands)
       ∙ ap
-          (λ o.
-              told_turns
-                  (option_map_or
-                      (λ t. telling (record { prior = turn_at ss i; next = turn_counted rs i t }) r.body) o
-                      r.body))
-          quiet
+      (λ o.
+      told_turns
+      (option_map_or
+      (λ t. telling (record { prior = turn_at ss i; next = turn_counted rs i t }) r.body) o
+      r.body))
+      quiet
       ∙ sym (ap (option_and_then (λ (q : Record). told_turns q.body)) stands) ∙ untold i
   | inr (past, out) ↦ elim (slice_get_cases ss i).1 [
     | inl (s, within, stands, read) ↦ absurd (omega (arith, upgrade.all, within, past))
@@ -312,12 +313,13 @@ pub begins_counted : (rs ss : List Record) (i task turn : ℕ) → IsUpgrade rs 
 begins_counted rs ss i task turn upgrade begins =
     let twins = upgrade_twins rs ss upgrade in
     let starts : at started rs i ≡ Some task =
-        twin_says started blind_started task ss rs i (twins_back rs ss twins)
-            (begun_started ss i task turn begins) in
-    (starts,
-        ap (λ (p : ℕ × ℕ). p.1)
-            (same_Some (task, turn) (task, turn_counted rs i task)
-                (sym begins ∙ (starts_telling rs ss i task upgrade starts).begun)))
+    twin_says started blind_started task ss rs i (twins_back rs ss twins)
+    (begun_started ss i task turn begins) in (
+      starts,
+      ap (λ (p : ℕ × ℕ). p.1)
+          (same_Some (task, turn) (task, turn_counted rs i task)
+          (sym begins ∙ (starts_telling rs ss i task upgrade starts).begun)),
+    )
 
 -- the turn of its prior task is told rightly
 told_prior : (rs ss : List Record) (i : ℕ) (told : Turns) → TellsNoTurns rs → IsUpgrade rs ss
@@ -328,8 +330,8 @@ told_prior rs ss i told untold upgrade tells = by (at started rs i) refl
     by None e = absurd (none-some told (sym (silent_telling rs ss i untold upgrade e) ∙ tells))
     by (Some task) e =
         ap (λ (t : Turns). t.prior)
-            (same_Some told (record { prior = turn_at ss i; next = turn_counted rs i task })
-                (sym tells ∙ (starts_telling rs ss i task upgrade e).told))
+        (same_Some told (record { prior = turn_at ss i; next = turn_counted rs i task })
+        (sym tells ∙ (starts_telling rs ss i task upgrade e).told))
 
 -- ---- no cause of turns
 
@@ -347,32 +349,33 @@ upgrade_gapless rs ss i untold upgrade (falling task turn k later (tells, begins
 upgrade_gapless rs ss i untold upgrade (of_root task (tells, begins) root) =
     let here = begins_counted rs ss i task 0 upgrade begins in
     let twins = twins_back rs ss (upgrade_twins rs ss upgrade) in
-    omega
-        (arith,
-            root_counted rs task i
-                (root.0, twin_says begun_root blind_begun_root task ss rs root.0 twins root.1),
-            here.1)
+    omega (
+      arith,
+      root_counted rs task i
+          (root.0, twin_says begun_root blind_begun_root task ss rs root.0 twins root.1),
+      here.1,
+    )
 upgrade_gapless rs ss i untold upgrade (missing task turn (tells, begins) none) =
     let here = begins_counted rs ss i task (turn + 1) upgrade begins in
     elim (counted_before rs task turn i (sym here.1)) [
       | inl (k, below, starts, counted) ↦
           none k
-              (runs ((starts_telling rs ss k task upgrade starts).begun ∙ ap (λ t. Some (task, t)) counted))
+          (runs ((starts_telling rs ss k task upgrade starts).begun ∙ ap (λ t. Some (task, t)) counted))
       | inr (first, (b, begins_root)) ↦
           none b
-              (subst (BeginsTurn ss b task) (sym first)
-                  (is_root
-                      (twin_says begun_root blind_begun_root task rs ss b (upgrade_twins rs ss upgrade)
-                          begins_root)))
+          (subst (BeginsTurn ss b task) (sym first)
+          (is_root
+          (twin_says begun_root blind_begun_root task rs ss b (upgrade_twins rs ss upgrade)
+          begins_root)))
     ]
 
 pub stays_unmoved : (rs ss : List Record) (i : ℕ) → AreTwins rs ss → MovesNowhere rs → HasCause ss i Moved → ⊥
 stays_unmoved rs ss i twins still (moved (task, k, explicit, starts, below, before, elsewhere, untold)) =
-    still i ( record {
-  task = task;
-  next = twin_says started blind_started task ss rs i (twins_back rs ss twins) starts;
-  earlier = k;
-  before = below;
-  next_before = twin_says started blind_started task ss rs k (twins_back rs ss twins) before;
-  elsewhere = λ same. elsewhere (sym (twin_thread rs ss k twins) ∙ same ∙ twin_thread rs ss i twins);
-})
+    still i (record {
+      task = task;
+      next = twin_says started blind_started task ss rs i (twins_back rs ss twins) starts;
+      earlier = k;
+      before = below;
+      next_before = twin_says started blind_started task ss rs k (twins_back rs ss twins) before;
+      elsewhere = λ same. elsewhere (sym (twin_thread rs ss k twins) ∙ same ∙ twin_thread rs ss i twins);
+    })

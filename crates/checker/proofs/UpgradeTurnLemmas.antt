@@ -63,7 +63,7 @@ turn_reached rs ss task thread n k upgrade below starts there =
     P : ℕ → List Record → Type 0
     P m l =
         (j : ℕ) → j < m → at started rs j ≡ Some task → thread_at ss j ≡ Some thread
-            → turn_counted rs j task ≤ turn_in task l
+        → turn_counted rs j task ≤ turn_in task l
 
     other : (m : ℕ) → thread_at ss m ≢ Some thread → P m (part_of ss thread m)
         → P (m + 1) (part_of ss thread m)
@@ -89,16 +89,16 @@ turn_reached rs ss task thread n k upgrade below starts there =
         kept none = elim (cases_eq j m) [
           | inl here ↦
               absurd
-                  (none (turn_counted rs m task)
-                      (sym (ap (option_and_then (λ (q : Record). begun_turn q.body)) stands)
-                          ∙ (starts_telling rs ss m task upgrade (ap (at started rs) (sym here) ∙ is)).begun))
+              (none (turn_counted rs m task)
+              (sym (ap (option_and_then (λ (q : Record). begun_turn q.body)) stands)
+              ∙ (starts_telling rs ss m task upgrade (ap (at started rs) (sym here) ∙ is)).begun))
           | inr less ↦ before j (omega (arith, low, less)) is on
         ]
 
         by : (o : Option (ℕ × ℕ)) → begun_turn r.body ≡ o
             → Q
-                (option_map_or (λ (b : ℕ × ℕ). cond (b.0 == task) b.1 (turn_in task (part_of ss thread m))) o
-                    (turn_in task (part_of ss thread m)))
+            (option_map_or (λ (b : ℕ × ℕ). cond (b.0 == task) b.1 (turn_in task (part_of ss thread m))) o
+            (turn_in task (part_of ss thread m)))
         by None e = kept (λ turn is. none-some (task, turn) (sym e ∙ is))
         by (Some b) e = elim (cases_eq b.0 task) [
           | inl own' ↦
@@ -106,14 +106,14 @@ turn_reached rs ss task thread n k upgrade below starts there =
               let mine : at started rs m ≡ Some task = began.0 ∙ ap Some own' in
               let turn : b.1 ≡ turn_counted rs m task = began.1 ∙ ap (turn_counted rs m) own' in
               subst Q (sym (ap (λ c. cond c b.1 (turn_in task (part_of ss thread m))) (eq-eqb b.0 task own')))
-                  ( elim (cases_eq j m) [
+              (elim (cases_eq j m) [
                 | inl here ↦ omega (arith, turn, ap (λ x. turn_counted rs x task) here)
                 | inr less ↦ omega (arith, turn, counted_later rs task j m is (omega (arith, low, less)))
               ])
           | inr apart ↦
               subst Q
-                  (sym (ap (λ c. cond c b.1 (turn_in task (part_of ss thread m))) (ne_eqb b.0 task apart)))
-                  (kept (λ turn is. apart (ap (λ (p : ℕ × ℕ). p.0) (same_Some b (task, turn) (sym e ∙ is)))))
+              (sym (ap (λ c. cond c b.1 (turn_in task (part_of ss thread m))) (ne_eqb b.0 task apart)))
+              (kept (λ turn is. apart (ap (λ (p : ℕ × ℕ). p.0) (same_Some b (task, turn) (sym e ∙ is)))))
         ]
 
 -- at a record of a task no later turn began before
@@ -128,11 +128,11 @@ turn_there rs ss task i k known says below starts = by (slice_get ss i) refl say
     by (Some r) e is =
         let twins = still_twins rs ss known in
         let home : thread_at rs i ≡ thread_at rs k =
-            runs_home rs task i k known.stays
-                (twin_says running blind_running task ss rs i (twins_back rs ss twins) says) starts in
+        runs_home rs task i k known.stays
+        (twin_says running blind_running task ss rs i (twins_back rs ss twins) says) starts in
         let there : thread_at ss k ≡ Some r.thread =
-            sym (twin_thread rs ss k twins) ∙ sym home ∙ twin_thread rs ss i twins
-                ∙ ap (option_map (λ (q : Record). q.thread)) e in
+        sym (twin_thread rs ss k twins) ∙ sym home ∙ twin_thread rs ss i twins
+        ∙ ap (option_map (λ (q : Record). q.thread)) e in
         let reached = turn_reached rs ss task r.thread i k known.upgrade below starts there in
         omega (arith, turn_here ss i task r e is, reached)
 
@@ -146,7 +146,7 @@ begins_low rs ss task i turn k later known below begins (is_root first) = omega 
 begins_low rs ss task i turn k later known below (is_root begins) (runs before) =
     let twins = twins_back rs ss (still_twins rs ss known) in
     let root : at begun_root rs i ≡ Some task =
-        twin_says begun_root blind_begun_root task ss rs i twins begins in
+    twin_says begun_root blind_begun_root task ss rs i twins begins in
     let there = begins_counted rs ss k task later known.upgrade before in
     let from = root_from rs k task known.stays.current (i, root) there.0 in
     let (b, low, began, on) = from.is_known in
@@ -180,12 +180,12 @@ begun_or_not rs task = by (find p (places rs)) refl
     by : (o : Option ℕ) → find p (places rs) ≡ o → IsRoot rs task ⊎ (IsRoot rs task → ⊥)
     by None e =
         inr
-            (λ (i, begins).
-                false≢true
-                    (ap is_some (sym e)
-                        ∙ found_some p (places rs) i
-                            (contains_place rs i (at_within begun_root rs i task begins))
-                            (the_task task (at begun_root rs i) begins)))
+        (λ (i, begins).
+        false≢true
+        (ap is_some (sym e)
+        ∙ found_some p (places rs) i
+        (contains_place rs i (at_within begun_root rs i task begins))
+        (the_task task (at begun_root rs i) begins)))
     by (Some i) e = inl (i, is_the_task task (at begun_root rs i) (found_passes p (places rs) i e).0)
 
 at_home : (rs : List Record) (task i : ℕ) → StaysAtHome rs → at started rs i ≡ Some task
@@ -195,8 +195,8 @@ at_home rs task i stays starts = elim (begun_or_not rs task) [
       let from = root_from rs i task stays.current root starts in
       let (b, low, began, there) = from.is_known in
       on_thread rs (home_of rs task) i from.thread from.thread
-          (root_home rs task b stays.once began from.thread there) from.on
-          ∙ eq-eqb from.thread from.thread refl
+      (root_home rs task b stays.once began from.thread there) from.on
+      ∙ eq-eqb from.thread from.thread refl
   | inr not_root ↦ first (find p (places rs)) refl not_root (thread_at rs i) refl
 ]
   where
@@ -217,16 +217,16 @@ at_home rs task i stays starts = elim (begun_or_not rs task) [
         → thread_at rs i ≡ t → is_on rs (home_of rs task) i ≡ true
     first None e not_root t on =
         absurd
-            (false≢true
-                (ap is_some (sym e)
-                    ∙ found_some p (places rs) i (contains_place rs i (at_within started rs i task starts))
-                        (the_task task (at started rs i) starts)))
+        (false≢true
+        (ap is_some (sym e)
+        ∙ found_some p (places rs) i (contains_place rs i (at_within started rs i task starts))
+        (the_task task (at started rs i) starts)))
     first (Some k) e not_root t on =
         let same : thread_at rs k ≡ thread_at rs i =
-            one_home rs task k i stays.still
-                (is_the_task task (at started rs k) (found_passes p (places rs) k e).0) starts in
+        one_home rs task k i stays.still
+        (is_the_task task (at started rs k) (found_passes p (places rs) k e).0) starts in
         let home : home_of rs task ≡ thread_at rs i =
-            explicit_home rs task not_root ∙ ap (option_and_then (thread_at rs)) e ∙ same in
+        explicit_home rs task not_root ∙ ap (option_and_then (thread_at rs)) e ∙ same in
         there t (home ∙ on) on
 
 pub none_has_moved : (rs : List Record) (task : ℕ) → StaysAtHome rs → has_moved rs task ≡ false
@@ -240,12 +240,12 @@ there_starts rs ss i task known explicit start = record {
   starts =
       (starts_telling rs ss i task known.upgrade (begun_started rs i task 0 start.starts)).begun
       ∙ ap (λ t. Some (task, t))
-          (first_counted rs task i (explicit_not_root rs task known.stays.once explicit)
-              (start_first rs i task known.untold start));
+      (first_counted rs task i (explicit_not_root rs task known.stays.once explicit)
+      (start_first rs i task known.untold start));
   first =
       λ k below before.
-          start_first rs i task known.untold start k below
-              (begins_counted rs ss k task 0 known.upgrade before).0;
+      start_first rs i task known.untold start k below
+      (begins_counted rs ss k task 0 known.upgrade before).0;
 }
 
 back_starts : (rs ss : List Record) (i task : ℕ) → IsStillUpgrade rs ss → IsStart ss i task
@@ -253,7 +253,7 @@ back_starts : (rs ss : List Record) (i task : ℕ) → IsStillUpgrade rs ss → 
 back_starts rs ss i task known start =
     let here = begins_counted rs ss i task 0 known.upgrade start.starts in
     is_start_untold rs i task known.untold here.0
-        (λ k below before. omega (arith, counted_later rs task k i before below, here.1))
+    (λ k below before. omega (arith, counted_later rs task k i before below, here.1))
 
 -- a body that suspends a task is of that task, and another runs next
 suspends_on : (b : Body) (task : ℕ) → HasItsNext b → suspended b ≡ Some task
@@ -268,14 +268,14 @@ suspends_on _ task fits is = absurd (none-some task is)
 suspended_parts : (o : Option Record) (task turn : ℕ)
     → option_and_then (λ (r : Record). suspended_turn r.body) o ≡ Some (task, turn)
     → (option_and_then (λ (r : Record). suspended r.body) o ≡ Some task)
-        × (turn
-              ≡ option_map_or (λ (t : Turns). t.prior) (option_and_then (λ (r : Record). told_turns r.body) o)
-                  0)
+    × (turn
+    ≡ option_map_or (λ (t : Turns). t.prior) (option_and_then (λ (r : Record). told_turns r.body) o)
+    0)
 suspended_parts None task turn is = absurd (none-some (task, turn) is)
 suspended_parts (Some r) task turn is = by (suspended r.body) refl is
   where
     by : (s : Option ℕ) → suspended r.body ≡ s
-        → option_map { U = ℕ × ℕ } (λ t. (t, prior_turn r.body)) s ≡ Some (task, turn)
+        → option_map {U = ℕ × ℕ} (λ t. (t, prior_turn r.body)) s ≡ Some (task, turn)
         → (suspended r.body ≡ Some task) × (turn ≡ prior_turn r.body)
     by None e same = absurd (none-some (task, turn) same)
     by (Some t) e same =
@@ -304,15 +304,15 @@ suspension rs ss a task turn known suspends = by (slice_get rs a) refl says
     by None e is = absurd (none-some task is)
     by (Some r) e is =
         let fits : IsSound r.body =
-            all_get (λ (q : Record). IsSound q.body) rs a r known.trace.is_trace.sound e in
+        all_get (λ (q : Record). IsSound q.body) rs a r known.trace.is_trace.sound e in
         let (own, (next, starts)) = suspends_on r.body task fits.next is in
         record {
           own = ap (option_and_then (λ (q : Record). running q.body)) e ∙ own;
           ends =
               parts.1
-                  ∙ ap (λ o. option_map_or (λ (t : Turns). t.prior) o 0)
-                      (starts_telling rs ss a next known.upgrade
-                          (ap (option_and_then (λ (q : Record). started q.body)) e ∙ starts)).told;
+              ∙ ap (λ o. option_map_or (λ (t : Turns). t.prior) o 0)
+              (starts_telling rs ss a next known.upgrade
+              (ap (option_and_then (λ (q : Record). started q.body)) e ∙ starts)).told;
         }
 
 resumes_later : (rs ss : List Record) (a b : ℕ) → IsStillUpgrade rs ss → IsResumption ss a b
@@ -323,16 +323,18 @@ resumes_later rs ss a b known again = record {
     | inr (inl less) ↦ less
     | inr (inr more) ↦
         absurd
-            (omega
-                (arith,
-                    turn_there rs ss again.task a b known
-                        (twin_says running blind_running again.task rs ss a twins ended.own) more begun.0,
-                    ended.ends, begun.1))
+        (omega (
+          arith,
+          turn_there rs ss again.task a b known
+              (twin_says running blind_running again.task rs ss a twins ended.own) more begun.0,
+          ended.ends,
+          begun.1,
+        ))
   ];
   within = at_within begun_turn ss b (again.task, again.turn + 1) again.resumes;
   same_thread =
       sym (twin_thread rs ss a twins) ∙ runs_home rs again.task a b known.stays ended.own begun.0
-          ∙ twin_thread rs ss b twins;
+      ∙ twin_thread rs ss b twins;
 }
   where
     twins : AreTwins rs ss

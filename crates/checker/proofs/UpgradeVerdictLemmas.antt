@@ -61,7 +61,7 @@ same_cause rs ss i Moved same has = absurd (stays_unmoved rs rs i refl same.stay
 same_cause rs ss i TurnGap same has = absurd (same.gapless i has)
 same_cause rs ss i StatusOrder same has =
     twin_states rs ss i same.steps.there.twins (λ task. none_has_moved rs task same.stays)
-        (λ task. none_has_moved ss task same.stay) has
+    (λ task. none_has_moved ss task same.stay) has
 same_cause rs ss i LengthBack same has = kept_behind rs ss i same.steps has
 same_cause rs ss i NoOrder same has = kept_no_order rs ss i same.steps has
 same_cause rs ss i SeqGap same has = twin_cause rs ss i SeqGap tt same.steps.there.twins has
@@ -95,24 +95,27 @@ same_runs_alike rs ss same =
       covers = λ i task. renamed_covers (twin_renaming rs ss twins) i task;
       depends = λ task predecessor. renamed_predecessor (twin_renaming rs ss twins) task predecessor;
       creates =
-          λ i task.
-              (twin_says created blind_created task rs ss i twins,
-                  twin_says created blind_created task ss rs i back);
+          λ i task. (
+            twin_says created blind_created task rs ss i twins,
+            twin_says created blind_created task ss rs i back,
+          );
       starts = λ i task. (starts_same rs ss i task same.steps, starts_same ss rs i task other);
       completes =
-          λ i task.
-              (twin_says wait_completed blind_wait_completed task rs ss i twins,
-                  twin_says wait_completed blind_wait_completed task ss rs i back);
+          λ i task. (
+            twin_says wait_completed blind_wait_completed task rs ss i twins,
+            twin_says wait_completed blind_wait_completed task ss rs i back,
+          );
       ordered = λ order. (kept_order rs ss order same.steps, kept_order ss rs order other);
       greedy = λ order. (kept_greedy rs ss order same.steps, kept_greedy ss rs order other);
       earliest = λ i order. (kept_earliest rs ss i order same.steps, kept_earliest ss rs i order other);
       complete_at =
           λ task i.
-              (kept_complete_at rs ss task i same.steps.there, kept_complete_at ss rs task i same.steps.back);
+          (kept_complete_at rs ss task i same.steps.there, kept_complete_at ss rs task i same.steps.back);
       complete_in =
-          λ order task i.
-              (kept_complete_in rs ss order task i same.steps.there,
-                  kept_complete_in ss rs order task i same.steps.back);
+          λ order task i. (
+            kept_complete_in rs ss order task i same.steps.there,
+            kept_complete_in ss rs order task i same.steps.back,
+          );
     }
 
 -- ---- an upgrade
@@ -145,7 +148,7 @@ low_least rs ss i cause twins low is =
       first = λ k below shown. is.first k below (low_shown ss rs k cause back low shown);
       least =
           λ k other less shown.
-              is.least k other less (low_shown ss rs k other back (omega (arith, less, low)) shown);
+          is.least k other less (low_shown ss rs k other back (omega (arith, less, low)) shown);
     }
 
 -- no cause with a number below 5 occurs
@@ -164,10 +167,10 @@ still_twin rs ss twins still i moves = still i (record {
   before = moves.before;
   next_before =
       twin_says started blind_started moves.task ss rs moves.earlier (twins_back rs ss twins)
-          moves.next_before;
+      moves.next_before;
   elsewhere =
       λ same.
-          moves.elsewhere (sym (twin_thread rs ss moves.earlier twins) ∙ same ∙ twin_thread rs ss i twins);
+      moves.elsewhere (sym (twin_thread rs ss moves.earlier twins) ∙ same ∙ twin_thread rs ss i twins);
 })
 
 clear_stays : (rs : List Record) → MovesNowhere rs → IsClearBelow rs → StaysAtHome rs
@@ -191,8 +194,7 @@ clear_runs rs ss known clear =
       untold = untold;
       upgrade = known.upgrade;
       stays = stays;
-    } in
-    (
+    } in (
       still,
       record {
         steps = upgrade_steps rs ss still;
@@ -223,14 +225,14 @@ there_verdict : (rs ss : List Record) (verdict : Verdict) → ReadAlike rs ss �
 there_verdict rs ss verdict alike is =
     alike_verdict (by_file ss) (by_task ss) verdict (alike_back (by_task ss) (by_file ss) alike.new)
     (alike_verdict (by_file rs) (by_file ss) verdict alike.file
-        (alike_verdict (by_task rs) (by_file rs) verdict alike.old is))
+    (alike_verdict (by_task rs) (by_file rs) verdict alike.old is))
 
 back_verdict : (rs ss : List Record) (verdict : Verdict) → ReadAlike rs ss → IsVerdict ss verdict
     → IsVerdict rs verdict
 back_verdict rs ss verdict alike is =
     alike_verdict (by_file rs) (by_task rs) verdict (alike_back (by_task rs) (by_file rs) alike.old)
     (alike_verdict (by_file ss) (by_file rs) verdict (alike_back (by_file rs) (by_file ss) alike.file)
-        (alike_verdict (by_task ss) (by_file ss) verdict alike.new is))
+    (alike_verdict (by_task ss) (by_file ss) verdict alike.new is))
 
 -- a verdict that names none of the first four causes says that none occurs
 none_below : (rs : List Record) → ShowsNone (by_task rs) → IsClearBelow rs
@@ -260,15 +262,15 @@ pub given_verdict : (rs ss : List Record) (verdict : Verdict) → IsUpgradeOfFir
     → IsVerdict rs verdict
 given_verdict rs ss (Yes order) known is =
     back_verdict rs ss (Yes order)
-        (clear_alike rs ss known (clear_back rs ss known (none_below ss is.well_formed))) is
+    (clear_alike rs ss known (clear_back rs ss known (none_below ss is.well_formed))) is
 given_verdict rs ss (No i why) known is =
     back_verdict rs ss (No i why)
-        (clear_alike rs ss known (clear_back rs ss known (none_below ss is.well_formed))) is
+    (clear_alike rs ss known (clear_back rs ss known (none_below ss is.well_formed))) is
 given_verdict rs ss (Malformed i cause) known is = elim (cases_lt (cause_number cause) 5) [
   | inl low ↦ low_least ss rs i cause (twins_back rs ss (first_twins rs ss known)) low is
   | inr high ↦
       back_verdict rs ss (Malformed i cause)
-          (clear_alike rs ss known (clear_back rs ss known (least_below ss i cause high is))) is
+      (clear_alike rs ss known (clear_back rs ss known (least_below ss i cause high is))) is
 ]
 
 -- ---- counter orders
@@ -278,14 +280,14 @@ there_counter : (rs ss : List Record) (i task : ℕ) (found : Option (List ℕ))
 there_counter rs ss i task found alike is =
     alike_counter (by_file ss) (by_task ss) i task found (alike_back (by_task ss) (by_file ss) alike.new)
     (alike_counter (by_file rs) (by_file ss) i task found alike.file
-        (alike_counter (by_task rs) (by_file rs) i task found alike.old is))
+    (alike_counter (by_task rs) (by_file rs) i task found alike.old is))
 
 back_counter : (rs ss : List Record) (i task : ℕ) (found : Option (List ℕ)) → ReadAlike rs ss
     → IsCounterBy (by_task ss) i task found → IsCounterBy (by_task rs) i task found
 back_counter rs ss i task found alike is =
     alike_counter (by_file rs) (by_task rs) i task found (alike_back (by_task rs) (by_file rs) alike.old)
     (alike_counter (by_file ss) (by_file rs) i task found (alike_back (by_file rs) (by_file ss) alike.file)
-        (alike_counter (by_task ss) (by_file ss) i task found alike.new is))
+    (alike_counter (by_task ss) (by_file ss) i task found alike.new is))
 
 pub kept_counter : (rs ss : List Record) (i task : ℕ) (found : Option (List ℕ)) → IsUpgradeOfFirst rs ss
     → IsCounterBy (by_task rs) i task found → IsCounterBy (by_task ss) i task found
@@ -299,7 +301,7 @@ pub given_counter : (rs ss : List Record) (i task : ℕ) (found : Option (List �
     → IsCounterBy (by_task ss) i task found → IsCounterBy (by_task rs) i task found
 given_counter rs ss i task (Some order) known is =
     back_counter rs ss i task (Some order)
-        (clear_alike rs ss known (clear_back rs ss known (none_below ss is.well_formed))) is
+    (clear_alike rs ss known (clear_back rs ss known (none_below ss is.well_formed))) is
 given_counter rs ss i task None known none = λ free missed.
     let alike = clear_alike rs ss known (none_below rs free) in
     back_counter rs ss i task None alike none free missed

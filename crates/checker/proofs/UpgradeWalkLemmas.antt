@@ -52,7 +52,7 @@ from_more : (rs : List Record) (thread n : ℕ) (walk : Walk) → IsWalkFrom rs 
 from_more rs thread n walk from = record {
   roots =
       every_weaker (BeganOn rs thread n) (BeganOn rs thread (n + 1)) (began_more rs thread n) walk.roots
-          from.roots;
+      from.roots;
   current = λ task is. elim (from.current task is) [
     | inl began ↦ inl (began_more rs thread n task began)
     | inr (k, below, starts, there) ↦ inr (k, omega (arith, below), starts, there)
@@ -81,7 +81,7 @@ after_from rs thread n walk _ adds from = from
 walk_from : (rs : List Record) (thread n : ℕ) → IsWalkFrom rs thread n (walk_of thread (take n rs))
 walk_from rs thread n =
     part_keeps rs thread P (record { roots = tt; current = λ task is. absurd (none-some task is) }) own
-        (λ m apart from. from_more rs thread m (walk_of thread (take m rs)) from) n
+    (λ m apart from. from_more rs thread m (walk_of thread (take m rs)) from) n
   where
     P : ℕ → List Record → Type 0
     P m l = IsWalkFrom rs thread m (fold after_record at_start l)
@@ -90,19 +90,22 @@ walk_from rs thread n =
         → P (m + 1) (part_of rs thread m ++ r ∷ [])
     own m r stands same from =
         let there : thread_at rs m ≡ Some thread =
-            ap (option_map (λ (q : Record). q.thread)) stands ∙ ap Some same in
+        ap (option_map (λ (q : Record). q.thread)) stands ∙ ap Some same in
         let adds : AddsTo rs thread m r.body = record {
           begins =
-              λ task is.
-                  (m, omega arith, ap (option_and_then (λ (q : Record). begun_root q.body)) stands ∙ is,
-                      there);
+              λ task is. (
+                m,
+                omega arith,
+                ap (option_and_then (λ (q : Record). begun_root q.body)) stands ∙ is,
+                there,
+              );
           starts =
               λ task is.
-                  (m, omega arith, ap (option_and_then (λ (q : Record). started q.body)) stands ∙ is, there);
+              (m, omega arith, ap (option_and_then (λ (q : Record). started q.body)) stands ∙ is, there);
         } in
         subst (IsWalkFrom rs thread (m + 1)) (sym (fold_push after_record at_start (part_of rs thread m) r))
         (after_from rs thread m (walk_of thread (take m rs)) r.body adds
-            (from_more rs thread m (walk_of thread (take m rs)) from))
+        (from_more rs thread m (walk_of thread (take m rs)) from))
 
 -- ---- where a task runs
 
@@ -132,13 +135,13 @@ root_from rs i task current root says =
       on = ap (option_map (λ (q : Record). q.thread)) stands;
       is_known =
           every_get (BeganOn rs r.thread i) (walk_of r.thread (take i rs)).roots 0 task
-              (walk_from rs r.thread i).roots
+          (walk_from rs r.thread i).roots
           (innermost (slice_get (walk_of r.thread (take i rs)).roots 0)
-              (λ apart. no_misfit rs i current (record {
-                the_record = r;
-                stands = stands;
-                misfits = other_root task is root apart;
-              })));
+          (λ apart. no_misfit rs i current (record {
+            the_record = r;
+            stands = stands;
+            misfits = other_root task is root apart;
+          })));
     }
   where
     innermost : (top : Option ℕ) → (top ≢ Some task → ⊥) → top ≡ Some task
@@ -172,14 +175,14 @@ home_below rs task k i still before starts below = elim (same_or_not (thread_at 
   | inl same ↦ same
   | inr apart ↦
       absurd
-          (still i (record {
-            task = task;
-            next = starts;
-            earlier = k;
-            before = below;
-            next_before = before;
-            elsewhere = apart;
-          }))
+      (still i (record {
+        task = task;
+        next = starts;
+        earlier = k;
+        before = below;
+        next_before = before;
+        elsewhere = apart;
+      }))
 ]
 
 -- it runs next on one thread
@@ -207,6 +210,6 @@ runs_home rs task i k stays runs starts =
           let from = root_from rs k task stays.current (b, begins) starts in
           let (c, low, begins', there') = from.is_known in
           here.on ∙ sym there ∙ ap (thread_at rs) (begun_once rs task b c stays.once begins begins') ∙ there'
-              ∙ sym from.on
+          ∙ sym from.on
       | inr (j, below, before, there) ↦ here.on ∙ sym there ∙ one_home rs task j k stays.still before starts
     ]

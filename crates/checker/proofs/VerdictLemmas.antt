@@ -89,7 +89,7 @@ at_cases rs i task own ends starts = of (slice_get rs i) ends starts
   where
     of : (o : Option Record) → option_and_then (λ (r : Record). region r.body) o ≡ Some own
         → (option_and_then (λ (r : Record). started r.body) o ≡ Some task)
-            ⊎ (option_and_then (λ (r : Record). wait_completed r.body) o ≡ Some task)
+        ⊎ (option_and_then (λ (r : Record). wait_completed r.body) o ≡ Some task)
         → ⊥
     of None ends starts = none-some own ends
     of (Some r) ends starts = region_or_schedule r.body own task ends starts
@@ -101,18 +101,18 @@ region_ends rs i task begin kind (at_once says) = ((task, kind, BeginEnd), says)
 
 pub cover_ends : (rs : List Record) (i task : ℕ) → Covers rs i task
     → (own : ℕ × SyncKind × Endpoint) × (at region rs i ≡ Some own)
-cover_ends rs i task (coverage.waited { parent = parent } { begin = begin } is found) =
+cover_ends rs i task (coverage.waited {parent = parent} {begin = begin} is found) =
     region_ends rs i parent begin Taskwait is
-cover_ends rs i task (coverage.grouped { parent = parent } { begin = begin } is found of) =
+cover_ends rs i task (coverage.grouped {parent = parent} {begin = begin} is found of) =
     region_ends rs i parent begin Taskgroup is
 cover_ends rs i task
-        (coverage.synchronised { own = own } { begin = begin } { kind = kind } number is barrier begins mate
-            other found of) =
+    (coverage.synchronised {own = own} {begin = begin} {kind = kind} number is barrier begins mate
+    other found of) =
     region_ends rs i own begin kind is
 
 pub preceded_starts : (reading : Reading) (i task : ℕ) → IsPrecededBy reading i task
     → (own : ℕ)
-        × ((at started reading.records i ≡ Some own) ⊎ (at wait_completed reading.records i ≡ Some own))
+    × ((at started reading.records i ≡ Some own) ⊎ (at wait_completed reading.records i ≡ Some own))
 preceded_starts reading i task (inl (dependent, explicit, start, before)) =
     (dependent, inl (start_starts reading.records i dependent start))
 preceded_starts reading i task (inr (dependent, completes, before)) = (dependent, inr completes)
@@ -149,8 +149,8 @@ file_linear rs steps = record {
         within = rw (length-range_with_len 0 (length rs)) inside;
         a_stands =
             get_or-range_with_len 0 (length rs) a 0
-                (let less = before_less rs steps a b before in omega arith)
-                ∙ zero-add a;
+            (let less = before_less rs steps a b before in omega arith)
+            ∙ zero-add a;
         b_stands = get_or-range_with_len 0 (length rs) b 0 inside ∙ zero-add b;
       };
 }
@@ -173,20 +173,21 @@ file_greedy rs steps k below =
     taken_below n {i} (q, low, is) =
         let q_low : q < n = let t = length-take n (places rs) in omega (arith, low, t) in
         let q_in : q < length rs =
-            let t = length-take n (places rs) in
-            let l = length-range_with_len 0 (length rs) in omega (arith, low, t, l) in
+        let t = length-take n (places rs) in
+        let l = length-range_with_len 0 (length rs) in omega (arith, low, t, l) in
         let same : q ≡ i =
-            sym (get_or-range_with_len 0 (length rs) q i q_in ∙ zero-add q)
-                ∙ sym (get_or-take n (places rs) q i q_low) ∙ is in
+        sym (get_or-range_with_len 0 (length rs) q i q_in ∙ zero-add q)
+        ∙ sym (get_or-take n (places rs) q i q_low) ∙ is in
         omega arith
 
     below_taken : (n : ℕ) → n < length rs → (i : ℕ) → i < n → Contains (take n (places rs)) i
-    below_taken n inside i low =
-        (i,
-            (let t = length-take n (places rs) in
-             let l = length-range_with_len 0 (length rs) in omega (arith, t, l)),
-            get_or-take n (places rs) i i low ∙ get_or-range_with_len 0 (length rs) i i (omega arith)
-                ∙ zero-add i)
+    below_taken n inside i low = (
+      i,
+      (let t = length-take n (places rs) in
+          let l = length-range_with_len 0 (length rs) in omega (arith, t, l)),
+      get_or-take n (places rs) i i low ∙ get_or-range_with_len 0 (length rs) i i (omega arith)
+          ∙ zero-add i,
+    )
 
 -- then every record has an order
 pub file_orders : (rs : List Record) → ((a b : ℕ) → IsStep rs a b → a < b) → IsFreeOf rs NoOrder

@@ -90,7 +90,7 @@ IsOutcome work may_refuse worker (Err Memory) = ⊤
 abbrev pub found_by : List (Result (Option Finding) WorkerFault) → ℕ → Option Finding
 found_by outcomes worker =
     option_and_then (λ (outcome : Result (Option Finding) WorkerFault). result_unwrap_or outcome None)
-        (slice_get outcomes worker)
+    (slice_get outcomes worker)
 
 -- no worker failed
 abbrev pub HaveAllDecided : List (Result (Option Finding) WorkerFault) → ℕ → Type 0

@@ -33,4 +33,4 @@ abbrev pub AreLast : List Record → List ℕ → List Suspension → Type 0
 AreLast rs tasks lasts =
     (index task : ℕ) (last : Suspension) → slice_get tasks index ≡ Some task
     → slice_get lasts index ≡ Some last → last.place < length rs
-        → at suspended_turn rs last.place ≡ Some (task, last.turn)
+    → at suspended_turn rs last.place ≡ Some (task, last.turn)

@@ -117,7 +117,7 @@ IsFirstOf file own tasks bound n None = (task : ℕ) → IsAmongFirst tasks n ta
 IsFirstOf file own tasks bound n (Some late) =
     IsAmongFirst tasks n late.task × IsBehindAt file own bound late.task late.place
     × ((task place : ℕ) → IsAmongFirst tasks n task → IsBehindAt file own bound task place
-          → late.place ≤ place)
+    → late.place ≤ place)
 
 -- of a late task, if there is one, and another the one that is created first
 pub data IsEarlierOf (other late : Late) : Option Late → Type 0 where

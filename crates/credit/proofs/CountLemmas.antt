@@ -51,7 +51,7 @@ count_below-all (suc bound) l test less below e j small =
     ⊎_elim
     (λ (same : j ≡ bound). ap test same ∙ yes)
     (λ (ne : j ≢ bound).
-        all_below bound test (omega (arith, one, top, count_below-le bound test)) j (omega arith))
+    all_below bound test (omega (arith, one, top, count_below-le bound test)) j (omega arith))
     (cases_eq j bound))
     (λ (off : test bound ≡ false).
     let none : ones (test bound) ≡ 0 = ap ones off in
@@ -86,8 +86,8 @@ count_below-full (suc bound) l test less below all =
     omega (arith, one, rest))
     (λ (past : l ≤ bound).
     let off : test bound ≡ false =
-        ⊎_elim (λ (yes : test bound ≡ true). absurd (let b = below bound yes in omega arith)) (λ off. off)
-            (cases_Bool (test bound)) in
+    ⊎_elim (λ (yes : test bound ≡ true). absurd (let b = below bound yes in omega arith)) (λ off. off)
+    (cases_Bool (test bound)) in
     let none : ones (test bound) ≡ 0 = ap ones off in
     let rest = count_below-full bound l test past below all in
     omega (arith, none, rest))

@@ -59,7 +59,7 @@ one_of_root false h = h
 
 count-halves : (b : Bool) (l s : List Half) → (b ≡ true → length (keep_half s) ≤ length l)
     → ones (b && begins_with l (keep_half s)) + (ones (b && begins_with l (give_half s)) + 0)
-        ≡ ones (b && begins_with l s) + 0
+    ≡ ones (b && begins_with l s) + 0
 count-halves false l s fits = refl
 count-halves true l s fits =
     let longer : length s < length l = omega (arith, length-append s (Keep ∷ []), fits refl) in
@@ -78,7 +78,7 @@ StandsFor-halves c here there task = record {
   keeps_task = λ t h. or_left _ _ h;
   fits =
       λ l root fits.
-          ((λ h. let kept = fits.0 h in omega (arith, length-append c.share (Keep ∷ []), kept)), tt);
+      ((λ h. let kept = fits.0 h in omega (arith, length-append c.share (Keep ∷ []), kept)), tt);
   tiles = λ l root fits. count-halves (c.root == root) l c.share fits.0;
 }
 
@@ -120,8 +120,8 @@ IsExchanged-here c others cs stands = record {
       ⊎_elim (λ here. or_left _ _ (stands.same_root root here)) (λ there. or_right (c.root == root) _ there)
       (or_cases (is_root root others) (is_root root cs) (rw is_root-append at h));
   keeps_task = λ task h. rw is_made-append
-      ( ⊎_elim (λ here. or_left _ _ (stands.keeps_task task here))
-          (λ there. or_right (is_made task others) _ there)
+      (⊎_elim (λ here. or_left _ _ (stands.keeps_task task here))
+      (λ there. or_right (is_made task others) _ there)
       (or_cases (c.task == task) (is_made task cs) h));
   fits = λ l root f.
       let parts = Fits-append l root others cs f in ((stands.fits l root parts.0).0, parts.1);
@@ -182,7 +182,7 @@ IsSound-root cs task new sound = record {
       (λ (here : (task == root) ≡ true).
       let same : task ≡ root = eqb-true task root here in
       let none : is_root task cs ≡ false =
-          false_from_ne_true _ (λ old. both_ways _ new (sound.made task old)) in
+      false_from_ne_true _ (λ old. both_ways _ new (sound.made task old)) in
       let first : ones ((task == root) && true) ≡ 1 = ap (λ b. ones (b && true)) here in
       let rest : tally l root cs ≡ 0 = subst (λ r. tally l r cs ≡ 0) same (tally-none l task cs none) in
       omega (arith, first, rest))
@@ -199,13 +199,13 @@ IsSound-next_credits cs (Root task) sound =
 IsSound-next_credits cs (Create creator child) sound =
     cond_both (is_made child cs) cs _ IsSound (λ old. sound)
     (λ new.
-        IsSound-exchange (has_task_share creator) (shared_halves child)
-            (λ c. StandsFor-halves c Running Running child) cs sound)
+    IsSound-exchange (has_task_share creator) (shared_halves child)
+    (λ c. StandsFor-halves c Running Running child) cs sound)
 IsSound-next_credits cs (Finish task) sound =
     IsSound-exchange (has_task_share task) entered_credit StandsFor-entered_credit cs sound
 IsSound-next_credits cs (Detach task) sound =
     IsSound-exchange (has_task_share task) detached_halves (λ c. StandsFor-halves c Entered Awaited c.task) cs
-        sound
+    sound
 IsSound-next_credits cs (Fulfil task) sound =
     IsSound-exchange (has_event_share task) entered_credit StandsFor-entered_credit cs sound
 

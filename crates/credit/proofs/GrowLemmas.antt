@@ -37,12 +37,12 @@ search-none links (suc steps) i n none = step-missing links steps i n n i First 
 pub IsChildAdded-from : (old new : Tree) (index number j : ℕ) (s : Side) → IsLinked old
     → index < length old.nodes.items → spot_of old.links.items index number ≡ Missing j s
     → IsLinkAdded old.links.items new.links.items index number j s
-        → IsChildAdded old new index number (length old.nodes.items)
+    → IsChildAdded old new index number (length old.nodes.items)
 IsChildAdded-from old new index number j s linked inside missing added = record {
   here = ap (λ (steps : ℕ). found (spot_within new.links.items steps index number number index First)) longer
       ∙ ap found
-          (added-here old.links.items new.links.items index number j s linked.rising added
-              (length old.links.items) number index First inside_links (omega arith) missing)
+      (added-here old.links.items new.links.items index number j s linked.rising added
+      (length old.links.items) number index First inside_links (omega arith) missing)
       ∙ ap (λ k. Some k) linked.aligned;
   others = λ i n.
       ⊎_elim
@@ -55,13 +55,13 @@ IsChildAdded-from old new index number j s linked inside missing added = record 
       (λ (less : i < length old.links.items).
       ap (λ (steps : ℕ). found (spot_within new.links.items steps i n n i First)) longer
       ∙ added-elsewhere old.links.items new.links.items index number j s linked.rising added i n apart
-          (length old.links.items) n i First less (omega arith))
+      (length old.links.items) n i First less (omega arith))
       (λ (far : length old.links.items ≤ i).
       ap found
       (search-none new.links.items (length new.links.items) i n (far-new i far)
       ∙ sym
-          (search-none old.links.items (length old.links.items) i n
-              (ap (λ l. behind l First) (link_at-past old.links.items i far)))))
+      (search-none old.links.items (length old.links.items) i n
+      (ap (λ l. behind l First) (link_at-past old.links.items i far)))))
       (cases_lt i (length old.links.items))))
       (cases_Bool (is_link_of i n (leaf_link index number)));
 }
@@ -76,9 +76,9 @@ IsChildAdded-from old new index number j s linked inside missing added = record 
     far-new i far =
         ⊎_elim
         (λ (is : i ≡ length old.links.items).
-            ap (λ k. behind (link_at new.links.items k) First) is ∙ ap (λ l. behind l First) added.last)
+        ap (λ k. behind (link_at new.links.items k) First) is ∙ ap (λ l. behind l First) added.last)
         (λ (other : i ≢ length old.links.items).
-            ap (λ l. behind l First) (link_at-past new.links.items i (omega (arith, far, added.longer))))
+        ap (λ l. behind l First) (link_at-past new.links.items i (omega (arith, far, added.longer))))
         (cases_eq i (length old.links.items))
 
 pub node_at-get : (tree : Tree) (i : ℕ) → node_at tree i ≡ get_or tree.nodes.items i (empty_node 0)
@@ -125,7 +125,7 @@ place-new old new last known leaf (n ∷ up) k e =
         ⊎_elim
         (λ (there : place (child old) up ≡ Some i).
         ⊎_elim (λ (was : child old i n ≡ Some k). inl (place-child (child old) n up i there ∙ was))
-            (λ is. inr is) (known i n k step))
+        (λ is. inr is) (known i n k step))
         (λ (is : i ≡ last). absurd (leaf n k (ap (λ j. child new j n) (sym is) ∙ step)))
         (above i f)
 
@@ -148,7 +148,7 @@ progress-same old new last past kept known leaf same up = by_place (place (child
     by_place (Some k) f =
         ⊎_elim
         (λ (was : place (child old) up ≡ Some k).
-            progress_at-place new up k f ∙ same k ∙ sym (progress_at-place old up k was))
+        progress_at-place new up k f ∙ same k ∙ sym (progress_at-place old up k was))
         (λ (is : k ≡ last).
         let far : length old.nodes.items ≤ k = omega arith in
         progress_at-place new up k f ∙ same k ∙ empty k far ∙ sym (by_old far (place (child old) up) refl))
@@ -157,8 +157,8 @@ progress-same old new last past kept known leaf same up = by_place (place (child
         empty : (i : ℕ) → length old.nodes.items ≤ i → (node_at old i).progress ≡ no_progress
         empty i far =
             ap (λ (node : Node). node.progress)
-                (unwrap_or-slice_get old.nodes.items i (empty_node 0)
-                    ∙ get_or_past old.nodes.items i (empty_node 0) far)
+            (unwrap_or-slice_get old.nodes.items i (empty_node 0)
+            ∙ get_or_past old.nodes.items i (empty_node 0) far)
 
         by_old : length old.nodes.items ≤ k → (o : Option ℕ) → place (child old) up ≡ o
             → progress_at old up ≡ no_progress
@@ -181,29 +181,29 @@ IsGrown-child old new index number linked rising longer inside missing added chi
     aligned = omega (arith, longer, linked.aligned, added.longer);
     within = λ i n k e.
         ⊎_elim
-            (λ (was : child old i n ≡ Some k).
-                let w = linked.within i n k was in (w.0, omega (arith, w.1, added.longer)))
+        (λ (was : child old i n ≡ Some k).
+        let w = linked.within i n k was in (w.0, omega (arith, w.1, added.longer)))
         (λ (is : (i ≡ index) × ((n ≡ number) × (k ≡ length old.nodes.items))).
-            (omega (arith, is.0, is.1.1, inside), omega (arith, is.1.1, added.longer)))
+        (omega (arith, is.0, is.1.1, inside), omega (arith, is.1.1, added.longer)))
         (cases i n k e);
     back = λ i n k e.
         ⊎_elim
-            (λ (was : child old i n ≡ Some k).
-                let w = linked.within i n k was in added.parent k w.1 ∙ linked.back i n k was)
+        (λ (was : child old i n ≡ Some k).
+        let w = linked.within i n k was in added.parent k w.1 ∙ linked.back i n k was)
         (λ (is : (i ≡ index) × ((n ≡ number) × (k ≡ length old.nodes.items))).
-            ap (λ j. (node_at new j).parent) is.1.1 ∙ added.added ∙ sym is.0)
+        ap (λ j. (node_at new j).parent) is.1.1 ∙ added.added ∙ sym is.0)
         (cases i n k e);
     apart = λ i m n k e f.
         ⊎_elim
         (λ (was : child old i m ≡ Some k). let w = linked.within i m k was in
         ⊎_elim (λ (also : child old i n ≡ Some k). linked.apart i m n k was also)
         (λ (is : (i ≡ index) × ((n ≡ number) × (k ≡ length old.nodes.items))).
-            absurd (omega (arith, w.1, is.1.1)))
+        absurd (omega (arith, w.1, is.1.1)))
         (cases i n k f))
         (λ (is : (i ≡ index) × ((m ≡ number) × (k ≡ length old.nodes.items))).
         ⊎_elim
-            (λ (also : child old i n ≡ Some k).
-                let w = linked.within i n k also in absurd (omega (arith, w.1, is.1.1)))
+        (λ (also : child old i n ≡ Some k).
+        let w = linked.within i n k also in absurd (omega (arith, w.1, is.1.1)))
         (λ (too : (i ≡ index) × ((n ≡ number) × (k ≡ length old.nodes.items))). is.1.0 ∙ sym too.1.0)
         (cases i n k f))
         (cases i m k e);
@@ -220,15 +220,15 @@ IsGrown-child old new index number linked rising longer inside missing added chi
   longer = omega (arith, added.longer);
   same = progress-same old new (length old.nodes.items) (omega arith) kept
       (λ i n k e.
-          ⊎_elim (λ (was : child old i n ≡ Some k). inl was)
-              (λ (is : (i ≡ index) × ((n ≡ number) × (k ≡ length old.nodes.items))). inr is.1.1)
-              (cases i n k e))
+      ⊎_elim (λ (was : child old i n ≡ Some k). inl was)
+      (λ (is : (i ≡ index) × ((n ≡ number) × (k ≡ length old.nodes.items))). inr is.1.1)
+      (cases i n k e))
       (λ n k e.
       ⊎_elim
-          (λ (was : child old (length old.nodes.items) n ≡ Some k).
-              let w = linked.within (length old.nodes.items) n k was in omega (arith, w.0, w.1))
+      (λ (was : child old (length old.nodes.items) n ≡ Some k).
+      let w = linked.within (length old.nodes.items) n k was in omega (arith, w.0, w.1))
       (λ (is : (length old.nodes.items ≡ index) × ((n ≡ number) × (k ≡ length old.nodes.items))).
-          omega (arith, is.0, inside))
+      omega (arith, is.0, inside))
       (cases (length old.nodes.items) n k e))
       added.progress;
   kept = place-kept old new kept;
@@ -240,7 +240,7 @@ IsGrown-child old new index number linked rising longer inside missing added chi
         ⊎_elim (λ (same : child new i n ≡ child old i n). inl (sym same ∙ e))
         (λ (is : (i ≡ index) × (n ≡ number)).
         let made : child new i n ≡ Some (length old.nodes.items) =
-            ap (λ j. child new j n) is.0 ∙ ap (λ m. child new index m) is.1 ∙ child_added.here in
+        ap (λ j. child new j n) is.0 ∙ ap (λ m. child new index m) is.1 ∙ child_added.here in
         inr (is.0, (is.1, same_some k (length old.nodes.items) (sym e ∙ made))))
         (child_added.others i n)
 
@@ -249,7 +249,7 @@ IsGrown-child old new index number linked rising longer inside missing added chi
         ⊎_elim (λ (same : child new i n ≡ child old i n). same ∙ e)
         (λ (is : (i ≡ index) × (n ≡ number)).
         let none : child old i n ≡ None =
-            ap (λ j. child old j n) is.0 ∙ ap (λ m. child old index m) is.1 ∙ missing in
+        ap (λ j. child old j n) is.0 ∙ ap (λ m. child old index m) is.1 ∙ missing in
         absurd (none_some k (sym none ∙ e)))
         (child_added.others i n)
 
@@ -274,26 +274,26 @@ IsNodeAdded-one_more old new index node linked inside one = record {
   parent = λ i less.
       ⊎_elim
       (λ (is : i ≡ index).
-          ap (λ j. (node_at new j).parent) is ∙ ap (λ (x : Node). x.parent) one.here ∙ one.parent
-              ∙ ap (λ j. (node_at old j).parent) (sym is))
+      ap (λ j. (node_at new j).parent) is ∙ ap (λ (x : Node). x.parent) one.here ∙ one.parent
+      ∙ ap (λ j. (node_at old j).parent) (sym is))
       (λ (other : i ≢ index). ap (λ (x : Node). x.parent) (one.before i less other)) (cases_eq i index);
   added = ap (λ (x : Node). x.parent) one.last;
   reach = λ i less.
       ⊎_elim
       (λ (is : i ≡ index).
       let new_here : (node_at new i).reach ≡ node.reach =
-          ap (λ j. (node_at new j).reach) is ∙ ap (λ (x : Node). x.reach) one.here in
+      ap (λ j. (node_at new j).reach) is ∙ ap (λ (x : Node). x.reach) one.here in
       let old_here : (node_at old i).reach ≡ (node_at old index).reach = ap (λ j. (node_at old j).reach) is in
       omega (arith, new_here, old_here, one.reach))
       (λ (other : i ≢ index).
-          let same : (node_at new i).reach ≡ (node_at old i).reach =
-              ap (λ (x : Node). x.reach) (one.before i less other) in
-          omega (arith, same))
+      let same : (node_at new i).reach ≡ (node_at old i).reach =
+      ap (λ (x : Node). x.reach) (one.before i less other) in
+      omega (arith, same))
       (cases_eq i index);
   small =
       λ i.
-          by_index (λ (x y : Node). y.reach ≤ 2 ^ 48 + 1 → x.reach ≤ 2 ^ 48 + 1) i (λ x h. h) (λ h. one.small)
-              (λ h. omega arith) (linked.small i);
+      by_index (λ (x y : Node). y.reach ≤ 2 ^ 48 + 1 → x.reach ≤ 2 ^ 48 + 1) i (λ x h. h) (λ h. one.small)
+      (λ h. omega arith) (linked.small i);
 }
   where
     by_index : (P : Node → Node → Type 0) (i : ℕ) → ((x : Node) → P x x) → P node (node_at old index)
@@ -301,12 +301,12 @@ IsNodeAdded-one_more old new index node linked inside one = record {
     by_index P i same changed added =
         ⊎_elim
         (λ (is : i ≡ index).
-            subst (λ j. P (node_at new j) (node_at old j)) (sym is)
-                (subst (λ x. P x (node_at old index)) (sym one.here) changed))
+        subst (λ j. P (node_at new j) (node_at old j)) (sym is)
+        (subst (λ x. P x (node_at old index)) (sym one.here) changed))
         (λ (other : i ≢ index).
         ⊎_elim
         (λ (less : i < length old.nodes.items).
-            subst (λ x. P x (node_at old i)) (sym (one.before i less other)) (same (node_at old i)))
+        subst (λ x. P x (node_at old i)) (sym (one.before i less other)) (same (node_at old i)))
         (λ (far : length old.nodes.items ≤ i).
         ⊎_elim
         (λ (is : i ≡ length old.nodes.items).
@@ -315,7 +315,7 @@ IsNodeAdded-one_more old new index node linked inside one = record {
         (λ (beyond : i ≢ length old.nodes.items).
         subst (λ y. P (node_at new i) y) (sym (node_at-past old i far))
         (subst (λ x. P x (empty_node 0)) (sym (node_at-past new i (omega (arith, one.longer))))
-            (same (empty_node 0))))
+        (same (empty_node 0))))
         (cases_eq i (length old.nodes.items)))
         (cases_lt i (length old.nodes.items)))
         (cases_eq i index)
@@ -324,28 +324,30 @@ pub IsNodeAdded-set : (old new : Tree) (index : ℕ) (node : Node) → IsLinked 
     → index < length old.nodes.items
     → new.nodes.items ≡ set (old.nodes.items ++ empty_node index ∷ []) index node
     → node.progress ≡ (node_at old index).progress → node.parent ≡ (node_at old index).parent
-        → (node_at old index).reach ≤ node.reach → node.reach ≤ 2 ^ 48 + 1 → IsNodeAdded old new index
+    → (node_at old index).reach ≤ node.reach → node.reach ≤ 2 ^ 48 + 1 → IsNodeAdded old new index
 IsNodeAdded-set old new index node linked inside e progress parent reach small =
-    IsNodeAdded-one_more old new index node linked inside ( record {
-  longer = ap length e ∙ length-set pushed index node ∙ length-append old.nodes.items (empty_node index ∷ []);
-  before = λ i less other.
-      at i ∙ get_or-set_other pushed index i node (empty_node 0) other
-      ∙ get_or_append_left old.nodes.items (empty_node index ∷ []) (empty_node 0) i less
+    IsNodeAdded-one_more old new index node linked inside (record {
+      longer =
+          ap length e ∙ length-set pushed index node
+          ∙ length-append old.nodes.items (empty_node index ∷ []);
+      before = λ i less other.
+          at i ∙ get_or-set_other pushed index i node (empty_node 0) other
+          ∙ get_or_append_left old.nodes.items (empty_node index ∷ []) (empty_node 0) i less
           ∙ sym (node_at-get old i);
-  here =
-      at index
+      here =
+          at index
           ∙ get_or-set_same pushed index node (empty_node 0)
-              (omega (arith, length-append old.nodes.items (empty_node index ∷ [])));
-  last =
-      at (length old.nodes.items)
+          (omega (arith, length-append old.nodes.items (empty_node index ∷ [])));
+      last =
+          at (length old.nodes.items)
           ∙ get_or-set_other pushed index (length old.nodes.items) node (empty_node 0)
-              (λ same. omega (arith, same, inside))
-      ∙ get_or_push old.nodes.items (empty_node index) (empty_node 0) (length old.nodes.items) refl;
-  progress = progress;
-  parent = parent;
-  reach = reach;
-  small = small;
-})
+          (λ same. omega (arith, same, inside))
+          ∙ get_or_push old.nodes.items (empty_node index) (empty_node 0) (length old.nodes.items) refl;
+      progress = progress;
+      parent = parent;
+      reach = reach;
+      small = small;
+    })
   where
     pushed : List Node
     pushed = old.nodes.items ++ empty_node index ∷ []
@@ -370,27 +372,27 @@ IsGrown-same old new nodes links linked = record {
     aligned = ap length links ∙ linked.aligned ∙ sym (ap length nodes);
     within =
         λ i n k e.
-            let w = linked.within i n k (was i n k e) in (w.0, subst (λ xs. k < length xs) (sym nodes) w.1);
+        let w = linked.within i n k (was i n k e) in (w.0, subst (λ xs. k < length xs) (sym nodes) w.1);
     back = λ i n k e. ap (λ (x : Node). x.parent) (at k) ∙ linked.back i n k (was i n k e);
     apart = λ i m n k e f. linked.apart i m n k (was i m k e) (was i n k f);
     reach =
         λ i n k e.
-            let here : (node_at new i).reach ≡ (node_at old i).reach = ap (λ (x : Node). x.reach) (at i) in
-            omega (arith, here, linked.reach i n k (was i n k e));
+        let here : (node_at new i).reach ≡ (node_at old i).reach = ap (λ (x : Node). x.reach) (at i) in
+        omega (arith, here, linked.reach i n k (was i n k e));
     small =
         λ i.
-            let here : (node_at new i).reach ≡ (node_at old i).reach = ap (λ (x : Node). x.reach) (at i) in
-            omega (arith, here, linked.small i);
+        let here : (node_at new i).reach ≡ (node_at old i).reach = ap (λ (x : Node). x.reach) (at i) in
+        omega (arith, here, linked.small i);
   };
   longer =
       let same : length new.nodes.items ≡ length old.nodes.items = ap length nodes in omega (arith, same);
   same =
       progress-same old new (length old.nodes.items) (omega arith) (λ i n k e. same i n ∙ e)
-          (λ i n k e. inl (was i n k e))
+      (λ i n k e. inl (was i n k e))
       (λ n k e.
-          let w = linked.within (length old.nodes.items) n k (was (length old.nodes.items) n k e) in
-          omega (arith, w.0, w.1))
-          (λ i. ap (λ (x : Node). x.progress) (at i));
+      let w = linked.within (length old.nodes.items) n k (was (length old.nodes.items) n k e) in
+      omega (arith, w.0, w.1))
+      (λ i. ap (λ (x : Node). x.progress) (at i));
   kept = place-kept old new (λ i n k e. same i n ∙ e);
 }
   where
@@ -407,47 +409,46 @@ IsGrown-same old new nodes links linked = record {
 pub IsGrown-made : (old mid linked_mid new : Tree) (index number j : ℕ) (s : Side) → IsLinked old
     → index < length old.nodes.items → number ≤ 2 ^ 48 → spot_of old.links.items index number ≡ Missing j s
     → mid.nodes.items ≡ old.nodes.items ++ empty_node index ∷ []
-        → mid.links.items ≡ old.links.items ++ leaf_link index number ∷ []
+    → mid.links.items ≡ old.links.items ++ leaf_link index number ∷ []
     → linked_mid.nodes ≡ mid.nodes
-        → linked_mid.links.items
-            ≡ set mid.links.items j (with_link (link_at mid.links.items j) s (length old.nodes.items))
+    → linked_mid.links.items
+    ≡ set mid.links.items j (with_link (link_at mid.links.items j) s (length old.nodes.items))
     → new.nodes.items ≡ set linked_mid.nodes.items index (with_reach (node_at linked_mid index) number)
-        → new.links ≡ linked_mid.links
+    → new.links ≡ linked_mid.links
     → (IsGrown old new) × (child new index number ≡ Some (length old.nodes.items))
     × ((next : ℕ)
-          → spot_of new.links.items (length old.nodes.items) next ≡ Missing (length old.nodes.items) First)
+    → spot_of new.links.items (length old.nodes.items) next ≡ Missing (length old.nodes.items) First)
 IsGrown-made old mid linked_mid new index number j s linked inside small spot pushed pushed_link mid_same put
-        written same_links =
-    (
-  IsGrown-child old new index number linked
-      (IsRising-added old.links.items new.links.items index number j s linked.rising link_added)
-      link_added.longer inside (ap found spot)
-      (IsNodeAdded-set old new index (with_reach (node_at old index) number) linked inside items refl refl
+    written same_links = (
+      IsGrown-child old new index number linked
+          (IsRising-added old.links.items new.links.items index number j s linked.rising link_added)
+          link_added.longer inside (ap found spot)
+          (IsNodeAdded-set old new index (with_reach (node_at old index) number) linked inside items refl refl
           (omega arith) (omega (arith, linked.small index)))
-      child_added reached,
-  child_added.here,
-  (λ next. search-none new.links.items (length new.links.items) (length old.nodes.items) next
-      (ap (λ i. behind (link_at new.links.items i) First) (sym linked.aligned)
+          child_added reached,
+      child_added.here,
+      (λ next. search-none new.links.items (length new.links.items) (length old.nodes.items) next
+          (ap (λ i. behind (link_at new.links.items i) First) (sym linked.aligned)
           ∙ ap (λ l. behind l First) link_added.last)),
-)
+    )
   where
     links : new.links.items
         ≡ set (old.links.items ++ leaf_link index number ∷ []) j
-            (with_link (link_at (old.links.items ++ leaf_link index number ∷ []) j) s
-                (length old.links.items))
+        (with_link (link_at (old.links.items ++ leaf_link index number ∷ []) j) s
+        (length old.links.items))
     links =
         ap (λ v. v.items) same_links ∙ put
-            ∙ ap (λ xs. set xs j (with_link (link_at xs j) s (length old.nodes.items))) pushed_link
+        ∙ ap (λ xs. set xs j (with_link (link_at xs j) s (length old.nodes.items))) pushed_link
         ∙ ap
-            (λ k.
-                set (old.links.items ++ leaf_link index number ∷ []) j
-                    (with_link (link_at (old.links.items ++ leaf_link index number ∷ []) j) s k))
-            (sym linked.aligned)
+        (λ k.
+        set (old.links.items ++ leaf_link index number ∷ []) j
+        (with_link (link_at (old.links.items ++ leaf_link index number ∷ []) j) s k))
+        (sym linked.aligned)
 
     ended : (j < length old.links.items) × (behind (link_at old.links.items j) s ≡ 0)
     ended =
         missing-at old.links.items linked.rising (length old.links.items) index number number index First j s
-            (omega (arith, inside, linked.aligned)) (omega arith) spot
+        (omega (arith, inside, linked.aligned)) (omega arith) spot
 
     link_added : IsLinkAdded old.links.items new.links.items index number j s
     link_added = IsLinkAdded-set old.links.items new.links.items index number j s ended.0 ended.1 links
@@ -461,21 +462,21 @@ IsGrown-made old mid linked_mid new index number j s linked inside small spot pu
     same : node_at linked_mid index ≡ node_at old index
     same = node_at-get linked_mid index ∙ ap (λ xs. get_or xs index (empty_node 0)) nodes_mid
         ∙ get_or_append_left old.nodes.items (empty_node index ∷ []) (empty_node 0) index inside
-            ∙ sym (node_at-get old index)
+        ∙ sym (node_at-get old index)
 
     items : new.nodes.items
         ≡ set (old.nodes.items ++ empty_node index ∷ []) index (with_reach (node_at old index) number)
     items = written ∙ ap (λ xs. set xs index (with_reach (node_at linked_mid index) number)) nodes_mid
         ∙ ap (λ (node : Node). set (old.nodes.items ++ empty_node index ∷ []) index (with_reach node number))
-            same
+        same
 
     reached : number < (node_at new index).reach
     reached =
         let here : node_at new index ≡ with_reach (node_at old index) number =
         node_at-get new index ∙ ap (λ xs. get_or xs index (empty_node 0)) items
         ∙ get_or-set_same (old.nodes.items ++ empty_node index ∷ []) index
-            (with_reach (node_at old index) number) (empty_node 0)
-            (omega (arith, length-append old.nodes.items (empty_node index ∷ []))) in
+        (with_reach (node_at old index) number) (empty_node 0)
+        (omega (arith, length-append old.nodes.items (empty_node index ∷ []))) in
         let reach : (node_at new index).reach ≡ max (node_at old index).reach (number + 1) =
-            ap (λ (node : Node). node.reach) here in
+        ap (λ (node : Node). node.reach) here in
         omega (arith, reach)

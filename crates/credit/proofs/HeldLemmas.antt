@@ -31,7 +31,7 @@ pub Found-list_any : (test : List Half → Bool) (shares : List (List Half)) →
 Found-list_any test [] h = absurd (false≢true h)
 Found-list_any test (s ∷ shares) h =
     ⊎_elim (λ here. found 0 s refl here)
-        (λ there. Found-later test s shares (Found-list_any test shares there))
+    (λ there. Found-later test s shares (Found-list_any test shares there))
     (or_cases (test s) (list_any test shares) h)
 
 pub list_any-found : (test : List Half → Bool) (shares : List (List Half)) (i : ℕ) (t : List Half)
@@ -64,7 +64,7 @@ Hold-longer shares s r begun held l begins long =
     let short = recursion_from_All (IsShort l) (r ∷ shares) long in
     held l (begins_with_through l r s begins begun)
     (All-from_recursion (IsShort l) (s ∷ shares)
-        (omega (arith, short.0, length-begins_with r s begun), short.1))
+    (omega (arith, short.0, length-begins_with r s begun), short.1))
 
 -- what is held stays held
 pub Hold-append : (shares more : List (List Half)) (s : List Half) → Hold shares s → Hold (shares ++ more) s
@@ -72,10 +72,10 @@ Hold-append shares more s held l begins long =
     let short = recursion_from_All (IsShort l) (s ∷ (shares ++ more)) long in
     let parts = ByRecursion-append (IsShort l) shares more short.1 in
     let some =
-        list_any-from_Any (λ t. begins_with l t) shares
-            (held l begins (All-from_recursion (IsShort l) (s ∷ shares) (short.0, parts.0))) in
+    list_any-from_Any (λ t. begins_with l t) shares
+    (held l begins (All-from_recursion (IsShort l) (s ∷ shares) (short.0, parts.0))) in
     Any-from_list_any (λ t. begins_with l t) (shares ++ more)
-        (list_any-append (λ t. begins_with l t) shares more ∙ or_left _ _ some)
+    (list_any-append (λ t. begins_with l t) shares more ∙ or_left _ _ some)
 
 -- a list that begins with a longer one's beginning
 pub begins_with-cut : (l x t : List Half) → begins_with (l ++ x) t ≡ true → length t ≤ length l
@@ -94,21 +94,22 @@ Hold-without shares t s apart off held l begins long =
     let x : List Half = replicate (length t) Keep in
     let on_s : begins_with (l ++ x) s ≡ true = begins_with-append l x s begins in
     let far : length (l ++ x) ≡ length l + length t =
-        omega (arith, length-append l x, length-replicate (length t) Keep) in
+    omega (arith, length-append l x, length-replicate (length t) Keep) in
     let longer : ByRecursion (IsShort (l ++ x)) shares = ByRecursion-longer l x shares short.1 in
-    let all : ByRecursion (IsShort (l ++ x)) (s ∷ (shares ++ t ∷ [])) =
-        (omega (arith, far, short.0),
-            ByRecursion-join (IsShort (l ++ x)) shares (t ∷ []) longer (omega (arith, far), tt)) in
+    let all : ByRecursion (IsShort (l ++ x)) (s ∷ (shares ++ t ∷ [])) = (
+      omega (arith, far, short.0),
+      ByRecursion-join (IsShort (l ++ x)) shares (t ∷ []) longer (omega (arith, far), tt),
+    ) in
     let some =
-        list_any-from_Any (λ r. begins_with (l ++ x) r) (shares ++ t ∷ [])
-            (held (l ++ x) on_s (All-from_recursion (IsShort (l ++ x)) (s ∷ (shares ++ t ∷ [])) all)) in
+    list_any-from_Any (λ r. begins_with (l ++ x) r) (shares ++ t ∷ [])
+    (held (l ++ x) on_s (All-from_recursion (IsShort (l ++ x)) (s ∷ (shares ++ t ∷ [])) all)) in
     Any-from_list_any (λ r. begins_with l r) shares
     (⊎_elim
     (λ (early : list_any (λ r. begins_with (l ++ x) r) shares ≡ true). list_any-cut l x shares short.1 early)
     (λ (late : list_any (λ r. begins_with (l ++ x) r) (t ∷ []) ≡ true).
     ⊎_elim
     (λ (on_t : begins_with (l ++ x) t ≡ true).
-        absurd (⊎_elim apart off (begins_with-either (l ++ x) s t on_s on_t)))
+    absurd (⊎_elim apart off (begins_with-either (l ++ x) s t on_s on_t)))
     (λ none. absurd (false≢true none))
     (or_cases (begins_with (l ++ x) t) false late))
     (or_cases _ _ (sym (list_any-append (λ r. begins_with (l ++ x) r) shares (t ∷ [])) ∙ some)))
@@ -124,7 +125,7 @@ Hold-without shares t s apart off held l begins long =
     list_any-cut l x [] h some = absurd (false≢true some)
     list_any-cut l x (r ∷ shares) h some =
         ⊎_elim (λ here. or_left _ _ (begins_with-cut l x r here h.0))
-            (λ there. or_right (begins_with l r) _ (list_any-cut l x shares h.1 there))
+        (λ there. or_right (begins_with l r) _ (list_any-cut l x shares h.1 there))
         (or_cases (begins_with (l ++ x) r) (list_any (λ r. begins_with (l ++ x) r) shares) some)
 
 -- a share that one of them begins
@@ -139,7 +140,7 @@ pub Hold-apart : (shares : List (List Half)) (s : List Half)
     → ((i : ℕ) (t : List Half) → slice_get shares i ≡ Some t → begins_with t s ≡ true → ⊥) → Hold shares s → ⊥
 Hold-apart shares s apart off held =
     Hold-missing shares s (list_any-none (λ t. begins_with s t) shares apart)
-        (list_any-none (λ t. begins_with t s) shares off) held
+    (list_any-none (λ t. begins_with t s) shares off) held
 
 -- no run of Keep halves was entered here or above: nothing is held
 pub Hold-no_run : (shares : List (List Half)) (s : List Half) (m : ℕ)
@@ -161,20 +162,20 @@ pub Hold-run : (shares : List (List Half)) (s : List Half) (i l : ℕ) → slice
 Hold-run shares s i l at zero m e children =
     let same : l ≡ m = omega arith in
     Hold-found shares i (keeps s l) (keeps s m)
-        at
-            (subst (λ k. begins_with (keeps s m) (keeps s k) ≡ true) (sym same)
-                (begins_with-itself (keeps s m)))
+    at
+    (subst (λ k. begins_with (keeps s m) (keeps s k) ≡ true) (sym same)
+    (begins_with-itself (keeps s m)))
 Hold-run shares s i l at (suc d) m e children =
     let kept : keeps s (m + 1) ≡ keep_half (keeps s m) =
-        ap (λ r. s ++ r) (sym (replicate_more m Keep))
-            ∙ sym (append_assoc s (replicate m Keep) (Keep ∷ [])) in
+    ap (λ r. s ++ r) (sym (replicate_more m Keep))
+    ∙ sym (append_assoc s (replicate m Keep) (Keep ∷ [])) in
     ⊎_elim
     (λ (begun : list_any (λ t. begins_with (keeps s m) t) shares ≡ true). Hold-begun shares (keeps s m) begun)
     (λ (apart : list_any (λ t. begins_with (keeps s m) t) shares ≡ false).
     Hold-halves shares (keeps s m) apart
     (list_any-found (λ t. begins_with t (keeps s m)) shares i (keeps s l)
-        at (keeps-longer s l m (omega arith)))
+    at (keeps-longer s l m (omega arith)))
     (subst (λ r. Hold shares r) kept
-        (Hold-run shares s i l at d (m + 1) (omega arith) (λ j low high. children j (omega arith) high)))
+    (Hold-run shares s i l at d (m + 1) (omega arith) (λ j low high. children j (omega arith) high)))
     (children m (omega arith) (omega arith)))
     (cases_Bool (list_any (λ t. begins_with (keeps s m) t) shares))

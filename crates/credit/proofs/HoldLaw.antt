@@ -45,8 +45,8 @@ IsWithin-cons : (x : List Half) (xs ys : List (List Half)) → IsWithin xs ys �
 IsWithin-cons x xs ys w = record {
   any =
       λ p h.
-          ⊎_elim (λ here. or_left _ _ here) (λ there. or_right (p x) _ (w.any p there))
-              (or_cases (p x) (list_any p xs) h);
+      ⊎_elim (λ here. or_left _ _ here) (λ there. or_right (p x) _ (w.any p there))
+      (or_cases (p x) (list_any p xs) h);
   all = λ l h. (h.0, w.all l h.1);
 }
 
@@ -59,7 +59,7 @@ entered_shares-append root cs ds =
 IsWithin-where : (b : Bool) (c : Credit) (xs ys : List Credit)
     → IsWithin (map (λ (c : Credit). c.share) xs) (map (λ (c : Credit). c.share) ys)
     → IsWithin (map (λ (c : Credit). c.share) (cond b (c ∷ xs) xs))
-        (map (λ (c : Credit). c.share) (cond b (c ∷ ys) ys))
+    (map (λ (c : Credit). c.share) (cond b (c ∷ ys) ys))
 IsWithin-where true c xs ys w = IsWithin-cons c.share _ _ w
 IsWithin-where false c xs ys w = w
 
@@ -70,22 +70,22 @@ IsWithin-exchange : (root : ℕ) (passes : Credit → Bool) (others : Credit →
 IsWithin-exchange root passes others live [] = IsWithin-itself []
 IsWithin-exchange root passes others live (c ∷ cs) =
     cond_both (passes c) (others c ++ cs) (c ∷ exchange passes others cs)
-        (λ ds. IsWithin (entered_shares root (c ∷ cs)) (entered_shares root ds))
+    (λ ds. IsWithin (entered_shares root (c ∷ cs)) (entered_shares root ds))
     (λ yes.
     let skipped : is_entered_of root c ≡ false = and_right (c.root == root) _ (live c yes) in
     let was : entered_shares root (c ∷ cs) ≡ entered_shares root cs =
     ap
-        (λ b.
-            map (λ (c : Credit). c.share)
-                (cond b (c ∷ filter (is_entered_of root) cs) (filter (is_entered_of root) cs)))
-        skipped in
+    (λ b.
+    map (λ (c : Credit). c.share)
+    (cond b (c ∷ filter (is_entered_of root) cs) (filter (is_entered_of root) cs)))
+    skipped in
     subst (λ xs. IsWithin xs (entered_shares root (others c ++ cs))) (sym was)
     (subst (λ ys. IsWithin (entered_shares root cs) ys) (sym (entered_shares-append root (others c) cs))
     (IsWithin-before (entered_shares root (others c)) (entered_shares root cs))))
     (
-        λ no.
-            IsWithin-where (is_entered_of root c) c (filter (is_entered_of root) cs)
-                (filter (is_entered_of root) (exchange passes others cs))
+    λ no.
+    IsWithin-where (is_entered_of root c) c (filter (is_entered_of root) cs)
+    (filter (is_entered_of root) (exchange passes others cs))
     (IsWithin-exchange root passes others live cs))
 
 is_running-not_entered : (h : Holder) → is_running h ≡ true → is_entered h ≡ false
@@ -112,10 +112,10 @@ IsWithin-root root task cs =
     let skipped : ((task == root) && false) ≡ false = and_right (task == root) _ refl in
     let e : entered_shares root (whole_of task ∷ cs) ≡ entered_shares root cs =
     ap
-        (λ b.
-            map (λ (c : Credit). c.share)
-                (cond b (whole_of task ∷ filter (is_entered_of root) cs) (filter (is_entered_of root) cs)))
-        skipped in
+    (λ b.
+    map (λ (c : Credit). c.share)
+    (cond b (whole_of task ∷ filter (is_entered_of root) cs) (filter (is_entered_of root) cs)))
+    skipped in
     subst (λ ys. IsWithin (entered_shares root cs) ys) (sym e) (IsWithin-itself (entered_shares root cs))
 
 -- what was entered stays so
@@ -127,9 +127,9 @@ IsWithin-next_credits root cs (Root task) =
 IsWithin-next_credits root cs (Create creator child) =
     cond_both (is_made child cs) cs _ (λ ds. IsWithin (entered_shares root cs) (entered_shares root ds))
     (λ old. IsWithin-itself _)
-        (λ new.
-            IsWithin-exchange root (has_task_share creator) (shared_halves child)
-                (has_task_share-live creator) cs)
+    (λ new.
+    IsWithin-exchange root (has_task_share creator) (shared_halves child)
+    (has_task_share-live creator) cs)
 IsWithin-next_credits root cs (Finish task) =
     IsWithin-exchange root (has_task_share task) entered_credit (has_task_share-live task) cs
 IsWithin-next_credits root cs (Detach task) =
@@ -163,7 +163,7 @@ IsShort-reach test l (c ∷ cs) far =
     let here : length c.share ≤ length l = omega arith in
     let rest : ByRecursion (IsShort l) (shares_where test cs) = IsShort-reach test l cs (omega arith) in
     cond_both (test c) (c ∷ filter test cs) (filter test cs)
-        (λ ds. ByRecursion (IsShort l) (map (λ (c : Credit). c.share) ds))
+    (λ ds. ByRecursion (IsShort l) (map (λ (c : Credit). c.share) ds))
     (λ yes. (here, rest)) (λ no. rest)
 
 -- a root with a live share was made
@@ -177,10 +177,10 @@ is_root-live p root (c ∷ cs) h =
     let skipped : is_live_of root c ≡ false = and_left _ _ apart in
     let was : live_shares root (c ∷ cs) ≡ live_shares root cs =
     ap
-        (λ b.
-            map (λ (c : Credit). c.share)
-                (cond b (c ∷ filter (is_live_of root) cs) (filter (is_live_of root) cs)))
-        skipped in
+    (λ b.
+    map (λ (c : Credit). c.share)
+    (cond b (c ∷ filter (is_live_of root) cs) (filter (is_live_of root) cs)))
+    skipped in
     or_right (c.root == root) _ (is_root-live p root cs (subst (λ xs. list_any p xs ≡ true) was h)))
     (cases_Bool (c.root == root))
 
@@ -190,24 +190,24 @@ Hold-apart : (cs : List Credit) (root : ℕ) (s u : List Half) → IsSound cs �
 Hold-apart cs root s u sound held live begins =
     let l : List Half = u ++ replicate (reach cs) Keep in
     let far : reach cs ≤ length l =
-        omega (arith, length-append u (replicate (reach cs) Keep), length-replicate (reach cs) Keep) in
+    omega (arith, length-append u (replicate (reach cs) Keep), length-replicate (reach cs) Keep) in
     let as_live : ByRecursion (IsShort l) (live_shares root cs) = IsShort-reach (is_live_of root) l cs far in
     let as_entered : ByRecursion (IsShort l) (entered_shares root cs) =
-        IsShort-reach (is_entered_of root) l cs far in
+    IsShort-reach (is_entered_of root) l cs far in
     let on_s : begins_with l s ≡ true = begins_with-append u (replicate (reach cs) Keep) s begins in
     let found =
-        held l on_s
-            (All-from_recursion (IsShort l) (s ∷ entered_shares root cs)
-                (length-begins_with l s on_s, as_entered)) in
+    held l on_s
+    (All-from_recursion (IsShort l) (s ∷ entered_shares root cs)
+    (length-begins_with l s on_s, as_entered)) in
     let one =
-        sound.one l root (is_root-live (λ x. begins_with u x) root cs live)
-            (Fits-from_shares l root cs as_live as_entered) in
+    sound.one l root (is_root-live (λ x. begins_with u x) root cs live)
+    (Fits-from_shares l root cs as_live as_entered) in
     let entered_one =
-        count_by-some (λ x. begins_with l x) (entered_shares root cs)
-            (list_any-from_Any (λ x. begins_with l x) (entered_shares root cs) found) in
+    count_by-some (λ x. begins_with l x) (entered_shares root cs)
+    (list_any-from_Any (λ x. begins_with l x) (entered_shares root cs) found) in
     let live_one = count_by-some (λ x. begins_with l x) (live_shares root cs)
     (list_any_weaker (λ x. begins_with u x) (λ x. begins_with l x)
-        (λ x. begins_with-append u (replicate (reach cs) Keep) x) (live_shares root cs) live) in
+    (λ x. begins_with-append u (replicate (reach cs) Keep) x) (live_shares root cs) live) in
     absurd (omega (arith, one, count_by-live-entered l root cs, entered_one, live_one))
 
 Hold-here : (cs : List Credit) (root : ℕ) (s : List Half) → IsSound cs → Hold (entered_shares root cs) s
@@ -215,8 +215,8 @@ Hold-here : (cs : List Credit) (root : ℕ) (s : List Half) → IsSound cs → H
 Hold-here cs root s sound held k d within shared =
     let t : List Half = get_or (live_shares root cs) k d in
     let at_t =
-        λ (u : List Half) (h : begins_with u t ≡ true).
-            list_any_at (λ x. begins_with u x) (live_shares root cs) k d within h in
+    λ (u : List Half) (h : begins_with u t ≡ true).
+    list_any_at (λ x. begins_with u x) (live_shares root cs) k d within h in
     ⊎_elim
     (λ (h : begins_with s t ≡ true). Hold-apart cs root s s sound held (at_t s h) (begins_with-itself s))
     (λ (h : begins_with t s ≡ true). Hold-apart cs root s t sound held (at_t t (begins_with-itself t)) h)
@@ -227,7 +227,7 @@ pub Hold-credits_after : (es later : List Event) (root : ℕ) (s : List Half)
     → All (λ t. ¬ IsTrue (overlaps s t)) (live_shares root (credits_after (es ++ later)))
 Hold-credits_after es later root s held =
     let on : credits_after (es ++ later) ≡ fold next_credits (credits_after es) later =
-        fold-append next_credits [] es later in
+    fold-append next_credits [] es later in
     Hold-here (credits_after (es ++ later)) root s (IsSound-credits_after (es ++ later))
     (subst (λ cs. Hold (entered_shares root cs) s) (sym on)
     (Hold-within _ _ s (IsWithin-run root (credits_after es) later) held))

@@ -50,7 +50,7 @@ pub Hold-begun : (shares : List (List Half)) (p : List Half) → list_any (λ t.
 Hold-begun shares p begun l begins long =
     Any-from_list_any (λ t. begins_with l t) shares
     (list_any_weaker (λ t. begins_with p t) (λ t. begins_with l t)
-        (λ t on. begins_with_through l p t begins on) shares begun)
+    (λ t on. begins_with_through l p t begins on) shares begun)
 
 -- the halves of all shares together, which no share exceeds
 abbrev pub span : List (List Half) → ℕ
@@ -72,7 +72,7 @@ no_third l p (t ∷ shares) on_p apart off found =
     ⊎_elim
     (λ (on_t : begins_with l t ≡ true).
     ⊎_elim (λ first. both_ways _ here.0 first) (λ second. both_ways _ there.0 second)
-        (begins_with-either l p t on_p on_t))
+    (begins_with-either l p t on_p on_t))
     (λ rest. no_third l p shares on_p here.1 there.1 rest)
     (or_cases (begins_with l t) (list_any (λ t. begins_with l t) shares) found)
 
@@ -83,13 +83,13 @@ pub Hold-missing : (shares : List (List Half)) (p : List Half)
 Hold-missing shares p apart off held =
     let l : List Half = p ++ replicate (span shares) Keep in
     let on_p : begins_with l p ≡ true =
-        begins_with-append p (replicate (span shares) Keep) p (begins_with-itself p) in
+    begins_with-append p (replicate (span shares) Keep) p (begins_with-itself p) in
     let far : span shares ≤ length l =
-        omega (arith, length-append p (replicate (span shares) Keep), length-replicate (span shares) Keep) in
+    omega (arith, length-append p (replicate (span shares) Keep), length-replicate (span shares) Keep) in
     let found =
-        held l on_p
-            (All-from_recursion (IsShort l) (p ∷ shares)
-                (length-begins_with l p on_p, IsShort-span l shares far)) in
+    held l on_p
+    (All-from_recursion (IsShort l) (p ∷ shares)
+    (length-begins_with l p on_p, IsShort-span l shares far)) in
     no_third l p shares on_p apart off (list_any-from_Any (λ t. begins_with l t) shares found)
 
 -- a list as long as each share is longer than a piece with which one of them goes on
@@ -118,9 +118,9 @@ Hold-halves shares p apart on kept given l begins long =
     let longer = longer-all l p shares apart on short.1 in
     let one : ones (begins_with l p) ≡ 1 = ap ones begins in
     let fits =
-        λ (h : Half).
-            All-from_recursion (IsShort l) ((p ++ h ∷ []) ∷ shares)
-                (omega (arith, longer, length-append p (h ∷ [])), short.1) in
+    λ (h : Half).
+    All-from_recursion (IsShort l) ((p ++ h ∷ []) ∷ shares)
+    (omega (arith, longer, length-append p (h ∷ [])), short.1) in
     ⊎_elim (λ first. kept l first (fits Keep)) (λ second. given l second (fits Give))
     (either-true (begins_with l (keep_half p)) (begins_with l (give_half p))
-        (begins_with-halves l p longer ∙ one))
+    (begins_with-halves l p longer ∙ one))

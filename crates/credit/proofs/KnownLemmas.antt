@@ -47,10 +47,10 @@ IsWithin-from None n time e = absurd (none_some time e)
 IsWithin-from (Some r) n time e =
     ⊎_elim
     (λ (yes : leb r.keeps n ≡ true).
-        within r refl (leb-true r.keeps n yes)
-            (same_some r.time time (sym (cond-true (leb r.keeps n) (Some r.time) None yes) ∙ e)))
+    within r refl (leb-true r.keeps n yes)
+    (same_some r.time time (sym (cond-true (leb r.keeps n) (Some r.time) None yes) ∙ e)))
     (λ (no : leb r.keeps n ≡ false).
-        absurd (none_some time (sym (cond-false (leb r.keeps n) (Some r.time) None no) ∙ e)))
+    absurd (none_some time (sym (cond-false (leb r.keeps n) (Some r.time) None no) ∙ e)))
     (cases_Bool (leb r.keeps n))
 
 pub time_within-none : (run : Option Run) (n : ℕ) (r : Run) → time_within run n ≡ None → run ≡ Some r
@@ -58,7 +58,7 @@ pub time_within-none : (run : Option Run) (n : ℕ) (r : Run) → time_within ru
 time_within-none run n r e same less =
     let yes : leb r.keeps n ≡ true = le-leb r.keeps n less in
     none_some r.time
-        (sym e ∙ ap (λ o. time_within o n) same ∙ cond-true (leb r.keeps n) (Some r.time) None yes)
+    (sym e ∙ ap (λ o. time_within o n) same ∙ cond-true (leb r.keeps n) (Some r.time) None yes)
 
 first_of-some : (a b : Option ℕ) (time : ℕ) → first_of a b ≡ Some time → (a ≡ Some time) ⊎ (b ≡ Some time)
 first_of-some None b time e = inr e
@@ -84,8 +84,8 @@ IsEnteredIn-above shares at counted [] time e = absurd (none_some time e)
 IsEnteredIn-above shares at counted (n ∷ up) time e =
     ⊎_elim
     (λ (first : time_above at up ≡ Some time).
-        IsEnteredIn-longer shares (prefix up) (prefix (n ∷ up)) time (prefix-parent n up)
-            (IsEnteredIn-above shares at counted up time first))
+    IsEnteredIn-longer shares (prefix up) (prefix (n ∷ up)) time (prefix-parent n up)
+    (IsEnteredIn-above shares at counted up time first))
     (λ (second : time_within (at up).run n ≡ Some time). from_run (IsWithin-from (at up).run n time second))
     (first_of-some (time_above at up) (time_within (at up).run n) time e)
   where
@@ -93,14 +93,14 @@ IsEnteredIn-above shares at counted (n ∷ up) time e =
     from_run (within r same less when) =
         entered_in (keeps (prefix up) r.keeps) (ap (slice_get shares) (sym when) ∙ counted.run up r same)
         (begins_with-append (keeps (prefix up) n) (Give ∷ []) (keeps (prefix up) r.keeps)
-            (keeps-longer (prefix up) n r.keeps less))
+        (keeps-longer (prefix up) n r.keeps less))
 
 pub time_above-none : (at : List ℕ → Progress) (xs up : List ℕ) → time_above at (xs ++ up) ≡ None
     → time_above at up ≡ None
 time_above-none at [] up e = e
 time_above-none at (n ∷ xs) up e =
     time_above-none at xs up
-        (first_of-none (time_above at (xs ++ up)) (time_within (at (xs ++ up)).run n) e).0
+    (first_of-none (time_above at (xs ++ up)) (time_within (at (xs ++ up)).run n) e).0
 
 pub time_above-some : (at : List ℕ → Progress) (xs up : List ℕ) (time : ℕ) → time_above at up ≡ Some time
     → time_above at (xs ++ up) ≡ Some time
@@ -119,8 +119,8 @@ pub IsRun-begun : (shares : List (List Half)) (at : List ℕ → Progress) → I
     → begins_with (keeps (prefix p) m) t ≡ true → IsRun shares at p m i t
 IsRun-begun shares at counted p none m i t entered begun =
     by_case
-        (IsBegun-share p m (path_of t).0 (path_of t).1
-            (subst (λ r. begins_with (keeps (prefix p) m) r ≡ true) (sym (keeps-path_of t)) begun))
+    (IsBegun-share p m (path_of t).0 (path_of t).1
+    (subst (λ r. begins_with (keeps (prefix p) m) r ≡ true) (sym (keeps-path_of t)) begun))
   where
     known : (at (path_of t).0).run ≡ Some (record { keeps = (path_of t).1; time = i })
     known = counted.entered i (path_of t).0 (path_of t).1 (entered ∙ ap (λ r. Some r) (sym (keeps-path_of t)))
@@ -143,8 +143,8 @@ pub IsClear-above : (shares : List (List Half)) (at : List ℕ → Progress) →
     → time_above at p ≡ None → IsClear shares (prefix p)
 IsClear-above shares at counted p none i t entered begun =
     from_run
-        (IsRun-begun shares at counted p none 0 i t entered
-            (subst (λ r. begins_with r t ≡ true) (sym (keeps-none (prefix p))) begun))
+    (IsRun-begun shares at counted p none 0 i t entered
+    (subst (λ r. begins_with r t ≡ true) (sym (keeps-none (prefix p))) begun))
   where
     from_run : IsRun shares at p 0 i t → length (prefix p) ≤ length t
     from_run (is_run l less same run) = omega (arith, ap length same, length-keeps (prefix p) l)
@@ -155,15 +155,15 @@ pub IsHeldFrom-entered : (shares : List (List Half)) → IsApart shares → (tim
 IsHeldFrom-entered shares apart time t s at begun upto = (
   (λ by. Hold-found (take upto shares) time t s
       (slice_get-of_take shares upto time t (let less = leb-true (time + 1) upto by in omega arith) at)
-          begun),
+      begun),
   (λ held. ⊎_elim
       (λ (late : time < upto). le-leb (time + 1) upto (omega arith))
       (λ (early : upto ≤ time). absurd
       (Hold-apart (take upto shares) s
       (λ i r there on_r. let was = slice_get-take shares upto i r there in
       let same : i ≡ time =
-          ⊎_elim (λ r_t. sym (apart time i t r at was.1 r_t)) (λ t_r. apart i time r t was.1 at t_r)
-              (begins_with-either s t r begun on_r) in
+      ⊎_elim (λ r_t. sym (apart time i t r at was.1 r_t)) (λ t_r. apart i time r t was.1 at t_r)
+      (begins_with-either s t r begun on_r) in
       omega (arith, was.0, same))
       (λ i r there on_s. let was = slice_get-take shares upto i r there in
       let same : i ≡ time = apart i time r t was.1 at (begins_with_through r s t on_s begun) in
@@ -180,8 +180,8 @@ IsHeldFrom-none shares s m none upto = (
   (λ by. absurd (false≢true by)),
   (λ held.
       absurd
-          (Hold-no_run (take upto shares) s m
-              (λ j i t there begun. none j i t (slice_get-take shares upto i t there).1 begun) held)),
+      (Hold-no_run (take upto shares) s m
+      (λ j i t there begun. none j i t (slice_get-take shares upto i t there).1 begun) held)),
 )
 
 -- a child before the end of the run is clear
@@ -191,16 +191,16 @@ IsClear-child shares at counted up r k run less i t entered begun =
     ⊎_elim
     (λ (first : begins_with (keeps (prefix up) k) t ≡ true).
     let later =
-        begins_with_through (keeps (prefix up) r.keeps) (keeps (prefix up) k) t
-            (keeps-longer (prefix up) r.keeps k (omega arith)) first in
+    begins_with_through (keeps (prefix up) r.keeps) (keeps (prefix up) k) t
+    (keeps-longer (prefix up) r.keeps k (omega arith)) first in
     let when : r.time ≡ i =
-        counted.apart r.time i (keeps (prefix up) r.keeps) t (counted.run up r run) entered later in
+    counted.apart r.time i (keeps (prefix up) r.keeps) t (counted.run up r run) entered later in
     let same : keeps (prefix up) r.keeps ≡ t =
-        same_some (keeps (prefix up) r.keeps) t
-            (sym (counted.run up r run) ∙ ap (slice_get shares) when ∙ entered) in
+    same_some (keeps (prefix up) r.keeps) t
+    (sym (counted.run up r run) ∙ ap (slice_get shares) when ∙ entered) in
     let short = length-begins_with (keeps (prefix up) k) t first in
     absurd
-        (omega (arith, short, ap length same, length-keeps (prefix up) k, length-keeps (prefix up) r.keeps)))
+    (omega (arith, short, ap length same, length-keeps (prefix up) k, length-keeps (prefix up) r.keeps)))
     (λ (whole : t ≡ prefix (k ∷ up)). omega (arith, ap length whole))
     (begins_with-push (keeps (prefix up) k) Give t begun)
 
@@ -217,16 +217,16 @@ held_child-before shares at counted up r k run held =
     with_run past None e some = false≢true some
     with_run past (Some q) e some =
         let one =
-            begins_with-append (keeps (prefix up) k) (Give ∷ []) (keeps (prefix up) r.keeps)
-                (keeps-longer (prefix up) k r.keeps past) in
+        begins_with-append (keeps (prefix up) k) (Give ∷ []) (keeps (prefix up) r.keeps)
+        (keeps-longer (prefix up) k r.keeps past) in
         let two =
-            begins_with-append (prefix (k ∷ up)) (replicate q.keeps Keep) (keeps (prefix up) r.keeps) one in
+        begins_with-append (prefix (k ∷ up)) (replicate q.keeps Keep) (keeps (prefix up) r.keeps) one in
         let there = counted.run (k ∷ up) q e in
         let when : q.time ≡ r.time =
-            counted.apart q.time r.time (keeps (prefix (k ∷ up)) q.keeps) (keeps (prefix up) r.keeps) there
-                (counted.run up r run) two in
+        counted.apart q.time r.time (keeps (prefix (k ∷ up)) q.keeps) (keeps (prefix up) r.keeps) there
+        (counted.run up r run) two in
         let same : keeps (prefix (k ∷ up)) q.keeps ≡ keeps (prefix up) r.keeps =
         same_some (keeps (prefix (k ∷ up)) q.keeps) (keeps (prefix up) r.keeps)
-            (sym there ∙ ap (slice_get shares) when ∙ counted.run up r run) in
+        (sym there ∙ ap (slice_get shares) when ∙ counted.run up r run) in
         let paths : k ∷ up ≡ up = (keeps_apart (k ∷ up) up q.keeps r.keeps same).0 in
         absurd (omega (arith, ap length paths))

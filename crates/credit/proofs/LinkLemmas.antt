@@ -80,8 +80,8 @@ step-on : (links : List Link) (steps parent number digits here : ℕ) (side : Si
     → behind (link_at links here) side ≢ 0
     → is_link_of parent number (link_at links (behind (link_at links here) side)) ≡ false
     → spot_within links (suc steps) parent number digits here side
-        ≡ spot_within links steps parent number (digits / 4) (behind (link_at links here) side)
-            (side_of digits)
+    ≡ spot_within links steps parent number (digits / 4) (behind (link_at links here) side)
+    (side_of digits)
 step-on links steps parent number digits here side some is =
     cond-false _ _ _ (other (behind (link_at links here) side) some) ∙ cond-false _ _ _ is
   where
@@ -103,18 +103,18 @@ pub search-found : (links : List Link) (steps parent number digits here next : �
 search-found links zero parent number digits here next side more e some is = absurd (omega (arith, more))
 search-found links (suc steps) parent number digits here next side more e some is =
     step-found links steps parent number digits here side (λ f. some (e ∙ f))
-        (ap (λ k. is_link_of parent number (link_at links k)) (sym e) ∙ is)
-        ∙ ap (λ k. Found k) (sym e)
+    (ap (λ k. is_link_of parent number (link_at links k)) (sym e) ∙ is)
+    ∙ ap (λ k. Found k) (sym e)
 
 pub search-on : (links : List Link) (steps parent number digits here next : ℕ) (side : Side) → 0 < steps
     → next ≡ behind (link_at links here) side → next ≢ 0
     → is_link_of parent number (link_at links next) ≡ false
     → spot_within links steps parent number digits here side
-        ≡ spot_within links (steps - 1) parent number (digits / 4) next (side_of digits)
+    ≡ spot_within links (steps - 1) parent number (digits / 4) next (side_of digits)
 search-on links zero parent number digits here next side more e some is = absurd (omega (arith, more))
 search-on links (suc steps) parent number digits here next side more e some is =
     step-on links steps parent number digits here side (λ f. some (e ∙ f))
-        (ap (λ k. is_link_of parent number (link_at links k)) (sym e) ∙ is)
+    (ap (λ k. is_link_of parent number (link_at links k)) (sym e) ∙ is)
     ∙ ap (λ k. spot_within links steps parent number (digits / 4) k (side_of digits)) (sym e)
     ∙ ap (λ left. spot_within links left parent number (digits / 4) next (side_of digits)) (left_over steps)
   where
@@ -127,7 +127,7 @@ pub missing-at : (links : List Link) → IsRising links
     → (steps parent number digits here : ℕ) (side : Side) (j : ℕ) (s : Side) → here < length links
     → length links ≤ steps + here
     → spot_within links steps parent number digits here side ≡ Missing j s
-        → (j < length links) × (behind (link_at links j) s ≡ 0)
+    → (j < length links) × (behind (link_at links j) s ≡ 0)
 missing-at links rising zero parent number digits here side j s inside enough e =
     absurd (omega (arith, inside, enough))
 missing-at links rising (suc steps) parent number digits here side j s inside enough e =
@@ -135,20 +135,21 @@ missing-at links rising (suc steps) parent number digits here side j s inside en
     (λ (none : behind (link_at links here) side ≡ 0).
     let is = step-missing links steps parent number digits here side none in
     let at : here ≡ j = ap node_of (sym is ∙ e) in
-    let way : side ≡ s = ap way_of (sym is ∙ e) in
-    (subst (λ i. i < length links) at inside,
-        subst (λ i. behind (link_at links i) s ≡ 0)
-            at (subst (λ w. behind (link_at links here) w ≡ 0) way none)))
+    let way : side ≡ s = ap way_of (sym is ∙ e) in (
+      subst (λ i. i < length links) at inside,
+      subst (λ i. behind (link_at links i) s ≡ 0)
+          at (subst (λ w. behind (link_at links here) w ≡ 0) way none),
+    ))
     (λ (some : behind (link_at links here) side ≢ 0).
     let up = rising here side (omega (arith, some)) in
     ⊎_elim
     (λ (is : is_link_of parent number (link_at links (behind (link_at links here) side)) ≡ true).
     absurd
-        (found_missing (behind (link_at links here) side) j s
-            (sym (step-found links steps parent number digits here side some is) ∙ e)))
+    (found_missing (behind (link_at links here) side) j s
+    (sym (step-found links steps parent number digits here side some is) ∙ e)))
     (λ (other : is_link_of parent number (link_at links (behind (link_at links here) side)) ≡ false).
     missing-at links rising steps parent number (digits / 4) (behind (link_at links here) side)
-        (side_of digits) j s up.1 (omega (arith, up.0, enough))
+    (side_of digits) j s up.1 (omega (arith, up.0, enough))
     (sym (step-on links steps parent number digits here side some other) ∙ e))
     (cases_Bool (is_link_of parent number (link_at links (behind (link_at links here) side)))))
     (cases_eq (behind (link_at links here) side) 0)
@@ -224,9 +225,9 @@ key-same l Three k p n = refl
 pub IsLinkAdded-set : (old new : List Link) (parent number j : ℕ) (s : Side) → j < length old
     → behind (link_at old j) s ≡ 0
     → new
-        ≡ set (old ++ leaf_link parent number ∷ []) j
-            (with_link (link_at (old ++ leaf_link parent number ∷ []) j) s (length old))
-        → IsLinkAdded old new parent number j s
+    ≡ set (old ++ leaf_link parent number ∷ []) j
+    (with_link (link_at (old ++ leaf_link parent number ∷ []) j) s (length old))
+    → IsLinkAdded old new parent number j s
 IsLinkAdded-set old new parent number j s inside free e = record {
   longer = ap length e ∙ length-set pushed j node ∙ length-append old (leaf_link parent number ∷ []);
   inside = inside;
@@ -236,7 +237,7 @@ IsLinkAdded-set old new parent number j s inside free e = record {
       ⊎_elim
       (λ (is : k ≡ j).
       ap (λ i. behind (link_at new i) t) is ∙ ap (λ l. behind l t) here
-          ∙ behind-other (link_at pushed j) s t (length old) (λ f. other (is, f))
+      ∙ behind-other (link_at pushed j) s t (length old) (λ f. other (is, f))
       ∙ ap (λ l. behind l t) (before j inside) ∙ ap (λ i. behind (link_at old i) t) (sym is))
       (λ (apart : k ≢ j). ap (λ l. behind l t) (there k apart ∙ before k less))
       (cases_eq k j);
@@ -244,7 +245,7 @@ IsLinkAdded-set old new parent number j s inside free e = record {
       ⊎_elim
       (λ (is : k ≡ j).
       ap (λ i. is_link_of p n (link_at new i)) is ∙ ap (is_link_of p n) here
-          ∙ key-same (link_at pushed j) s (length old) p n
+      ∙ key-same (link_at pushed j) s (length old) p n
       ∙ ap (is_link_of p n) (before j inside) ∙ ap (λ i. is_link_of p n (link_at old i)) (sym is))
       (λ (apart : k ≢ j). ap (is_link_of p n) (there k apart ∙ before k less))
       (cases_eq k j);
@@ -264,8 +265,8 @@ IsLinkAdded-set old new parent number j s inside free e = record {
     here : link_at new j ≡ node
     here =
         at j
-            ∙ get_or-set_same pushed j node (leaf_link 0 0)
-                (omega (arith, inside, length-append old (leaf_link parent number ∷ [])))
+        ∙ get_or-set_same pushed j node (leaf_link 0 0)
+        (omega (arith, inside, length-append old (leaf_link parent number ∷ [])))
 
     there : (i : ℕ) → i ≢ j → link_at new i ≡ link_at pushed i
     there i other = at i ∙ get_or-set_other pushed j i node (leaf_link 0 0) other ∙ sym (link_at-get pushed i)
@@ -273,7 +274,7 @@ IsLinkAdded-set old new parent number j s inside free e = record {
     before : (i : ℕ) → i < length old → link_at pushed i ≡ link_at old i
     before i less =
         link_at-get pushed i ∙ get_or_append_left old (leaf_link parent number ∷ []) (leaf_link 0 0) i less
-            ∙ sym (link_at-get old i)
+        ∙ sym (link_at-get old i)
 
 pub IsRising-added : (old new : List Link) (parent number j : ℕ) (s : Side) → IsRising old
     → IsLinkAdded old new parent number j s → IsRising new
@@ -282,19 +283,19 @@ IsRising-added old new parent number j s rising added here side some =
     (λ (less : here < length old).
     ⊎_elim
     (λ (at : here ≡ j).
-        ⊎_elim (λ (way : side ≡ s). put at way) (λ (other : side ≢ s). old_one less (λ is. other is.1))
-            (cases_side side s))
+    ⊎_elim (λ (way : side ≡ s). put at way) (λ (other : side ≢ s). old_one less (λ is. other is.1))
+    (cases_side side s))
     (λ (other : here ≢ j). old_one less (λ is. other is.0))
     (cases_eq here j))
     (λ (far : length old ≤ here).
     let none : behind (link_at new here) side ≡ 0 =
     ⊎_elim
     (λ (is : here ≡ length old).
-        ap (λ i. behind (link_at new i) side) is ∙ ap (λ l. behind l side) added.last
-            ∙ leaf_behind parent number side)
+    ap (λ i. behind (link_at new i) side) is ∙ ap (λ l. behind l side) added.last
+    ∙ leaf_behind parent number side)
     (λ (other : here ≢ length old).
-        ap (λ l. behind l side) (link_at-past new here (omega (arith, far, other, added.longer)))
-            ∙ leaf_behind 0 0 side)
+    ap (λ l. behind l side) (link_at-past new here (omega (arith, far, other, added.longer)))
+    ∙ leaf_behind 0 0 side)
     (cases_eq here (length old)) in
     absurd (omega (arith, none, some)))
     (cases_lt here (length old))
@@ -303,15 +304,15 @@ IsRising-added old new parent number j s rising added here side some =
         → (here < behind (link_at new here) side) × (behind (link_at new here) side < length new)
     put at way =
         let leads : behind (link_at new here) side ≡ length old =
-            subst (λ i. behind (link_at new i) side ≡ length old) (sym at)
-                (subst (λ w. behind (link_at new j) w ≡ length old) (sym way) added.leads) in
+        subst (λ i. behind (link_at new i) side ≡ length old) (sym at)
+        (subst (λ w. behind (link_at new j) w ≡ length old) (sym way) added.leads) in
         (omega (arith, leads, at, added.inside), omega (arith, leads, added.longer))
 
     old_one : here < length old → ((here ≡ j) × (side ≡ s) → ⊥)
         → (here < behind (link_at new here) side) × (behind (link_at new here) side < length new)
     old_one less other =
         let same : behind (link_at new here) side ≡ behind (link_at old here) side =
-            added.same here less side other in
+        added.same here less side other in
         let up = rising here side (omega (arith, same, some)) in
         (omega (arith, same, up.0), omega (arith, same, up.1, added.longer))
 
@@ -322,10 +323,10 @@ module _ (old new : List Link) (parent number j : ℕ) (s : Side) (rising : IsRi
       → behind (link_at new here) side ≡ behind (link_at old here) side
   kept here side inside some =
       added.same here inside side
-          (λ is.
-              some
-                  (subst (λ i. behind (link_at old i) side ≡ 0) (sym is.0)
-                      (subst (λ t. behind (link_at old j) t ≡ 0) (sym is.1) added.free)))
+      (λ is.
+      some
+      (subst (λ i. behind (link_at old i) side ≡ 0) (sym is.0)
+      (subst (λ t. behind (link_at old j) t ≡ 0) (sym is.1) added.free)))
 
   own : is_link_of parent number (leaf_link parent number) ≡ true
   own = and_from _ _ (eq-eqb parent parent refl) (eq-eqb number number refl)
@@ -342,12 +343,12 @@ module _ (old new : List Link) (parent number j : ℕ) (s : Side) (rising : IsRi
       let at : here ≡ j = ap node_of (sym is ∙ e) in
       let way : side ≡ s = ap way_of (sym is ∙ e) in
       let leads : behind (link_at new here) side ≡ length old =
-          subst (λ i. behind (link_at new i) side ≡ length old) (sym at)
-              (subst (λ w. behind (link_at new j) w ≡ length old) (sym way) added.leads) in
+      subst (λ i. behind (link_at new i) side ≡ length old) (sym at)
+      (subst (λ w. behind (link_at new j) w ≡ length old) (sym way) added.leads) in
       let some : behind (link_at new here) side ≢ 0 = λ f. omega (arith, leads, f, inside) in
       step-found new (suc steps) parent number digits here side some
       (ap (λ k. is_link_of parent number (link_at new k)) leads ∙ ap (is_link_of parent number) added.last
-          ∙ own)
+      ∙ own)
       ∙ ap (λ k. Found k) leads)
       (λ (some : behind (link_at old here) side ≢ 0).
       let up = rising here side (omega (arith, some)) in
@@ -356,15 +357,15 @@ module _ (old new : List Link) (parent number j : ℕ) (s : Side) (rising : IsRi
       ⊎_elim
       (λ (is : is_link_of parent number (link_at old (behind (link_at old here) side)) ≡ true).
       absurd
-          (found_missing (behind (link_at old here) side) j s
-              (sym (step-found old steps parent number digits here side some is) ∙ e)))
+      (found_missing (behind (link_at old here) side) j s
+      (sym (step-found old steps parent number digits here side some is) ∙ e)))
       (λ (other : is_link_of parent number (link_at old (behind (link_at old here) side)) ≡ false).
       step-on new (suc steps) parent number digits here side some_new
       (ap (λ k. is_link_of parent number (link_at new k)) same
-          ∙ added.keys (behind (link_at old here) side) up.1 parent number ∙ other)
+      ∙ added.keys (behind (link_at old here) side) up.1 parent number ∙ other)
       ∙ ap (λ k. spot_within new (suc steps) parent number (digits / 4) k (side_of digits)) same
       ∙ added-here steps (digits / 4) (behind (link_at old here) side) (side_of digits) up.1
-          (omega (arith, up.0, enough))
+      (omega (arith, up.0, enough))
       (sym (step-on old steps parent number digits here side some other) ∙ e))
       (cases_Bool (is_link_of parent number (link_at old (behind (link_at old here) side)))))
       (cases_eq (behind (link_at old here) side) 0)
@@ -373,7 +374,7 @@ module _ (old new : List Link) (parent number j : ℕ) (s : Side) (rising : IsRi
   pub added-elsewhere : (p n : ℕ) → is_link_of p n (leaf_link parent number) ≡ false
       → (steps digits here : ℕ) (side : Side) → here < length old → length old ≤ steps + here
       → found (spot_within new (suc steps) p n digits here side)
-          ≡ found (spot_within old steps p n digits here side)
+      ≡ found (spot_within old steps p n digits here side)
   added-elsewhere p n apart zero digits here side inside enough = absurd (omega (arith, inside, enough))
   added-elsewhere p n apart (suc steps) digits here side inside enough =
       ⊎_elim
@@ -381,17 +382,17 @@ module _ (old new : List Link) (parent number j : ℕ) (s : Side) (rising : IsRi
       ⊎_elim
       (λ (still : behind (link_at new here) side ≡ 0).
       ap found
-          (step-missing new (suc steps) p n digits here side still
-              ∙ sym (step-missing old steps p n digits here side none)))
+      (step-missing new (suc steps) p n digits here side still
+      ∙ sym (step-missing old steps p n digits here side none)))
       (λ (some : behind (link_at new here) side ≢ 0).
       let leads = there here side inside none some in
       let last : link_at new (behind (link_at new here) side) ≡ leaf_link parent number =
-          ap (link_at new) leads ∙ added.last in
+      ap (link_at new) leads ∙ added.last in
       ap found
       (step-on new (suc steps) p n digits here side some (ap (is_link_of p n) last ∙ apart))
       ∙ ap found
-          (step-missing new steps p n (digits / 4) (behind (link_at new here) side) (side_of digits)
-              (ap (λ l. behind l (side_of digits)) last ∙ leaf_behind parent number (side_of digits)))
+      (step-missing new steps p n (digits / 4) (behind (link_at new here) side) (side_of digits)
+      (ap (λ l. behind l (side_of digits)) last ∙ leaf_behind parent number (side_of digits)))
       ∙ ap found (sym (step-missing old steps p n digits here side none)))
       (cases_eq (behind (link_at new here) side) 0))
       (λ (some : behind (link_at old here) side ≢ 0).
@@ -399,19 +400,19 @@ module _ (old new : List Link) (parent number j : ℕ) (s : Side) (rising : IsRi
       let same = kept here side inside some in
       let some_new : behind (link_at new here) side ≢ 0 = λ f. some (sym same ∙ f) in
       let key : is_link_of p n (link_at new (behind (link_at new here) side))
-              ≡ is_link_of p n (link_at old (behind (link_at old here) side)) =
+      ≡ is_link_of p n (link_at old (behind (link_at old here) side)) =
       ap (λ k. is_link_of p n (link_at new k)) same ∙ added.keys (behind (link_at old here) side) up.1 p n in
       ⊎_elim
       (λ (is : is_link_of p n (link_at old (behind (link_at old here) side)) ≡ true).
       ap found
-          (step-found new (suc steps) p n digits here side some_new (key ∙ is) ∙ ap (λ k. Found k) same
-              ∙ sym (step-found old steps p n digits here side some is)))
+      (step-found new (suc steps) p n digits here side some_new (key ∙ is) ∙ ap (λ k. Found k) same
+      ∙ sym (step-found old steps p n digits here side some is)))
       (λ (other : is_link_of p n (link_at old (behind (link_at old here) side)) ≡ false).
       ap found
-          (step-on new (suc steps) p n digits here side some_new (key ∙ other)
-              ∙ ap (λ k. spot_within new (suc steps) p n (digits / 4) k (side_of digits)) same)
+      (step-on new (suc steps) p n digits here side some_new (key ∙ other)
+      ∙ ap (λ k. spot_within new (suc steps) p n (digits / 4) k (side_of digits)) same)
       ∙ added-elsewhere p n apart steps (digits / 4) (behind (link_at old here) side) (side_of digits) up.1
-          (omega (arith, up.0, enough))
+      (omega (arith, up.0, enough))
       ∙ ap found (sym (step-on old steps p n digits here side some other)))
       (cases_Bool (is_link_of p n (link_at old (behind (link_at old here) side)))))
       (cases_eq (behind (link_at old here) side) 0)
@@ -423,8 +424,8 @@ module _ (old new : List Link) (parent number j : ℕ) (s : Side) (rising : IsRi
           (λ (at : here ≡ j).
           ⊎_elim
           (λ (way : side ≡ s).
-              subst (λ i. behind (link_at new i) side ≡ length old) (sym at)
-                  (subst (λ w. behind (link_at new j) w ≡ length old) (sym way) added.leads))
+          subst (λ i. behind (link_at new i) side ≡ length old) (sym at)
+          (subst (λ w. behind (link_at new j) w ≡ length old) (sym way) added.leads))
           (λ (other : side ≢ s). absurd (some (added.same here inside side (λ is. other is.1) ∙ none)))
           (cases_side side s))
           (λ (other : here ≢ j). absurd (some (added.same here inside side (λ is. other is.0) ∙ none)))

@@ -24,7 +24,7 @@ path_from-prefix (n ∷ q) s =
     let split : prefix (n ∷ q) ++ s ≡ prefix q ++ (replicate n Keep ++ (Give ∷ s)) = simp append_assoc in
     let e : 0 + n ≡ n = omega arith in
     ap (path_from [] 0) split ∙ path_from-prefix q (replicate n Keep ++ (Give ∷ s))
-        ∙ path_from-run q 0 n (Give ∷ s)
+    ∙ path_from-run q 0 n (Give ∷ s)
     ∙ ap (λ m. path_from (m ∷ q) 0 s) e
 
 pub path_of-keeps : (q : List ℕ) (l : ℕ) → path_of (keeps (prefix q) l) ≡ (q, l)
@@ -39,11 +39,11 @@ keeps-path_from up last [] = sym (append-nil _)
 keeps-path_from up last (Keep ∷ s) =
     let run : replicate (last + 1) Keep ≡ replicate last Keep ++ Keep ∷ [] = sym (replicate_more last Keep) in
     let e : keeps (prefix up) (last + 1) ++ s ≡ keeps (prefix up) last ++ Keep ∷ s =
-        ap (λ r. (prefix up ++ r) ++ s) run ∙ simp append_assoc in
+    ap (λ r. (prefix up ++ r) ++ s) run ∙ simp append_assoc in
     keeps-path_from up (last + 1) s ∙ e
 keeps-path_from up last (Give ∷ s) =
     let e : keeps (prefix (last ∷ up)) 0 ++ s ≡ keeps (prefix up) last ++ Give ∷ s =
-        simp (append_assoc, append-nil) in
+    simp (append_assoc, append-nil) in
     keeps-path_from (last ∷ up) 0 s ∙ e
 
 -- each share has a path
@@ -52,8 +52,8 @@ keeps-path_of s = keeps-path_from [] 0 s
 
 pub keeps_apart : (p q : List ℕ) (m l : ℕ) → keeps (prefix p) m ≡ keeps (prefix q) l → (p ≡ q) × (m ≡ l)
 keeps_apart p q m l e =
-    let pairs : ◌≡◌ { A = List ℕ × ℕ } (p, m) (q, l) =
-        sym (path_of-keeps p m) ∙ ap path_of e ∙ path_of-keeps q l in
+    let pairs : ◌≡◌ {A = List ℕ × ℕ} (p, m) (q, l) =
+    sym (path_of-keeps p m) ∙ ap path_of e ∙ path_of-keeps q l in
     (ap (λ x. x.0) pairs, ap (λ x. x.1) pairs)
 
 pub keeps-none : (s : List Half) → keeps s 0 ≡ s
@@ -66,14 +66,14 @@ prefix-reverse_on : (runs up : List ℕ) → prefix (reverse runs ++ up) ≡ pre
 prefix-reverse_on [] up = sym (append-nil (prefix up))
 prefix-reverse_on (n ∷ runs) up =
     let e : reverse (n ∷ runs) ++ up ≡ reverse runs ++ (n ∷ up) =
-        ap (λ s. s ++ up) (reverse-append (n ∷ []) runs) ∙ append_assoc (reverse runs) (n ∷ []) up in
+    ap (λ s. s ++ up) (reverse-append (n ∷ []) runs) ∙ append_assoc (reverse runs) (n ∷ []) up in
     ap prefix e ∙ prefix-reverse_on runs (n ∷ up) ∙ simp append_assoc
 
 pub finish_share-path : (runs : List ℕ) (last : ℕ)
     → finish_share runs last ≡ keeps (prefix (reverse runs)) last
 finish_share-path runs last =
     let e : prefix (reverse runs) ≡ start_share runs =
-        ap prefix (sym (append-nil (reverse runs))) ∙ prefix-reverse_on runs [] in
+    ap prefix (sym (append-nil (reverse runs))) ∙ prefix-reverse_on runs [] in
     ap (λ s. keeps s last) (sym e)
 
 pub path_of-finish_share : (runs : List ℕ) (last : ℕ)
@@ -84,15 +84,15 @@ path_of-finish_share runs last = ap path_of (finish_share-path runs last) ∙ pa
 pub prefix-parent : (n : ℕ) (up : List ℕ) → begins_with (prefix (n ∷ up)) (prefix up) ≡ true
 prefix-parent n up =
     let e : prefix (n ∷ up) ≡ prefix up ++ (replicate n Keep ++ Give ∷ []) =
-        append_assoc (prefix up) (replicate n Keep) (Give ∷ []) in
+    append_assoc (prefix up) (replicate n Keep) (Give ∷ []) in
     subst (λ s. begins_with s (prefix up) ≡ true) (sym e)
-        (begins_with-longer (prefix up) (replicate n Keep ++ Give ∷ []))
+    (begins_with-longer (prefix up) (replicate n Keep ++ Give ∷ []))
 
 pub prefix-above : (xs up : List ℕ) → begins_with (prefix (xs ++ up)) (prefix up) ≡ true
 prefix-above [] up = begins_with-itself (prefix up)
 prefix-above (n ∷ xs) up =
     begins_with_through (prefix (n ∷ (xs ++ up))) (prefix (xs ++ up)) (prefix up) (prefix-parent n (xs ++ up))
-        (prefix-above xs up)
+    (prefix-above xs up)
 
 pub length-keeps : (s : List Half) (m : ℕ) → length (keeps s m) ≡ length s + m
 length-keeps s m = length-append s (replicate m Keep) ∙ ap (λ k. length s + k) (length-replicate m Keep)
@@ -104,14 +104,14 @@ length-prefix n up =
 pub keeps-longer : (s : List Half) (m l : ℕ) → l ≤ m → begins_with (keeps s m) (keeps s l) ≡ true
 keeps-longer s m zero less =
     subst (λ r. begins_with (keeps s m) r ≡ true) (sym (append-nil s))
-        (begins_with-longer s (replicate m Keep))
+    (begins_with-longer s (replicate m Keep))
 keeps-longer s zero (suc l) less = absurd (omega arith)
 keeps-longer s (suc m) (suc l) less =
     let e : (k : ℕ) → keeps (s ++ Keep ∷ []) k ≡ keeps s (suc k) =
-        λ k. append_assoc s (Keep ∷ []) (replicate k Keep) in
+    λ k. append_assoc s (Keep ∷ []) (replicate k Keep) in
     subst (λ r. begins_with r (keeps s (suc l)) ≡ true) (e m)
     (subst (λ r. begins_with (keeps (s ++ Keep ∷ []) m) r ≡ true) (e l)
-        (keeps-longer (s ++ Keep ∷ []) m l (omega arith)))
+    (keeps-longer (s ++ Keep ∷ []) m l (omega arith)))
 
 -- what begins a share, begins what it was before its last half, or is the share
 pub begins_with-push : (x : List Half) (h : Half) (y : List Half) → begins_with (x ++ h ∷ []) y ≡ true
@@ -132,13 +132,13 @@ pub begins_with-keeps : (x : List Half) (m : ℕ) (y : List Half) → begins_wit
 begins_with-keeps x zero y e = inl (subst (λ s. begins_with s y ≡ true) (append-nil x) e)
 begins_with-keeps x (suc m) y e =
     let shift : (k : ℕ) → keeps (x ++ Keep ∷ []) k ≡ keeps x (suc k) =
-        λ k. append_assoc x (Keep ∷ []) (replicate k Keep) in
+    λ k. append_assoc x (Keep ∷ []) (replicate k Keep) in
     ⊎_elim
     (λ (first : begins_with (x ++ Keep ∷ []) y ≡ true).
     ⊎_elim (λ begun. inl begun) (λ (whole : y ≡ x ++ Keep ∷ []). inr (1, omega arith, whole))
-        (begins_with-push x Keep y first))
+    (begins_with-push x Keep y first))
     (λ (second : (j : ℕ) × (j ≤ m) × (y ≡ keeps (x ++ Keep ∷ []) j)).
-        inr (suc second.0, omega (arith, second.1), second.2 ∙ shift second.0))
+    inr (suc second.0, omega (arith, second.1), second.2 ∙ shift second.0))
     (begins_with-keeps (x ++ Keep ∷ []) m y (subst (λ s. begins_with s y ≡ true) (sym (shift m)) e))
 
 pub begins_with-empty : (y : List Half) → begins_with [] y ≡ true → y ≡ []
@@ -153,9 +153,9 @@ pub data IsBegun (p : List ℕ) (m : ℕ) (q : List ℕ) (l : ℕ) : Type 0 wher
 IsBegun-lift : (n : ℕ) (p : List ℕ) (m : ℕ) (q : List ℕ) (l : ℕ) → IsBegun p n q l → IsBegun (n ∷ p) m q l
 IsBegun-lift n p m q l (here same less) =
     higher n
-        (subst (λ r. begins_with (prefix (n ∷ p)) (prefix (n ∷ r)) ≡ true) (sym same)
-            (begins_with-itself (prefix (n ∷ p))))
-        less
+    (subst (λ r. begins_with (prefix (n ∷ p)) (prefix (n ∷ r)) ≡ true) (sym same)
+    (begins_with-itself (prefix (n ∷ p))))
+    less
 IsBegun-lift n p m q l (higher k begun less) =
     higher k (begins_with_through (prefix (n ∷ p)) (prefix p) (prefix (k ∷ q)) (prefix-parent n p) begun) less
 

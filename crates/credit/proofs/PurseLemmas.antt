@@ -59,7 +59,7 @@ pub IsHeldFrom-no_run : (shares : List (List Half)) (at : List ℕ → Progress)
     → IsHeldFrom shares None (keeps (prefix p) m)
 IsHeldFrom-no_run shares at known p m none empty =
     IsHeldFrom-none shares (prefix p) m
-        (λ j i t there begun. from_run j i t (IsRun-begun shares at known.counted p none j i t there begun))
+    (λ j i t there begun. from_run j i t (IsRun-begun shares at known.counted p none j i t there begun))
   where
     from_run : (j i : ℕ) (t : List Half) → IsRun shares at p j i t → ⊥
     from_run j i t (is_run l less same run) = none_some (record { keeps = l; time = i }) (sym empty ∙ run)
@@ -70,14 +70,14 @@ pub IsHeldFrom-run : (shares : List (List Half)) (at : List ℕ → Progress) �
     → IsHeldFrom shares (Some (r.time + 1)) (keeps (prefix p) m)
 IsHeldFrom-run shares at known p m r run less =
     IsHeldFrom-entered shares known.counted.apart r.time (keeps (prefix p) r.keeps) (keeps (prefix p) m)
-        (known.counted.run p r run) (keeps-longer (prefix p) m r.keeps less)
+    (known.counted.run p r run) (keeps-longer (prefix p) m r.keeps less)
 
 -- a node's own share
 pub IsHeldFrom-node : (shares : List (List Half)) (at : List ℕ → Progress) → IsKnown shares at → (p : List ℕ)
     → time_above at p ≡ None → IsHeldFrom shares (at p).since (keeps (prefix p) 0)
 IsHeldFrom-node shares at known p none =
     subst (λ s. IsHeldFrom shares (at p).since s) (sym (keeps-none (prefix p)))
-        (known.since p (IsClear-above shares at known.counted p none))
+    (known.since p (IsClear-above shares at known.counted p none))
 
 -- ---- children one after another
 
@@ -117,7 +117,7 @@ by_all since start first zero upto late all = le-leb start upto late
 by_all since start first (suc count) upto late all =
     is_by-of_both (since_all since start first count) (since (first + count)) upto
     (by_all since start first count upto late (λ j low high. all j low (omega arith)))
-        (all (first + count) (omega arith) (omega arith))
+    (all (first + count) (omega arith) (omega arith))
 
 pub since_all-none : (since : ℕ → Option ℕ) (start first count more : ℕ)
     → since_all since start first count ≡ None → since_all since start first (count + more) ≡ None
@@ -126,35 +126,35 @@ since_all-none since start first count zero e =
 since_all-none since start first count (suc more) e =
     let same : count + suc more ≡ suc (count + more) = omega arith in
     ap (since_all since start first) same
-        ∙ ap (λ o. both_of o (since (first + (count + more)))) (since_all-none since start first count more e)
+    ∙ ap (λ o. both_of o (since (first + (count + more)))) (since_all-none since start first count more e)
 
 pub since_all-same : (since other : ℕ → Option ℕ) → ((n : ℕ) → since n ≡ other n) → (start first count : ℕ)
     → since_all since start first count ≡ since_all other start first count
 since_all-same since other same start first zero = refl
 since_all-same since other same start first (suc count) =
     ap (λ o. both_of o (since (first + count))) (since_all-same since other same start first count)
-        ∙ ap (both_of (since_all other start first count)) (same (first + count))
+    ∙ ap (both_of (since_all other start first count)) (same (first + count))
 
 -- a run that goes on behind the share
 pub IsHeldFrom-children : (shares : List (List Half)) (at : List ℕ → Progress) → IsKnown shares at
     → (p : List ℕ) (m : ℕ) (r : Run) → time_above at p ≡ None → (at p).run ≡ Some r → m ≤ r.keeps
     → IsHeldFrom shares (since_all (λ n. (at (n ∷ p)).since) (r.time + 1) m (r.keeps - m))
-        (keeps (prefix p) m)
+    (keeps (prefix p) m)
 IsHeldFrom-children shares at known p m r none run less upto = (
   (λ by.
       let parts = all_by (λ n. (at (n ∷ p)).since) (r.time + 1) m (r.keeps - m) upto by in
       Hold-run (take upto shares) (prefix p) r.time r.keeps
       (slice_get-of_take shares upto r.time (keeps (prefix p) r.keeps) (omega (arith, parts.0))
-          (known.counted.run p r run))
+      (known.counted.run p r run))
       (r.keeps - m) m (omega arith)
       (λ j low high. (known.since (j ∷ p) (clear j high) upto).0 (parts.1 j low (omega arith)))),
   (λ held.
       by_all (λ n. (at (n ∷ p)).since) (r.time + 1) m (r.keeps - m) upto (late held)
       (λ j low high. (known.since (j ∷ p) (clear j (omega arith)) upto).1
-      ( Hold-longer (take upto shares) (keeps (prefix p) j) (prefix (j ∷ p))
-          (begins_with-longer (keeps (prefix p) j) _)
+      (Hold-longer (take upto shares) (keeps (prefix p) j) (prefix (j ∷ p))
+      (begins_with-longer (keeps (prefix p) j) _)
       (Hold-longer (take upto shares) (keeps (prefix p) m) (keeps (prefix p) j)
-          (keeps-longer (prefix p) j m low) held)))),
+      (keeps-longer (prefix p) j m low) held)))),
 )
   where
     clear : (j : ℕ) → j < r.keeps → IsClear shares (prefix (j ∷ p))
@@ -186,13 +186,13 @@ child_since-at tree p index found n = by_child (child tree index n) refl
     by_child None e =
         ap (option_and_then (λ k. (node_at tree k).progress.since)) e
         ∙ sym
-            (ap (λ (x : Progress). x.since)
-                (progress_at-none tree (n ∷ p) (place-child (child tree) n p index found ∙ e)))
+        (ap (λ (x : Progress). x.since)
+        (progress_at-none tree (n ∷ p) (place-child (child tree) n p index found ∙ e)))
     by_child (Some k) e =
         ap (option_and_then (λ k. (node_at tree k).progress.since)) e
         ∙ sym
-            (ap (λ (x : Progress). x.since)
-                (progress_at-place tree (n ∷ p) k (place-child (child tree) n p index found ∙ e)))
+        (ap (λ (x : Progress). x.since)
+        (progress_at-place tree (n ∷ p) k (place-child (child tree) n p index found ∙ e)))
 
 -- ---- overlaps
 
@@ -205,19 +205,19 @@ overlaps-above shares at known p m time e = from_entered (IsEnteredIn-above shar
     from_entered (entered_in t there begun) =
         list_any-found (overlaps (keeps (prefix p) m)) shares time t there
         (or_left _ _
-            (begins_with_through (keeps (prefix p) m) (prefix p) t (begins_with-longer (prefix p) _) begun))
+        (begins_with_through (keeps (prefix p) m) (prefix p) t (begins_with-longer (prefix p) _) begun))
 
 pub overlaps-run : (shares : List (List Half)) (at : List ℕ → Progress) → IsKnown shares at
     → (p : List ℕ) (m : ℕ) (r : Run) → (at p).run ≡ Some r
     → list_any (overlaps (keeps (prefix p) m)) shares ≡ true
 overlaps-run shares at known p m r e =
     list_any-found (overlaps (keeps (prefix p) m)) shares r.time (keeps (prefix p) r.keeps)
-        (known.counted.run p r e)
+    (known.counted.run p r e)
     (⊎_elim
     (λ (less : r.keeps < m). or_left _ _ (keeps-longer (prefix p) m r.keeps (omega arith)))
     (λ (more : m ≤ r.keeps).
-        or_right (begins_with (keeps (prefix p) m) (keeps (prefix p) r.keeps)) _
-            (keeps-longer (prefix p) r.keeps m more))
+    or_right (begins_with (keeps (prefix p) m) (keeps (prefix p) r.keeps)) _
+    (keeps-longer (prefix p) r.keeps m more))
     (cases_lt r.keeps m))
 
 -- a node below which a run was entered stands
@@ -229,17 +229,17 @@ place-run tree q r e missing =
 pub overlaps-none : (shares : List (List Half)) (tree : Tree) → IsKnown shares (progress_at tree)
     → (p : List ℕ) (m : ℕ) → time_above (progress_at tree) p ≡ None → (progress_at tree p).run ≡ None
     → ((n k : ℕ) → place (child tree) (n ∷ p) ≡ Some k → n < m)
-        → list_any (overlaps (keeps (prefix p) m)) shares ≡ false
+    → list_any (overlaps (keeps (prefix p) m)) shares ≡ false
 overlaps-none shares tree known p m none empty low =
     list_any-none (overlaps (keeps (prefix p) m)) shares
     (λ i t there either.
     ⊎_elim
-        (λ shorter.
-            from_run i t (IsRun-begun shares (progress_at tree) known.counted p none m i t there shorter))
+    (λ shorter.
+    from_run i t (IsRun-begun shares (progress_at tree) known.counted p none m i t there shorter))
     (λ longer.
-        from_begun i t there
-            (IsBegun-share (path_of t).0 (path_of t).1 p m
-                (subst (λ x. begins_with x (keeps (prefix p) m) ≡ true) (sym (keeps-path_of t)) longer)))
+    from_begun i t there
+    (IsBegun-share (path_of t).0 (path_of t).1 p m
+    (subst (λ x. begins_with x (keeps (prefix p) m) ≡ true) (sym (keeps-path_of t)) longer)))
     (or_cases (begins_with (keeps (prefix p) m) t) (begins_with t (keeps (prefix p) m)) either))
   where
     from_run : (i : ℕ) (t : List Half) → IsRun shares (progress_at tree) p m i t → ⊥
@@ -257,14 +257,14 @@ overlaps-none shares tree known p m none empty low =
         by_place : (o : Option ℕ) → place (child tree) (n ∷ p) ≡ o → ⊥
         by_place None f =
             place-run tree (path_of t).0 (record { keeps = (path_of t).1; time = i }) (run_of i t there)
-                (ap (place (child tree)) e ∙ place-none (child tree) xs (n ∷ p) f)
+            (ap (place (child tree)) e ∙ place-none (child tree) xs (n ∷ p) f)
         by_place (Some k) f = let less = low n k f in omega arith
 
     from_begun : (i : ℕ) (t : List Half) → slice_get shares i ≡ Some t
         → IsBegun (path_of t).0 (path_of t).1 p m → ⊥
     from_begun i t there (here same less) =
         none_some (record { keeps = (path_of t).1; time = i })
-            (sym empty ∙ ap (λ q. (progress_at tree q).run) same ∙ run_of i t there)
+        (sym empty ∙ ap (λ q. (progress_at tree q).run) same ∙ run_of i t there)
     from_begun i t there (higher n begun more) =
         below i t there n more (IsAbove-prefix (path_of t).0 (n ∷ p) begun)
 
@@ -276,8 +276,8 @@ IsFree-overlaps shares s none = record {
       λ i t there begun. both_ways _ none (list_any-found (overlaps s) shares i t there (or_left _ _ begun));
   longer =
       λ i t there begun.
-          both_ways _ none
-              (list_any-found (overlaps s) shares i t there (or_right (begins_with s t) _ begun));
+      both_ways _ none
+      (list_any-found (overlaps s) shares i t there (or_right (begins_with s t) _ begun));
 }
 
 -- ---- one tree in place of another
@@ -300,8 +300,8 @@ IsKnown-empty at empty = record {
   };
   since =
       λ up clear.
-          subst (λ o. IsHeldFrom [] o (prefix up)) (sym (ap (λ (p : Progress). p.since) (empty up)))
-              (never up);
+      subst (λ o. IsHeldFrom [] o (prefix up)) (sym (ap (λ (p : Progress). p.since) (empty up)))
+      (never up);
 }
   where
     off : (up : List ℕ) → is_some (at up).since ≡ false
@@ -327,18 +327,18 @@ pub run_at : (tree : Tree) (p : List ℕ) (index : ℕ) (node : Node) (o : Optio
     → (progress_at tree p).run ≡ o
 run_at tree p index node o found same e =
     ap (λ (x : Progress). x.run) (progress_at-place tree p index found)
-        ∙ ap (λ (x : Node). x.progress.run) (sym same) ∙ e
+    ∙ ap (λ (x : Node). x.progress.run) (sym same) ∙ e
 
 pub since_at : (tree : Tree) (p : List ℕ) (index : ℕ) (node : Node) → place (child tree) p ≡ Some index
     → node ≡ node_at tree index → (progress_at tree p).since ≡ node.progress.since
 since_at tree p index node found same =
     ap (λ (x : Progress). x.since) (progress_at-place tree p index found)
-        ∙ ap (λ (x : Node). x.progress.since) (sym same)
+    ∙ ap (λ (x : Node). x.progress.since) (sym same)
 
 pub overlaps-seen : (shares seen : List (List Half)) (s : List Half) (b : Bool) → shares ≡ seen
     → list_any (overlaps (keeps (prefix (path_of s).0) (path_of s).1)) shares ≡ b
     → b ≡ list_any (overlaps s) seen
 overlaps-seen shares seen s b view e =
     sym
-        (sym (ap (λ x. list_any (overlaps s) x) view)
-            ∙ ap (λ x. list_any (overlaps x) shares) (sym (keeps-path_of s)) ∙ e)
+    (sym (ap (λ x. list_any (overlaps s) x) view)
+    ∙ ap (λ x. list_any (overlaps x) shares) (sym (keeps-path_of s)) ∙ e)

@@ -49,21 +49,21 @@ and-assoc false b c = refl
 
 pub begins_with-runs : (runs : List ℕ) (last : ℕ) (others : List ℕ) (other : ℕ)
     → begins_with (finish_share runs last) (finish_share others other)
-        ≡ (starts_with nat_eq runs others && leb other (get_or runs (length others) last))
+    ≡ (starts_with nat_eq runs others && leb other (get_or runs (length others) last))
 begins_with-runs [] last [] other = begins_with-last last other
 begins_with-runs (n ∷ runs) last [] other =
     ap (λ s. begins_with s (replicate other Keep)) (finish_share-cons n runs last)
-        ∙ begins_with-run n other (finish_share runs last)
+    ∙ begins_with-run n other (finish_share runs last)
 begins_with-runs [] last (m ∷ others) other =
     ap (begins_with (replicate last Keep)) (finish_share-cons m others other)
-        ∙ begins_with-give last m (finish_share others other)
+    ∙ begins_with-give last m (finish_share others other)
 begins_with-runs (n ∷ runs) last (m ∷ others) other =
     let rest = begins_with-runs runs last others other in
     let both = begins_with-both n m (finish_share runs last) (finish_share others other) in
     let one = finish_share-cons n runs last in
     let two = finish_share-cons m others other in
     rw (one, two, both, rest)
-        (and-assoc (eqb m n) (starts_with nat_eq runs others) (leb other (get_or runs (length others) last)))
+    (and-assoc (eqb m n) (starts_with nat_eq runs others) (leb other (get_or runs (length others) last)))
 
 -- one more half
 pub finish_share-keep : (runs : List ℕ) (last : ℕ)
@@ -93,7 +93,7 @@ gives_in_share (n ∷ runs) last =
     let one : ℕ = sum_by (λ h. cond (is_give h) 1 0) (replicate n Keep) in
     let none : sum_by (λ h. cond (is_give h) 1 0) (replicate n Keep) ≡ 0 = gives_in_run n in
     let rest : sum_by (λ h. cond (is_give h) 1 0) (finish_share runs last) ≡ length runs =
-        gives_in_share runs last in
+    gives_in_share runs last in
     rw finish_share-cons (omega (
       arith,
       none,
@@ -109,19 +109,25 @@ length-start_share-more path i within =
     let one = take_more path i 0 within in
     let run = get_or path i 0 in
     rw one
-        (rw start_share-append
-            (omega
-                (arith, length-append (start_share (take i path)) ((replicate run Keep ++ Give ∷ []) ++ []),
-                    length-append (replicate run Keep ++ Give ∷ []) [],
-                    length-append (replicate run Keep) (Give ∷ []), length-replicate run Keep)))
+    (rw start_share-append
+    (omega (
+      arith,
+      length-append (start_share (take i path)) ((replicate run Keep ++ Give ∷ []) ++ []),
+      length-append (replicate run Keep ++ Give ∷ []) [],
+      length-append (replicate run Keep) (Give ∷ []),
+      length-replicate run Keep,
+    )))
 
 -- a run is no longer than its share
 pub run-le : (runs : List ℕ) (i : ℕ) → get_or runs i 0 ≤ length (start_share runs)
 run-le [] i = omega arith
 run-le (n ∷ runs) zero =
-    omega
-        (arith, length-append (replicate n Keep ++ Give ∷ []) (start_share runs),
-            length-append (replicate n Keep) (Give ∷ []), length-replicate n Keep)
+    omega (
+      arith,
+      length-append (replicate n Keep ++ Give ∷ []) (start_share runs),
+      length-append (replicate n Keep) (Give ∷ []),
+      length-replicate n Keep,
+    )
 run-le (n ∷ runs) (suc i) =
     omega (arith, run-le runs i, length-append (replicate n Keep ++ Give ∷ []) (start_share runs))
 
@@ -130,5 +136,5 @@ pub length-start_share-take : (runs : List ℕ) (i : ℕ)
     → length (start_share (take i runs)) ≤ length (start_share runs)
 length-start_share-take runs i =
     let split : start_share runs ≡ start_share (take i runs) ++ start_share (drop i runs) =
-        ap start_share (sym (take-append-drop i runs)) ∙ start_share-append (take i runs) (drop i runs) in
+    ap start_share (sym (take-append-drop i runs)) ∙ start_share-append (take i runs) (drop i runs) in
     omega (arith, ap length split, length-append (start_share (take i runs)) (start_share (drop i runs)))

@@ -55,8 +55,8 @@ pub known_held : (shares : List (List Half)) (since : Option ℕ) (s : List Half
     → Hold shares s → is_some since ≡ true
 known_held shares since s from held =
     is_by_some since (length shares)
-        ((from (length shares)).1
-            (subst (λ r. Hold r s) (sym (take_all (length shares) shares (omega arith))) held))
+    ((from (length shares)).1
+    (subst (λ r. Hold r s) (sym (take_all (length shares) shares (omega arith))) held))
 
 -- each child's time is right
 abbrev pub ChildrenKnown : List (List Half) → (List ℕ → Progress) → List ℕ → Type 0
@@ -74,9 +74,9 @@ Hold-complete shares at counted up known r run even =
     let held = count_below-all r.keeps r.keeps (λ n. is_some (at (n ∷ up)).since) (omega arith)
     (λ n some. held_child-before shares at counted up r n run some)
     (counted.count up r.keeps (λ n some. held_child-before shares at counted up r n run some) ∙ even) j high
-        in
+    in
     all_held shares (at (j ∷ up)).since (prefix (j ∷ up))
-        (known j (IsClear-child shares at counted up r j run high)) held))
+    (known j (IsClear-child shares at counted up r j run high)) held))
 
 -- and the other way round
 pub IsFull-held : (shares : List (List Half)) (at : List ℕ → Progress) → IsCounted shares at → (up : List ℕ)
@@ -90,28 +90,28 @@ IsFull-held shares at counted up known clear held = by_run (at up).run refl
         (λ (first : begins_with (prefix up) t ≡ true).
         let same : prefix up ≡ t = same_begun (prefix up) t first (clear i t there first) in
         none_some (record { keeps = 0; time = i })
-            (sym empty
-                ∙ counted.entered i up 0
-                    (there ∙ ap (λ r. Some r) (sym same ∙ sym (keeps-none (prefix up))))))
+        (sym empty
+        ∙ counted.entered i up 0
+        (there ∙ ap (λ r. Some r) (sym same ∙ sym (keeps-none (prefix up))))))
         (λ (second : (l : ℕ) × (l ≤ j) × (t ≡ keeps (prefix up) l)).
         none_some (record { keeps = second.0; time = i })
-            (sym empty ∙ counted.entered i up second.0 (there ∙ ap (λ r. Some r) second.2)))
+        (sym empty ∙ counted.entered i up second.0 (there ∙ ap (λ r. Some r) second.2)))
         (begins_with-keeps (prefix up) j t begun)
 
     by_run : (o : Option Run) → (at up).run ≡ o → IsFull (at up)
     by_run None e =
         absurd
-            (Hold-no_run shares (prefix up) 0 (none_begun e)
-                (subst (λ s. Hold shares s) (sym (keeps-none (prefix up))) held))
+        (Hold-no_run shares (prefix up) 0 (none_begun e)
+        (subst (λ s. Hold shares s) (sym (keeps-none (prefix up))) held))
     by_run (Some r) e =
         full r e
         (sym (counted.count up r.keeps (λ n some. held_child-before shares at counted up r n e some))
         ∙ count_below-full r.keeps r.keeps (λ n. is_some (at (n ∷ up)).since) (omega arith)
         (λ n some. held_child-before shares at counted up r n e some)
         (
-            λ j high.
-                known_held shares (at (j ∷ up)).since (prefix (j ∷ up))
-                    (known j (IsClear-child shares at counted up r j e high))
+        λ j high.
+        known_held shares (at (j ∷ up)).since (prefix (j ∷ up))
+        (known j (IsClear-child shares at counted up r j e high))
         (Hold-longer shares (prefix up) (prefix (j ∷ up)) (prefix-parent j up) held)))
 
 pub same_path : (p q : List ℕ) → (p ≡ q) ⊎ (p ≢ q)
@@ -121,7 +121,7 @@ same_path (n ∷ p) [] = inr (λ e. absurd (cc))
 same_path (n ∷ p) (m ∷ q) =
     ⊎_elim
     (λ (first : n ≡ m).
-        ⊎_elim (λ (rest : p ≡ q). inl (cc)) (λ (apart : p ≢ q). inr (λ e. apart (cc))) (same_path p q))
+    ⊎_elim (λ (rest : p ≡ q). inl (cc)) (λ (apart : p ≢ q). inr (λ e. apart (cc))) (same_path p q))
     (λ (apart : n ≢ m). inr (λ e. apart (cc)))
     (cases_eq n m)
 
@@ -141,18 +141,18 @@ marked_since shares at new up was (full r run count) mark upto = (
       (Hold-complete shares at was.counted up known r run count)),
   (λ held. ap (λ o. is_by o upto) mark
       ∙ ⊎_elim
-          (λ (early : upto < length shares).
-              absurd (was.unheld up (begins_with-itself (prefix up)) upto early held))
+      (λ (early : upto < length shares).
+      absurd (was.unheld up (begins_with-itself (prefix up)) upto early held))
       (λ (late : length shares ≤ upto). le-leb (length shares) upto late) (cases_lt upto (length shares))),
 )
   where
     known : ChildrenKnown shares at up
     known k clear = was.settled (k ∷ up)
         (false_from_ne_true _
-            (λ e.
-                let short = length-begins_with (prefix up) (prefix (k ∷ up)) e in
-                omega (arith, short, length-prefix k up)))
-            clear
+        (λ e.
+        let short = length-begins_with (prefix up) (prefix (k ∷ up)) e in
+        omega (arith, short, length-prefix k up)))
+        clear
 
 marked_run : (shares : List (List Half)) (at new : List ℕ → Progress) (here : List ℕ) (time : ℕ)
     → IsCounted shares at → IsFull (at here) → IsMarked at new here time → (up : List ℕ)
@@ -161,7 +161,7 @@ marked_run shares at new here time counted (full r run count) marked up some =
     ⊎_elim
     (λ (same : up ≡ here). ap is_some (marked.run up ∙ ap (λ q. (at q).run) same ∙ run))
     (λ (other : up ≢ here).
-        ap is_some (marked.run up) ∙ counted.held up (ap is_some (sym (marked.since up other)) ∙ some))
+    ap is_some (marked.run up) ∙ counted.held up (ap is_some (sym (marked.since up other)) ∙ some))
     (same_path up here)
 
 -- the runs of a marked tree are those that it had
@@ -182,7 +182,7 @@ IsRunKnown-marked shares at new here time counted marked = record {
 pub IsSettling-parent : (shares : List (List Half)) (at new : List ℕ → Progress) (n : ℕ) (up : List ℕ)
     → IsSettling shares at (n ∷ up) → IsFull (at (n ∷ up)) → IsMarked at new (n ∷ up) (length shares)
     → (new up).held_children ≡ (at up).held_children + 1
-        → ((q : List ℕ) → q ≢ up → (new q).held_children ≡ (at q).held_children) → IsSettling shares new up
+    → ((q : List ℕ) → q ≢ up → (new q).held_children ≡ (at q).held_children) → IsSettling shares new up
 IsSettling-parent shares at new n up was is_full marked more others = record {
   counted = record {
     apart = was.counted.apart;
@@ -193,8 +193,8 @@ IsSettling-parent shares at new n up was is_full marked more others = record {
   };
   clear = λ i t there begun.
       let below =
-          was.clear i t there
-              (begins_with_through (prefix (n ∷ up)) (prefix up) t (prefix-parent n up) begun) in
+      was.clear i t there
+      (begins_with_through (prefix (n ∷ up)) (prefix up) t (prefix-parent n up) begun) in
       omega (arith, below, length-prefix n up);
   unmarked = λ q begun. marked.since q (apart_from_node q begun) ∙ was.unmarked q (lower q begun);
   unheld = λ q begun. was.unheld q (lower q begun);
@@ -225,7 +225,7 @@ IsSettling-parent shares at new n up was is_full marked more others = record {
     within q bound below k some =
         ⊎_elim
         (λ (same : k ∷ q ≡ n ∷ up).
-            absurd (both_ways _ off (sym (ap (λ p. is_some (at p).since) same) ∙ some)))
+        absurd (both_ways _ off (sym (ap (λ p. is_some (at p).since) same) ∙ some)))
         (λ (other : k ∷ q ≢ n ∷ up). below k (ap is_some (marked.since (k ∷ q) other) ∙ some))
         (same_path (k ∷ q) (n ∷ up))
 
@@ -248,14 +248,14 @@ IsSettling-parent shares at new n up was is_full marked more others = record {
         count_at_parent q same bound below =
             let less : n < bound = below n (ap (λ p. is_some (new (n ∷ p)).since) same ∙ on) in
             let one =
-                count_below-more bound (λ k. is_some (at (k ∷ q)).since) (λ k. is_some (new (k ∷ q)).since) n
-                    less
+            count_below-more bound (λ k. is_some (at (k ∷ q)).since) (λ k. is_some (new (k ∷ q)).since) n
+            less
             (ap (λ p. is_some (at (n ∷ p)).since) same ∙ off)
-                (ap (λ p. is_some (new (n ∷ p)).since) same ∙ on)
+            (ap (λ p. is_some (new (n ∷ p)).since) same ∙ on)
             (λ k other. ap is_some (sym (marked.since (k ∷ q) (λ e. other (cc))))) in
             one
-                ∙ ap (λ x. x + 1)
-                    (was.counted.count q bound (within q bound below) ∙ ap (λ p. (at p).held_children) same)
+            ∙ ap (λ x. x + 1)
+            (was.counted.count q bound (within q bound below) ∙ ap (λ p. (at p).held_children) same)
             ∙ sym more ∙ ap (λ p. (new p).held_children) (sym same)
 
     settled : (q : List ℕ) → begins_with (prefix up) (prefix q) ≡ false → IsClear shares (prefix q)
@@ -264,12 +264,12 @@ IsSettling-parent shares at new n up was is_full marked more others = record {
         ⊎_elim
         (λ (same : q ≡ n ∷ up).
         subst (λ p. IsHeldFrom shares (new p).since (prefix p)) (sym same)
-            (marked_since shares at new (n ∷ up) was is_full marked.mark))
+        (marked_since shares at new (n ∷ up) was is_full marked.mark))
         (λ (other : q ≢ n ∷ up).
         subst (λ o. IsHeldFrom shares o (prefix q)) (sym (marked.since q other))
         (was.settled q
-            (false_from_ne_true _ (λ begun. not_above q apart other (IsAbove-prefix (n ∷ up) q begun)))
-            clear))
+        (false_from_ne_true _ (λ begun. not_above q apart other (IsAbove-prefix (n ∷ up) q begun)))
+        clear))
         (same_path q (n ∷ up))
       where
         not_above : (q : List ℕ) → begins_with (prefix up) (prefix q) ≡ false → q ≢ n ∷ up
@@ -291,19 +291,19 @@ IsKnown-root shares at new was is_full marked same_count = record {
     held = marked_run shares at new [] (length shares) was.counted is_full marked;
     count = λ q bound below.
         count_below-same bound (λ k. is_some (new (k ∷ q)).since) (λ k. is_some (at (k ∷ q)).since)
-            (λ k less. ap is_some (child_since k q))
+        (λ k less. ap is_some (child_since k q))
         ∙ was.counted.count q bound (λ k some. below k (ap is_some (child_since k q) ∙ some))
-            ∙ sym (same_count q);
+        ∙ sym (same_count q);
   };
   since = λ q clear.
       ⊎_elim
       (λ (same : q ≡ []).
-          subst (λ p. IsHeldFrom shares (new p).since (prefix p)) (sym same)
-              (marked_since shares at new [] was is_full marked.mark))
+      subst (λ p. IsHeldFrom shares (new p).since (prefix p)) (sym same)
+      (marked_since shares at new [] was is_full marked.mark))
       (λ (other : q ≢ []). subst (λ o. IsHeldFrom shares o (prefix q)) (sym (marked.since q other))
       (was.settled q
-          (false_from_ne_true _ (λ begun. other (prefix_apart q [] (begins_with-empty (prefix q) begun))))
-          clear))
+      (false_from_ne_true _ (λ begun. other (prefix_apart q [] (begins_with-empty (prefix q) begun))))
+      clear))
       (same_path q []);
 }
   where
@@ -321,7 +321,7 @@ IsKnown-stopped shares at here was not_full = record {
   since = λ q clear.
       ⊎_elim
       (λ (begun : begins_with (prefix here) (prefix q) ≡ true).
-          subst (λ o. IsHeldFrom shares o (prefix q)) (sym (was.unmarked q begun)) (never q begun))
+      subst (λ o. IsHeldFrom shares o (prefix q)) (sym (was.unmarked q begun)) (never q begun))
       (λ (apart : begins_with (prefix here) (prefix q) ≡ false). was.settled q apart clear)
       (cases_Bool (begins_with (prefix here) (prefix q)));
 }
@@ -329,10 +329,10 @@ IsKnown-stopped shares at here was not_full = record {
     known : ChildrenKnown shares at here
     known k clear = was.settled (k ∷ here)
         (false_from_ne_true _
-            (λ e.
-                let short = length-begins_with (prefix here) (prefix (k ∷ here)) e in
-                omega (arith, short, length-prefix k here)))
-            clear
+        (λ e.
+        let short = length-begins_with (prefix here) (prefix (k ∷ here)) e in
+        omega (arith, short, length-prefix k here)))
+        clear
 
     never : (q : List ℕ) → begins_with (prefix here) (prefix q) ≡ true → IsHeldFrom shares None (prefix q)
     never q begun upto = (
@@ -342,7 +342,7 @@ IsKnown-stopped shares at here was not_full = record {
           (λ (late : length shares ≤ upto).
           not_full (IsFull-held shares at was.counted here known was.clear
           (Hold-longer shares (prefix q) (prefix here) begun
-              (subst (λ x. Hold x (prefix q)) (take_all upto shares late) held))))
+          (subst (λ x. Hold x (prefix q)) (take_all upto shares late) held))))
           (cases_lt upto (length shares)))),
     )
 
@@ -389,7 +389,7 @@ either_order : (a b : ℕ) → (a ≤ b) ⊎ (b ≤ a)
 either_order a b = ⊎_elim (λ (less : a < b). inl (omega arith)) (λ (more : b ≤ a). inr more) (cases_lt a b)
 
 run_same : (a b i j : ℕ) → a ≡ b → i ≡ j
-    → ◌≡◌ { A = Option Run } (Some (record { keeps = a; time = i })) (Some (record { keeps = b; time = j }))
+    → ◌≡◌ {A = Option Run} (Some (record { keeps = a; time = i })) (Some (record { keeps = b; time = j }))
 run_same a b i j e f = cc
 
 -- a share that does not overlap this one changes nothing for it
@@ -399,19 +399,19 @@ IsHeldFrom-push : (shares : List (List Half)) (s t : List Half) (since : Option 
 IsHeldFrom-push shares s t since apart off from upto =
     ⊎_elim
     (λ (early : upto ≤ length shares).
-        subst (λ x. (is_by since upto ≡ true) ↔ Hold x t) (sym (take-append-le upto shares (s ∷ []) early))
-            (from upto))
+    subst (λ x. (is_by since upto ≡ true) ↔ Hold x t) (sym (take-append-le upto shares (s ∷ []) early))
+    (from upto))
     (λ (late : length shares < upto).
     let all : take upto (shares ++ s ∷ []) ≡ shares ++ s ∷ [] =
-        take_all upto (shares ++ s ∷ []) (omega (arith, late, length-append shares (s ∷ []))) in
+    take_all upto (shares ++ s ∷ []) (omega (arith, late, length-append shares (s ∷ []))) in
     let was : take upto shares ≡ shares = take_all upto shares (omega arith) in (
       (λ by.
           subst (λ x. Hold x t) (sym all)
-              (Hold-append shares (s ∷ []) t (subst (λ x. Hold x t) was ((from upto).0 by)))),
+          (Hold-append shares (s ∷ []) t (subst (λ x. Hold x t) was ((from upto).0 by)))),
       (λ held.
           (from upto).1
-              (subst (λ x. Hold x t) (sym was)
-                  (Hold-without shares s t apart off (subst (λ x. Hold x t) all held)))),
+          (subst (λ x. Hold x t) (sym was)
+          (Hold-without shares s t apart off (subst (λ x. Hold x t) all held)))),
     ))
     (either_lt upto (length shares))
   where
@@ -421,7 +421,7 @@ IsHeldFrom-push shares s t since apart off from upto =
 pub IsSettling-entered : (shares : List (List Half)) (at new : List ℕ → Progress) (p : List ℕ) (m : ℕ)
     → IsKnown shares at → IsFree shares (keeps (prefix p) m)
     → IsRunPut at new p (record { keeps = m; time = length shares })
-        → IsSettling (shares ++ keeps (prefix p) m ∷ []) new p
+    → IsSettling (shares ++ keeps (prefix p) m ∷ []) new p
 IsSettling-entered shares at new p m known free put = record {
   counted = record { apart = apart; run = run; entered = entered; held = held; count = count };
   clear = λ i t there begun. clear_case i t begun (IsPushed-from shares s i t there);
@@ -431,7 +431,7 @@ IsSettling-entered shares at new p m known free put = record {
       nothing q begun upto (subst (λ x. Hold x (prefix q)) (take-append-le upto shares (s ∷ []) short) held);
   settled =
       λ q off clear.
-          subst (λ o. IsHeldFrom (shares ++ s ∷ []) o (prefix q)) (sym (put.since q)) (settled q off clear);
+      subst (λ o. IsHeldFrom (shares ++ s ∷ []) o (prefix q)) (sym (put.since q)) (settled q off clear);
 }
   where
     s : List Half
@@ -446,9 +446,9 @@ IsSettling-entered shares at new p m known free put = record {
         let there = known.counted.run p r e in
         absurd (⊎_elim
         (λ (less : r.keeps ≤ m).
-            free.shorter r.time (keeps (prefix p) r.keeps) there (keeps-longer (prefix p) m r.keeps less))
+        free.shorter r.time (keeps (prefix p) r.keeps) there (keeps-longer (prefix p) m r.keeps less))
         (λ (less : m ≤ r.keeps).
-            free.longer r.time (keeps (prefix p) r.keeps) there (keeps-longer (prefix p) r.keeps m less))
+        free.longer r.time (keeps (prefix p) r.keeps) there (keeps-longer (prefix p) r.keeps m less))
         (either_order r.keeps m))
 
     no_run : (at p).run ≡ None
@@ -473,15 +473,15 @@ IsSettling-entered shares at new p m known free put = record {
         ⊎_elim
         (λ (same : up ≡ p).
         let this : record { keeps = m; time = length shares } ≡ r =
-            same_some (record { keeps = m; time = length shares }) r
-                (sym put.put ∙ ap (λ q. (new q).run) (sym same) ∙ e) in
+        same_some (record { keeps = m; time = length shares }) r
+        (sym put.put ∙ ap (λ q. (new q).run) (sym same) ∙ e) in
         let keeps_m : m ≡ r.keeps = ap (λ (x : Run). x.keeps) this in
         let when : length shares ≡ r.time = ap (λ (x : Run). x.time) this in
         ap (slice_get (shares ++ s ∷ [])) (sym when) ∙ slice_get-push_last shares s
         ∙ ap (λ k. Some (keeps (prefix p) k)) keeps_m ∙ ap (λ q. Some (keeps (prefix q) r.keeps)) (sym same))
         (λ (other : up ≢ p).
-            slice_get-push_old shares s r.time (keeps (prefix up) r.keeps)
-                (known.counted.run up r (sym (put.other up other) ∙ e)))
+        slice_get-push_old shares s r.time (keeps (prefix up) r.keeps)
+        (known.counted.run up r (sym (put.other up other) ∙ e)))
         (same_path up p)
 
     entered_case : (time : ℕ) (up : List ℕ) (count : ℕ) → IsPushed shares s time (keeps (prefix up) count)
@@ -490,9 +490,9 @@ IsSettling-entered shares at new p m known free put = record {
         let was = known.counted.entered time up count there in
         ⊎_elim
         (λ (same : up ≡ p).
-            absurd
-                (none_some (record { keeps = count; time = time })
-                    (sym no_run ∙ ap (λ q. (at q).run) (sym same) ∙ was)))
+        absurd
+        (none_some (record { keeps = count; time = time })
+        (sym no_run ∙ ap (λ q. (at q).run) (sym same) ∙ was)))
         (λ (other : up ≢ p). put.other up other ∙ was)
         (same_path up p)
     entered_case time up count (last e same) =
@@ -510,16 +510,16 @@ IsSettling-entered shares at new p m known free put = record {
         ⊎_elim
         (λ (same : up ≡ p). ap is_some (ap (λ q. (new q).run) same ∙ put.put))
         (λ (other : up ≢ p).
-            ap is_some (put.other up other) ∙ known.counted.held up (ap is_some (sym (put.since up)) ∙ some))
+        ap is_some (put.other up other) ∙ known.counted.held up (ap is_some (sym (put.since up)) ∙ some))
         (same_path up p)
 
     count : (up : List ℕ) (bound : ℕ) → ((n : ℕ) → is_some (new (n ∷ up)).since ≡ true → n < bound)
         → count_below bound (λ n. is_some (new (n ∷ up)).since) ≡ (new up).held_children
     count up bound below =
         count_below-same bound (λ n. is_some (new (n ∷ up)).since) (λ n. is_some (at (n ∷ up)).since)
-            (λ n less. ap is_some (put.since (n ∷ up)))
+        (λ n less. ap is_some (put.since (n ∷ up)))
         ∙ known.counted.count up bound (λ n some. below n (ap is_some (put.since (n ∷ up)) ∙ some))
-            ∙ sym (put.count up)
+        ∙ sym (put.count up)
 
     clear_case : (i : ℕ) (t : List Half) → begins_with (prefix p) t ≡ true → IsPushed shares s i t
         → length (prefix p) ≤ length t
@@ -534,18 +534,18 @@ IsSettling-entered shares at new p m known free put = record {
         (λ i t there on. free.shorter i t (slice_get-take shares upto i t there).1 on)
         (λ i t there on. free.longer i t (slice_get-take shares upto i t there).1 on)
         (Hold-longer (take upto shares) (prefix q) s (begins_with_through s (prefix p) (prefix q) s_p begun)
-            held)
+        held)
 
     unmarked : (q : List ℕ) → begins_with (prefix p) (prefix q) ≡ true → (o : Option ℕ) → (at q).since ≡ o
         → (at q).since ≡ None
     unmarked q begun None e = e
     unmarked q begun (Some x) e =
         let clear : IsClear shares (prefix q) =
-            λ i t there on.
-                absurd
-                    (free.shorter i t there
-                        (begins_with_through s (prefix q) t
-                            (begins_with_through s (prefix p) (prefix q) s_p begun) on)) in
+        λ i t there on.
+        absurd
+        (free.shorter i t there
+        (begins_with_through s (prefix q) t
+        (begins_with_through s (prefix p) (prefix q) s_p begun) on)) in
         let by : is_by (at q).since x ≡ true = ap (λ o. is_by o x) e ∙ le-leb x x (omega arith) in
         absurd (nothing q begun x ((known.since q clear x).0 by))
 
@@ -554,8 +554,8 @@ IsSettling-entered shares at new p m known free put = record {
     settled q off clear =
         IsHeldFrom-push shares s (prefix q) (at q).since
         (λ on. both_ways _ off
-        ( let whole : prefix q ≡ s =
-            same_begun (prefix q) s on (clear (length shares) s (slice_get-push_last shares s) on) in
+        (let whole : prefix q ≡ s =
+        same_begun (prefix q) s on (clear (length shares) s (slice_get-push_last shares s) on) in
         let same : q ≡ p = (keeps_apart q p 0 m (keeps-none (prefix q) ∙ whole)).0 in
         subst (λ r. begins_with (prefix p) (prefix r) ≡ true) (sym same) (begins_with-itself (prefix p))))
         (λ on. both_ways _ off

@@ -92,7 +92,7 @@ pub list_any_weaker : {X : Type 0} (p q : X → Bool) → ((x : X) → p x ≡ t
 list_any_weaker p q weaker [] h = h
 list_any_weaker p q weaker (x ∷ xs) h =
     ⊎_elim (λ here. or_left _ _ (weaker x here))
-        (λ there. or_right (q x) _ (list_any_weaker p q weaker xs there))
+    (λ there. or_right (q x) _ (list_any_weaker p q weaker xs there))
     (or_cases (p x) (list_any p xs) h)
 
 -- the list of halves is at least as long as the share

@@ -19,7 +19,7 @@ use Rattle.credit.proofs.UpdateLemmas.{progress_at-kept, progress_at-field, held
 module _ (shares : List (List Half)) (old new : Tree) (index : ℕ) (linked : IsLinked old)
     (some : 0 < length old.nodes.items)
     (nodes : new.nodes.items ≡ set old.nodes.items index (with_since (node_at old index) (length shares)))
-        (links : new.links ≡ old.links) where
+    (links : new.links ≡ old.links) where
   -- a node was marked
   marked-update : (up : List ℕ) → place (child old) up ≡ Some index
       → IsUpdated old new index (with_since (node_at old index) (length shares))
@@ -34,7 +34,7 @@ module _ (shares : List (List Half)) (old new : Tree) (index : ℕ) (linked : Is
   pub IsLinked-marked : (up : List ℕ) → place (child old) up ≡ Some index → IsLinked new
   IsLinked-marked up here =
       IsLinked-updated old new index (with_since (node_at old index) (length shares)) (marked-update up here)
-          linked
+      linked
 
   pub length-marked : (up : List ℕ) → place (child old) up ≡ Some index
       → length new.nodes.items ≡ length old.nodes.items
@@ -46,35 +46,35 @@ module _ (shares : List (List Half)) (old new : Tree) (index : ℕ) (linked : Is
   IsMarked-mark up here = record {
     mark =
         ap (λ (p : Progress). p.since)
-            (progress_at-updated old new index (with_since (node_at old index) (length shares))
-                (marked-update up here) up here);
+        (progress_at-updated old new index (with_since (node_at old index) (length shares))
+        (marked-update up here) up here);
     run =
         progress_at-field old new index (with_since (node_at old index) (length shares))
-            (marked-update up here) (λ p. p.run) linked up here refl;
+        (marked-update up here) (λ p. p.run) linked up here refl;
     since =
         λ q other.
-            ap (λ (p : Progress). p.since)
-                (progress_at-kept old new index (with_since (node_at old index) (length shares))
-                    (marked-update up here) linked up here q other);
+        ap (λ (p : Progress). p.since)
+        (progress_at-kept old new index (with_since (node_at old index) (length shares))
+        (marked-update up here) linked up here q other);
   }
 
   pub held-marked : (up : List ℕ) → place (child old) up ≡ Some index → (q : List ℕ)
       → (progress_at new q).held_children ≡ (progress_at old q).held_children
   held-marked up here =
       progress_at-field old new index (with_since (node_at old index) (length shares)) (marked-update up here)
-          (λ p. p.held_children) linked up here refl
+      (λ p. p.held_children) linked up here refl
 
   -- the node above it
   pub place-above : (n : ℕ) (up : List ℕ) → place (child old) (n ∷ up) ≡ Some index
       → place (child new) up ≡ Some (node_at new index).parent
   place-above n up here =
       updated-place old new index (with_since (node_at old index) (length shares))
-          (marked-update (n ∷ up) here) up
-          ∙ place-parent old linked n up index here
+      (marked-update (n ∷ up) here) up
+      ∙ place-parent old linked n up index here
       ∙ ap (λ k. Some k)
-          (sym
-              (updated-parent old new index (with_since (node_at old index) (length shares))
-                  (marked-update (n ∷ up) here) index))
+      (sym
+      (updated-parent old new index (with_since (node_at old index) (length shares))
+      (marked-update (n ∷ up) here) index))
 
   pub count-small : (n : ℕ) (up : List ℕ) → place (child old) (n ∷ up) ≡ Some index
       → IsCounted shares (progress_at old)
@@ -82,18 +82,18 @@ module _ (shares : List (List Half)) (old new : Tree) (index : ℕ) (linked : Is
   count-small n up here counted =
       let above = place-above n up here in
       let was =
-          updated-place old new index (with_since (node_at old index) (length shares))
-              (marked-update (n ∷ up) here) up in
+      updated-place old new index (with_since (node_at old index) (length shares))
+      (marked-update (n ∷ up) here) up in
       let small =
-          held_children-small shares old linked counted up (node_at new index).parent (sym was ∙ above) in
+      held_children-small shares old linked counted up (node_at new index).parent (sym was ∙ above) in
       let seen : (progress_at old up).held_children
-              ≡ (node_at old (node_at new index).parent).progress.held_children =
-          ap (λ (p : Progress). p.held_children)
-              (progress_at-place old up (node_at new index).parent (sym was ∙ above)) in
+      ≡ (node_at old (node_at new index).parent).progress.held_children =
+      ap (λ (p : Progress). p.held_children)
+      (progress_at-place old up (node_at new index).parent (sym was ∙ above)) in
       let now : (progress_at new up).held_children
-              ≡ (node_at new (node_at new index).parent).progress.held_children =
-          ap (λ (p : Progress). p.held_children)
-              (progress_at-place new up (node_at new index).parent above) in
+      ≡ (node_at new (node_at new index).parent).progress.held_children =
+      ap (λ (p : Progress). p.held_children)
+      (progress_at-place new up (node_at new index).parent above) in
       omega (arith, small, seen, now, held-marked (n ∷ up) here up)
 
   full-there : (up : List ℕ) → place (child old) up ≡ Some index → IsFull (node_at old index).progress
@@ -104,14 +104,14 @@ module _ (shares : List (List Half)) (old new : Tree) (index : ℕ) (linked : Is
       → IsFull (node_at old index).progress → IsKnown shares (progress_at new)
   IsKnown-top here was is_full =
       IsKnown-root shares (progress_at old) (progress_at new) was (full-there [] here is_full)
-          (IsMarked-mark [] here) (held-marked [] here)
+      (IsMarked-mark [] here) (held-marked [] here)
 
   -- and its parent counted it
   module _ (last : Tree) (n : ℕ) (up : List ℕ) (here : place (child old) (n ∷ up) ≡ Some index)
       (nodes_last : last.nodes.items
-          ≡ set new.nodes.items (node_at new index).parent
-              (with_child (node_at new (node_at new index).parent)))
-          (links_last : last.links ≡ new.links) where
+      ≡ set new.nodes.items (node_at new index).parent
+      (with_child (node_at new (node_at new index).parent)))
+      (links_last : last.links ≡ new.links) where
     parent : ℕ
     parent = (node_at new index).parent
 
@@ -126,7 +126,7 @@ module _ (shares : List (List Half)) (old new : Tree) (index : ℕ) (linked : Is
     counted-update = record {
       inside =
           place-within new linked_new (omega (arith, some, length-marked (n ∷ up) here)) up
-              (node_at new index).parent above;
+          (node_at new index).parent above;
       nodes = nodes_last;
       links = links_last;
       parent = refl;
@@ -136,28 +136,28 @@ module _ (shares : List (List Half)) (old new : Tree) (index : ℕ) (linked : Is
     pub IsLinked-counted : IsLinked last
     IsLinked-counted =
         IsLinked-updated new last (node_at new index).parent
-            (with_child (node_at new (node_at new index).parent)) counted-update linked_new
+        (with_child (node_at new (node_at new index).parent)) counted-update linked_new
 
     pub place-counted : place (child last) up ≡ Some (node_at new index).parent
     place-counted =
         updated-place new last (node_at new index).parent
-            (with_child (node_at new (node_at new index).parent)) counted-update up
-            ∙ above
+        (with_child (node_at new (node_at new index).parent)) counted-update up
+        ∙ above
 
     pub length-counted : length last.nodes.items ≡ length old.nodes.items
     length-counted =
         updated-length new last (node_at new index).parent
-            (with_child (node_at new (node_at new index).parent)) counted-update
-            ∙ length-marked (n ∷ up) here
+        (with_child (node_at new (node_at new index).parent)) counted-update
+        ∙ length-marked (n ∷ up) here
 
     counted-field : {X : Type 0} (field : Progress → X)
         → field (with_child (node_at new (node_at new index).parent)).progress
-            ≡ field (node_at new (node_at new index).parent).progress
+        ≡ field (node_at new (node_at new index).parent).progress
         → (q : List ℕ) → field (progress_at last q) ≡ field (progress_at new q)
     counted-field field same q =
         progress_at-field new last (node_at new index).parent
-            (with_child (node_at new (node_at new index).parent)) counted-update field linked_new up above
-            same q
+        (with_child (node_at new (node_at new index).parent)) counted-update field linked_new up above
+        same q
 
     IsMarked-counted : IsMarked (progress_at old) (progress_at last) (n ∷ up) (length shares)
     IsMarked-counted =
@@ -171,29 +171,29 @@ module _ (shares : List (List Half)) (old new : Tree) (index : ℕ) (linked : Is
         → IsFull (node_at old index).progress → IsSettling shares (progress_at last) up
     IsSettling-counted was is_full =
         IsSettling-parent shares (progress_at old) (progress_at last) n up was
-            (full-there (n ∷ up) here is_full) IsMarked-counted
-        ( ap (λ (p : Progress). p.held_children)
-            (progress_at-updated new last (node_at new index).parent
-                (with_child (node_at new (node_at new index).parent)) counted-update up above)
+        (full-there (n ∷ up) here is_full) IsMarked-counted
+        (ap (λ (p : Progress). p.held_children)
+        (progress_at-updated new last (node_at new index).parent
+        (with_child (node_at new (node_at new index).parent)) counted-update up above)
         ∙ ap (λ k. k + 1)
-            (sym
-                (ap (λ (p : Progress). p.held_children)
-                    (progress_at-place new up (node_at new index).parent above))
-                ∙ held-marked (n ∷ up) here up))
+        (sym
+        (ap (λ (p : Progress). p.held_children)
+        (progress_at-place new up (node_at new index).parent above))
+        ∙ held-marked (n ∷ up) here up))
         (λ q other.
         ap (λ (p : Progress). p.held_children)
-            (progress_at-kept new last (node_at new index).parent
-                (with_child (node_at new (node_at new index).parent)) counted-update linked_new up above q
-                other)
+        (progress_at-kept new last (node_at new index).parent
+        (with_child (node_at new (node_at new index).parent)) counted-update linked_new up above q
+        other)
         ∙ held-marked (n ∷ up) here q)
 
 -- a run was put down at the node of a share that overlaps no other one
 module _ (shares : List (List Half)) (old new : Tree) (index : ℕ) (s : List Half) (linked : IsLinked old)
     (here : place (child old) (path_of s).0 ≡ Some index) (inside : index < length old.nodes.items)
     (nodes : new.nodes.items
-        ≡ set old.nodes.items index
-            (with_run (node_at old index) (record { keeps = (path_of s).1; time = length shares })))
-        (links : new.links ≡ old.links) where
+    ≡ set old.nodes.items index
+    (with_run (node_at old index) (record { keeps = (path_of s).1; time = length shares })))
+    (links : new.links ≡ old.links) where
   put-update : IsUpdated old new index
       (with_run (node_at old index) (record { keeps = (path_of s).1; time = length shares }))
   put-update = record { inside = inside; nodes = nodes; links = links; parent = refl; reach = refl }
@@ -201,8 +201,8 @@ module _ (shares : List (List Half)) (old new : Tree) (index : ℕ) (s : List Ha
   pub IsLinked-put : IsLinked new
   IsLinked-put =
       IsLinked-updated old new index
-          (with_run (node_at old index) (record { keeps = (path_of s).1; time = length shares })) put-update
-          linked
+      (with_run (node_at old index) (record { keeps = (path_of s).1; time = length shares })) put-update
+      linked
 
   IsRunPut-put : IsRunPut (progress_at old) (progress_at new) (path_of s).0 (record {
     keeps = (path_of s).1;
@@ -211,23 +211,23 @@ module _ (shares : List (List Half)) (old new : Tree) (index : ℕ) (s : List Ha
   IsRunPut-put = record {
     put =
         ap (λ (p : Progress). p.run)
-            (progress_at-updated old new index
-                (with_run (node_at old index) (record { keeps = (path_of s).1; time = length shares }))
-                put-update (path_of s).0 here);
+        (progress_at-updated old new index
+        (with_run (node_at old index) (record { keeps = (path_of s).1; time = length shares }))
+        put-update (path_of s).0 here);
     other =
         λ q other.
-            ap (λ (p : Progress). p.run)
-                (progress_at-kept old new index
-                    (with_run (node_at old index) (record { keeps = (path_of s).1; time = length shares }))
-                    put-update linked (path_of s).0 here q other);
+        ap (λ (p : Progress). p.run)
+        (progress_at-kept old new index
+        (with_run (node_at old index) (record { keeps = (path_of s).1; time = length shares }))
+        put-update linked (path_of s).0 here q other);
     since =
         progress_at-field old new index
-            (with_run (node_at old index) (record { keeps = (path_of s).1; time = length shares })) put-update
-            (λ p. p.since) linked (path_of s).0 here refl;
+        (with_run (node_at old index) (record { keeps = (path_of s).1; time = length shares })) put-update
+        (λ p. p.since) linked (path_of s).0 here refl;
     count =
         progress_at-field old new index
-            (with_run (node_at old index) (record { keeps = (path_of s).1; time = length shares })) put-update
-            (λ p. p.held_children) linked (path_of s).0 here refl;
+        (with_run (node_at old index) (record { keeps = (path_of s).1; time = length shares })) put-update
+        (λ p. p.held_children) linked (path_of s).0 here refl;
   }
 
   pub IsSettling-put : IsKnown shares (progress_at old) → IsFree shares s
@@ -235,4 +235,4 @@ module _ (shares : List (List Half)) (old new : Tree) (index : ℕ) (s : List Ha
   IsSettling-put known free =
       subst (λ x. IsSettling (shares ++ x ∷ []) (progress_at new) (path_of s).0) (keeps-path_of s)
       (IsSettling-entered shares (progress_at old) (progress_at new) (path_of s).0 (path_of s).1 known
-          (subst (λ x. IsFree shares x) (sym (keeps-path_of s)) free) IsRunPut-put)
+      (subst (λ x. IsFree shares x) (sym (keeps-path_of s)) free) IsRunPut-put)

@@ -35,7 +35,7 @@ count_by-shares_where p test (c ∷ cs) =
     let rest = count_by-shares_where p test cs in
     cond_both (test c) (c ∷ filter test cs) (filter test cs)
     (λ (ds : List Credit).
-        count_by p (map (λ (c : Credit). c.share) ds) ≡ ones (test c && p c.share) + tally_where p test cs)
+    count_by p (map (λ (c : Credit). c.share) ds) ≡ ones (test c && p c.share) + tally_where p test cs)
     (λ yes.
     let first : ones (test c && p c.share) ≡ ones (p c.share) = ap (λ b. ones (b && p c.share)) yes in
     omega (arith, first, rest, sum_by-cons (λ s. ones (p s)) c.share (shares_where test cs)))
@@ -50,19 +50,21 @@ ones-either true false q = omega arith
 
 tally-either : (l : List Half) (root : ℕ) (cs : List Credit)
     → tally_where (λ s. begins_with l s) (is_live_of root) cs
-        + tally_where (λ s. begins_with l s) (is_entered_of root) cs
-        ≡ tally l root cs
+    + tally_where (λ s. begins_with l s) (is_entered_of root) cs
+    ≡ tally l root cs
 tally-either l root [] = refl
 tally-either l root (c ∷ cs) =
-    omega
-        (arith, tally-either l root cs,
-            ones-either (c.root == root) (is_entered c.holder) (begins_with l c.share))
+    omega (
+      arith,
+      tally-either l root cs,
+      ones-either (c.root == root) (is_entered c.holder) (begins_with l c.share),
+    )
 
 -- a list of halves begins with as many live and entered shares of the root as with shares of the root
 pub count_by-live-entered : (l : List Half) (root : ℕ) (cs : List Credit)
     → count_by (λ s. begins_with l s) (live_shares root cs)
-        + count_by (λ s. begins_with l s) (entered_shares root cs)
-        ≡ tally l root cs
+    + count_by (λ s. begins_with l s) (entered_shares root cs)
+    ≡ tally l root cs
 count_by-live-entered l root cs =
     omega (
       arith,
@@ -84,8 +86,7 @@ Fits-from_shares l root [] live entered = tt
 Fits-from_shares l root (c ∷ cs) live entered =
     let as_live = first_where (IsShort l) (is_live_of root c) c (filter (is_live_of root) cs) live in
     let as_entered =
-        first_where (IsShort l) (is_entered_of root c) c (filter (is_entered_of root) cs) entered in
-    (
+    first_where (IsShort l) (is_entered_of root c) c (filter (is_entered_of root) cs) entered in (
       (λ here. ⊎_elim
           (λ (yes : is_entered c.holder ≡ true). as_entered.0 (and_from _ _ here yes))
           (λ (no : is_entered c.holder ≡ false). as_live.0 (and_from _ _ here (ap not no)))
@@ -101,8 +102,11 @@ Tile-credits_after es root begun l long =
     let entered = entered_shares root (credits_after es) in
     let parts = ByRecursion-append (IsShort l) live entered (recursion_from_All (IsShort l) _ long) in
     let one =
-        (IsSound-credits_after es).one l root begun
-            (Fits-from_shares l root (credits_after es) parts.0 parts.1) in
-    omega
-        (arith, one, count_by-live-entered l root (credits_after es),
-            sum_by-append (λ s. ones (begins_with l s)) live entered)
+    (IsSound-credits_after es).one l root begun
+    (Fits-from_shares l root (credits_after es) parts.0 parts.1) in
+    omega (
+      arith,
+      one,
+      count_by-live-entered l root (credits_after es),
+      sum_by-append (λ s. ones (begins_with l s)) live entered,
+    )

@@ -42,9 +42,9 @@ pub time_above-missing : (tree : Tree) (xs up : List ℕ) → place (child tree)
 time_above-missing tree [] up missing none = none
 time_above-missing tree (n ∷ xs) up missing none =
     ap (λ o. first_of o (time_within (progress_at tree (xs ++ up)).run n))
-        (time_above-missing tree xs up missing none)
+    (time_above-missing tree xs up missing none)
     ∙ ap (λ (p : Progress). time_within p.run n)
-        (progress_at-none tree (xs ++ up) (place-none (child tree) xs up missing))
+    (progress_at-none tree (xs ++ up) (place-none (child tree) xs up missing))
 
 -- ---- a walk down the runs
 
@@ -53,7 +53,7 @@ pub place-more : (children : ℕ → ℕ → Option ℕ) (runs : List ℕ) (i in
     → children index (get_or runs i 0) ≡ next → place children (reverse (take (i + 1) runs)) ≡ next
 place-more children runs i index next less here step =
     ap (place children) (reverse_take_more runs i 0 less)
-        ∙ place-child children (get_or runs i 0) (reverse (take i runs)) index here ∙ step
+    ∙ place-child children (get_or runs i 0) (reverse (take i runs)) index here ∙ step
 
 pub place-missing : (children : ℕ → ℕ → Option ℕ) (runs : List ℕ) (i index : ℕ) → i < length runs
     → place children (reverse (take i runs)) ≡ Some index → children index (get_or runs i 0) ≡ None
@@ -61,37 +61,37 @@ pub place-missing : (children : ℕ → ℕ → Option ℕ) (runs : List ℕ) (i
 place-missing children runs i index less here step =
     ap (place children) (reverse_take runs (i + 1))
     ∙ place-none children (reverse (drop (i + 1) runs)) (reverse (take (i + 1) runs))
-        (place-more children runs i index None less here step)
+    (place-more children runs i index None less here step)
 
 pub time_above-more : (tree : Tree) (runs : List ℕ) (i index : ℕ) (next : Option ℕ) → i < length runs
     → place (child tree) (reverse (take i runs)) ≡ Some index
     → time_above (progress_at tree) (reverse (take i runs)) ≡ None
     → time_within (node_at tree index).progress.run (get_or runs i 0) ≡ next
-        → time_above (progress_at tree) (reverse (take (i + 1) runs)) ≡ next
+    → time_above (progress_at tree) (reverse (take (i + 1) runs)) ≡ next
 time_above-more tree runs i index next less here none run =
     ap (time_above (progress_at tree)) (reverse_take_more runs i 0 less)
     ∙ ap (λ o. first_of o (time_within (progress_at tree (reverse (take i runs))).run (get_or runs i 0))) none
     ∙ ap (λ (p : Progress). time_within p.run (get_or runs i 0))
-        (progress_at-place tree (reverse (take i runs)) index here)
-        ∙ run
+    (progress_at-place tree (reverse (take i runs)) index here)
+    ∙ run
 
 pub time_above-found : (tree : Tree) (runs : List ℕ) (i index time : ℕ) → i < length runs
     → place (child tree) (reverse (take i runs)) ≡ Some index
     → time_above (progress_at tree) (reverse (take i runs)) ≡ None
     → time_within (node_at tree index).progress.run (get_or runs i 0) ≡ Some time
-        → time_above (progress_at tree) (reverse runs) ≡ Some time
+    → time_above (progress_at tree) (reverse runs) ≡ Some time
 time_above-found tree runs i index time less here none run =
     ap (time_above (progress_at tree)) (reverse_take runs (i + 1))
     ∙ time_above-some (progress_at tree) (reverse (drop (i + 1) runs)) (reverse (take (i + 1) runs)) time
-        (time_above-more tree runs i index (Some time) less here none run)
+    (time_above-more tree runs i index (Some time) less here none run)
 
 pub time_above-stopped : (tree : Tree) (runs : List ℕ) (i index : ℕ) → i < length runs
     → place (child tree) (reverse (take i runs)) ≡ Some index
     → time_above (progress_at tree) (reverse (take i runs)) ≡ None
     → time_within (node_at tree index).progress.run (get_or runs i 0) ≡ None
-        → child tree index (get_or runs i 0) ≡ None → time_above (progress_at tree) (reverse runs) ≡ None
+    → child tree index (get_or runs i 0) ≡ None → time_above (progress_at tree) (reverse runs) ≡ None
 time_above-stopped tree runs i index less here none run step =
     ap (time_above (progress_at tree)) (reverse_take runs (i + 1))
     ∙ time_above-missing tree (reverse (drop (i + 1) runs)) (reverse (take (i + 1) runs))
     (place-more (child tree) runs i index None less here step)
-        (time_above-more tree runs i index None less here none run)
+    (time_above-more tree runs i index None less here none run)

@@ -98,8 +98,8 @@ module _ (old new : Tree) (index : ℕ) (node : Node) (updated : IsUpdated old n
   updated-parent i =
       ⊎_elim
       (λ (same : i ≡ index).
-          ap (λ j. (node_at new j).parent) same ∙ ap (λ (x : Node). x.parent) updated-here ∙ updated.parent
-              ∙ ap (λ j. (node_at old j).parent) (sym same))
+      ap (λ j. (node_at new j).parent) same ∙ ap (λ (x : Node). x.parent) updated-here ∙ updated.parent
+      ∙ ap (λ j. (node_at old j).parent) (sym same))
       (λ (other : i ≢ index). ap (λ (x : Node). x.parent) (updated-other i other))
       (cases_eq i index)
 
@@ -107,8 +107,8 @@ module _ (old new : Tree) (index : ℕ) (node : Node) (updated : IsUpdated old n
   updated-reach i =
       ⊎_elim
       (λ (same : i ≡ index).
-          ap (λ j. (node_at new j).reach) same ∙ ap (λ (x : Node). x.reach) updated-here ∙ updated.reach
-              ∙ ap (λ j. (node_at old j).reach) (sym same))
+      ap (λ j. (node_at new j).reach) same ∙ ap (λ (x : Node). x.reach) updated-here ∙ updated.reach
+      ∙ ap (λ j. (node_at old j).reach) (sym same))
       (λ (other : i ≢ index). ap (λ (x : Node). x.reach) (updated-other i other))
       (cases_eq i index)
 
@@ -124,8 +124,8 @@ module _ (old new : Tree) (index : ℕ) (node : Node) (updated : IsUpdated old n
     aligned = ap (λ v. length v.items) updated.links ∙ linked.aligned ∙ sym updated-length;
     within =
         λ i n k e.
-            let w = linked.within i n k (sym (updated-child i n) ∙ e) in
-            (w.0, omega (arith, w.1, updated-length));
+        let w = linked.within i n k (sym (updated-child i n) ∙ e) in
+        (w.0, omega (arith, w.1, updated-length));
     back = λ i n k e. updated-parent k ∙ linked.back i n k (sym (updated-child i n) ∙ e);
     apart = λ i m n k e f. linked.apart i m n k (sym (updated-child i m) ∙ e) (sym (updated-child i n) ∙ f);
     reach = λ i n k e. omega (arith, linked.reach i n k (sym (updated-child i n) ∙ e), updated-reach i);
@@ -146,8 +146,8 @@ module _ (old new : Tree) (index : ℕ) (node : Node) (updated : IsUpdated old n
       by_place (Some i) e =
           progress_at-place new q i (updated-place q ∙ e)
           ∙ ap (λ (x : Node). x.progress)
-              (updated-other i
-                  (λ same. apart (place-apart old linked q p index (e ∙ ap (λ x. Some x) same) here)))
+          (updated-other i
+          (λ same. apart (place-apart old linked q p index (e ∙ ap (λ x. Some x) same) here)))
           ∙ sym (progress_at-place old q i e)
 
   -- what the change leaves of a node's progress, it leaves everywhere
@@ -157,9 +157,9 @@ module _ (old new : Tree) (index : ℕ) (node : Node) (updated : IsUpdated old n
   progress_at-field field linked p here same q =
       ⊎_elim
       (λ (is : q ≡ p).
-          ap (λ r. field (progress_at new r)) is ∙ ap field (progress_at-updated p here) ∙ same
-              ∙ sym (ap field (progress_at-place old p index here))
-              ∙ ap (λ r. field (progress_at old r)) (sym is))
+      ap (λ r. field (progress_at new r)) is ∙ ap field (progress_at-updated p here) ∙ same
+      ∙ sym (ap field (progress_at-place old p index here))
+      ∙ ap (λ r. field (progress_at old r)) (sym is))
       (λ (other : q ≢ p). ap field (progress_at-kept linked p here q other))
       (same_path q p)
 
@@ -170,10 +170,14 @@ pub held_children-small : (shares : List (List Half)) (tree : Tree) → IsLinked
 held_children-small shares tree linked counted up k here =
     let count = counted.count up (node_at tree k).reach below in
     let same : (progress_at tree up).held_children ≡ (node_at tree k).progress.held_children =
-        ap (λ (p : Progress). p.held_children) (progress_at-place tree up k here) in
-    omega
-        (arith, count, same, linked.small k,
-            count_below-le (node_at tree k).reach (λ n. is_some (progress_at tree (n ∷ up)).since))
+    ap (λ (p : Progress). p.held_children) (progress_at-place tree up k here) in
+    omega (
+      arith,
+      count,
+      same,
+      linked.small k,
+      count_below-le (node_at tree k).reach (λ n. is_some (progress_at tree (n ∷ up)).since),
+    )
   where
     below : (n : ℕ) → is_some (progress_at tree (n ∷ up)).since ≡ true → n < (node_at tree k).reach
     below n some = by_place (place (child tree) (n ∷ up)) refl
@@ -181,6 +185,6 @@ held_children-small shares tree linked counted up k here =
         by_place : (o : Option ℕ) → place (child tree) (n ∷ up) ≡ o → n < (node_at tree k).reach
         by_place None e =
             absurd
-                (false≢true
-                    (sym (ap (λ (p : Progress). is_some p.since) (progress_at-none tree (n ∷ up) e)) ∙ some))
+            (false≢true
+            (sym (ap (λ (p : Progress). is_some p.since) (progress_at-none tree (n ∷ up) e)) ∙ some))
         by_place (Some j) e = linked.reach k n j (sym (place-child (child tree) n up k here) ∙ e)

@@ -55,7 +55,7 @@ spot_within links (suc steps) parent number digits here side =
     else if is_link_of parent number (link_at links (behind (link_at links here) side))
     then Found (behind (link_at links here) side)
     else spot_within links steps parent number (digits / 4) (behind (link_at links here) side)
-        (side_of digits)
+    (side_of digits)
 
 -- where the search for a child of this node ends
 abbrev pub spot_of : List Link → ℕ → ℕ → Spot

@@ -35,8 +35,8 @@ pub start-begun : (a b : ℕ) (runs others : List ℕ) (y z : List Half)
     → (a ≡ b) × (begins_with (start_share runs ++ y) (start_share others ++ z) ≡ true)
 start-begun a b runs others y z e =
     run-begun a b (start_share runs ++ y) (start_share others ++ z)
-    ( subst (λ u. begins_with u (replicate b Keep ++ Give ∷ (start_share others ++ z)) ≡ true)
-        (start-cons a runs y)
+    (subst (λ u. begins_with u (replicate b Keep ++ Give ∷ (start_share others ++ z)) ≡ true)
+    (start-cons a runs y)
     (subst (λ v. begins_with (start_share (a ∷ runs) ++ y) v ≡ true) (start-cons b others z) e))
 
 region-begun : (k l r q : ℕ) (y z : List Half) → k < 3 → l < 3
@@ -44,7 +44,7 @@ region-begun : (k l r q : ℕ) (y z : List Half) → k < 3 → l < 3
     → (k ≡ l) × (r ≡ q) × (begins_with y z ≡ true)
 region-begun k l r q y z small little e =
     let one =
-        start-begun (3 * (r / 2 ^ 32) + k) (3 * (q / 2 ^ 32) + l) (r % 2 ^ 32 ∷ []) (q % 2 ^ 32 ∷ []) y z e in
+    start-begun (3 * (r / 2 ^ 32) + k) (3 * (q / 2 ^ 32) + l) (r % 2 ^ 32 ∷ []) (q % 2 ^ 32 ∷ []) y z e in
     let two = start-begun (r % 2 ^ 32) (q % 2 ^ 32) [] [] y z one.1 in
     let upper : r / 2 ^ 32 ≡ q / 2 ^ 32 = omega (arith, one.0) in
     (omega (arith, one.0, upper), omega (arith, upper, two.0), two.1)
@@ -55,13 +55,13 @@ pub region-overlap : (k l r q : ℕ) (y z : List Half) → k < 3 → l < 3
 region-overlap k l r q y z small little e =
     ⊎_elim
     (λ first.
-        let h = region-begun k l r q y z small little first in
-        (h.0, h.1, Rattle.std.proofs.lemmas.Bool.or_left _ _ h.2))
+    let h = region-begun k l r q y z small little first in
+    (h.0, h.1, Rattle.std.proofs.lemmas.Bool.or_left _ _ h.2))
     (λ second.
-        let h = region-begun l k q r z y little small second in
-        (sym h.0, sym h.1, Rattle.std.proofs.lemmas.Bool.or_right (begins_with y z) _ h.2))
+    let h = region-begun l k q r z y little small second in
+    (sym h.0, sym h.1, Rattle.std.proofs.lemmas.Bool.or_right (begins_with y z) _ h.2))
     (or_cases (begins_with (start_share (region k r) ++ y) (start_share (region l q) ++ z))
-        (begins_with (start_share (region l q) ++ z) (start_share (region k r) ++ y)) e)
+    (begins_with (start_share (region l q) ++ z) (start_share (region k r) ++ y)) e)
 
 -- ---- pools
 
@@ -90,14 +90,14 @@ odd-overlap p q i j y z e =
     (λ first. let h = odd-begun p q i j y z first in (h.0, h.1))
     (λ second. let h = odd-begun q p j i z y second in (sym h.0, sym h.1))
     (or_cases (begins_with (start_share (odd_runs p i) ++ y) (start_share (odd_runs q j) ++ z))
-        (begins_with (start_share (odd_runs q j) ++ z) (start_share (odd_runs p i) ++ y)) e)
+    (begins_with (start_share (odd_runs q j) ++ z) (start_share (odd_runs p i) ++ y)) e)
 
 pub pool_runs-region : (root : ℕ) (parent : List ℕ) (number : ℕ) (y : List Half)
     → start_share (pool_runs root parent number) ++ y
-        ≡ start_share (region 1 root) ++ (start_share (odd_runs parent number) ++ y)
+    ≡ start_share (region 1 root) ++ (start_share (odd_runs parent number) ++ y)
 pool_runs-region root parent number y =
     ap (λ runs. start_share runs ++ y)
-        (append_assoc (region 1 root) (map (λ n. 2 * n + 1) parent) (2 * number ∷ []))
+    (append_assoc (region 1 root) (map (λ n. 2 * n + 1) parent) (2 * number ∷ []))
     ∙ ap (λ s. s ++ y) (start_share-append (region 1 root) (odd_runs parent number))
     ∙ append_assoc (start_share (region 1 root)) (start_share (odd_runs parent number)) y
 
@@ -136,7 +136,7 @@ IsRegion-flat_map a s f g each (e ∷ es) = join (IsRegion-flat_map a s f g each
       there = λ y h. ⊎_elim
           (λ (here : IsIn y (g e)). IsIn-append_left (a ++ y) (f e) (flat_map f es) ((each e).there y here))
           (λ (later : IsIn y (flat_map g es)).
-              IsIn-append_right (a ++ y) (f e) (flat_map f es) (rest.there y later))
+          IsIn-append_right (a ++ y) (f e) (flat_map f es) (rest.there y later))
           (IsIn-append_cases y (g e) (flat_map g es) h);
       back = λ x h over. ⊎_elim
           (λ (here : IsIn x (f e)). first_shifted x ((each e).back x here over))
@@ -152,11 +152,11 @@ second-region root None part s y k small r e =
     let h = region-overlap 2 k root r s y (omega arith) small e in (omega (arith, h.0), h.1)
 second-region root (Some child) part s y k small r e =
     let h =
-        region-overlap 1 k root r (start_share (odd_runs child.0 child.1) ++ part_halves part) y (omega arith)
-            small
+    region-overlap 1 k root r (start_share (odd_runs child.0 child.1) ++ part_halves part) y (omega arith)
+    small
     (ap (λ x. overlaps x (start_share (region k r) ++ y))
-        (sym (pool_runs-region root child.0 child.1 (part_halves part)))
-        ∙ e) in
+    (sym (pool_runs-region root child.0 child.1 (part_halves part)))
+    ∙ e) in
     (omega (arith, h.0), h.1)
 
 pub cond_in : (b : Bool) (y t : List Half) → IsIn y (cond b (t ∷ []) []) → (b ≡ true) × (y ≡ t)
@@ -173,22 +173,22 @@ tree_entry root s e = record {
   there = λ y h.
       let is = cond_in (e.root == root) y (tree_share e) h in
       inl
-          (ap (λ x. start_share (region 0 root) ++ x) is.1
-              ∙ ap (λ r. tree_code r (tree_share e)) (sym (eqb-true e.root root is.0)));
+      (ap (λ x. start_share (region 0 root) ++ x) is.1
+      ∙ ap (λ r. tree_code r (tree_share e)) (sym (eqb-true e.root root is.0)));
   back = λ x h over.
       ⊎_elim
       (λ (first : x ≡ tree_code e.root (tree_share e)).
       let same =
-          region-overlap 0 0 e.root root (tree_share e) s (omega arith) (omega arith)
-              (ap (λ u. overlaps u (start_share (region 0 root) ++ s)) (sym first) ∙ over) in
+      region-overlap 0 0 e.root root (tree_share e) s (omega arith) (omega arith)
+      (ap (λ u. overlaps u (start_share (region 0 root) ++ s)) (sym first) ∙ over) in
       shifted (tree_share e) (in_cond (e.root == root) (tree_share e) (eq-eqb e.root root same.1))
-          (first ∙ ap (λ r. tree_code r (tree_share e)) same.1))
+      (first ∙ ap (λ r. tree_code r (tree_share e)) same.1))
       (λ (rest : (x ≡ second_code e.root (parent_and_number e.path) e.part (tree_share e)) ⊎ ⊥).
       ⊎_elim
       (λ (second : x ≡ second_code e.root (parent_and_number e.path) e.part (tree_share e)).
       let h =
-          second-region e.root (parent_and_number e.path) e.part (tree_share e) s 0 (omega arith) root
-              (ap (λ u. overlaps u (start_share (region 0 root) ++ s)) (sym second) ∙ over) in
+      second-region e.root (parent_and_number e.path) e.part (tree_share e) s 0 (omega arith) root
+      (ap (λ u. overlaps u (start_share (region 0 root) ++ s)) (sym second) ∙ over) in
       absurd (omega (arith, h.0)))
       (λ none. absurd none) rest)
       h;
@@ -199,7 +199,7 @@ pub tree-region : (root : ℕ) (s : List Half) (entries : List Entry)
     → IsRegion (start_share (region 0 root)) s (all_codes entries) (tree_shares root entries)
 tree-region root s entries =
     IsRegion-flat_map (start_share (region 0 root)) s codes
-        (λ e. cond (e.root == root) (tree_share e ∷ []) []) (tree_entry root s) entries
+    (λ e. cond (e.root == root) (tree_share e ∷ []) []) (tree_entry root s) entries
 
 -- the halves of one child that came back with these entries
 abbrev pub child_part : List ℕ → ℕ → Option (List ℕ × ℕ) → Part → List (List Half)
@@ -210,7 +210,7 @@ child_part parent number (Some s) part =
 abbrev pub child_parts : ℕ → List ℕ → ℕ → List Entry → List (List Half)
 child_parts root parent number entries =
     flat_map (λ e. cond (e.root == root) (child_part parent number (parent_and_number e.path) e.part) [])
-        entries
+    entries
 
 pub second-here : (root : ℕ) (parent : List ℕ) (number : ℕ) (child : Option (List ℕ × ℕ)) (part : Part)
     (s y : List Half)
@@ -222,36 +222,36 @@ second-here root parent number (Some c) part s y h =
     let both = and_parts (is_same_path c.0 parent) (c.1 == number) is.0 in
     ap (λ x. start_share (pool_runs root parent number) ++ x) is.1
     ∙ ap (λ p. start_share (pool_runs root p number) ++ part_halves part)
-        (sym (same_path-true c.0 parent both.0))
+    (sym (same_path-true c.0 parent both.0))
     ∙ ap (λ n. start_share (pool_runs root c.0 n) ++ part_halves part) (sym (eqb-true c.1 number both.1))
 
 pub second-back : (root : ℕ) (parent : List ℕ) (number : ℕ) (own : ℕ) (child : Option (List ℕ × ℕ))
     (part : Part) (s : List Half)
     → overlaps (second_code own child part s) (start_share (pool_runs root parent number) ++ []) ≡ true
     → (own ≡ root)
-        × IsShifted (start_share (pool_runs root parent number)) (second_code own child part s)
-            (child_part parent number child part)
+    × IsShifted (start_share (pool_runs root parent number)) (second_code own child part s)
+    (child_part parent number child part)
 second-back root parent number own None part s e =
     let h =
-        region-overlap 2 1 own root s (start_share (odd_runs parent number) ++ []) (omega arith) (omega arith)
-            (ap (overlaps (start_share (region 2 own) ++ s)) (sym (pool_runs-region root parent number []))
-                ∙ e) in
+    region-overlap 2 1 own root s (start_share (odd_runs parent number) ++ []) (omega arith) (omega arith)
+    (ap (overlaps (start_share (region 2 own) ++ s)) (sym (pool_runs-region root parent number []))
+    ∙ e) in
     absurd (omega (arith, h.0))
 second-back root parent number own (Some c) part s e =
     let h =
-        region-overlap 1 1 own root (start_share (odd_runs c.0 c.1) ++ part_halves part)
-            (start_share (odd_runs parent number) ++ []) (omega arith) (omega arith)
-    ( ap (overlaps (start_share (region 1 own) ++ (start_share (odd_runs c.0 c.1) ++ part_halves part)))
-        (sym (pool_runs-region root parent number []))
+    region-overlap 1 1 own root (start_share (odd_runs c.0 c.1) ++ part_halves part)
+    (start_share (odd_runs parent number) ++ []) (omega arith) (omega arith)
+    (ap (overlaps (start_share (region 1 own) ++ (start_share (odd_runs c.0 c.1) ++ part_halves part)))
+    (sym (pool_runs-region root parent number []))
     ∙ ap (λ x. overlaps x (start_share (pool_runs root parent number) ++ []))
-        (sym (pool_runs-region own c.0 c.1 (part_halves part)))
-        ∙ e) in
+    (sym (pool_runs-region own c.0 c.1 (part_halves part)))
+    ∙ e) in
     let same = odd-overlap c.0 parent c.1 number (part_halves part) [] h.2 in (
       h.1,
       shifted (part_halves part)
           (in_cond (is_same_path c.0 parent && (c.1 == number)) (part_halves part)
           (and_from _ _ (ap (is_same_path c.0) (sym same.0) ∙ same_path-itself c.0)
-              (eq-eqb c.1 number same.1)))
+          (eq-eqb c.1 number same.1)))
           (ap (λ r. start_share (pool_runs r c.0 c.1) ++ part_halves part) h.1
           ∙ ap (λ p. start_share (pool_runs root p c.1) ++ part_halves part) same.0
           ∙ ap (λ n. start_share (pool_runs root parent n) ++ part_halves part) same.1),

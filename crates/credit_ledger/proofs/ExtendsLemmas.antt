@@ -44,7 +44,7 @@ go_on-calls : (entries : List Entry) (more : List Step)
 go_on-calls entries [] = go_on-refl entries
 go_on-calls entries (s ∷ more) =
     go_on-chain entries (after_call entries s.call)
-        (fold (λ es (t : Step). after_call es t.call) (after_call entries s.call) more)
+    (fold (λ es (t : Step). after_call es t.call) (after_call entries s.call) more)
     (go_on-call entries s.call) (go_on-calls (after_call entries s.call) more)
 
 -- a longer history leaves the entries of the shorter one
@@ -52,8 +52,8 @@ pub starts-go_on : (history first : List Step) → StartsWith history first
     → GoOn (entries_after first) (entries_after history)
 starts-go_on history first (more, is) =
     subst (λ h. GoOn (entries_after first) (entries_after h)) (sym is)
-    ( subst (GoOn (entries_after first))
-        (sym (fold-append (λ es (s : Step). after_call es s.call) [] first more))
+    (subst (GoOn (entries_after first))
+    (sym (fold-append (λ es (s : Step). after_call es s.call) [] first more))
     (go_on-calls (entries_after first) more))
 
 -- the last call of a legal history was possible, and its reply was the length that it met
@@ -68,7 +68,7 @@ pub met : (v w : View) (call : Call) (reply : ℕ) → Extends v call reply w
     → (before : List Step) × GoOn (entries_after v.seen) (entries_after before)
     × GoOn (entries_after v.told) (entries_after before) × IsPossible (entries_after before) call
     × (reply ≡ length (entries_after before))
-        × (entries_after w.seen ≡ after_call (entries_after before) call)
+    × (entries_after w.seen ≡ after_call (entries_after before) call)
 met v w call reply e =
     let s : Step = record { seat = v.number; call = call; reply = reply } in
     let last = last_call [] e.before s (subst (IsLegalFrom []) e.ends e.legal) in (
@@ -87,7 +87,7 @@ extends-go_on v w call reply e =
     let m = met v w call reply e in
     subst (GoOn (entries_after v.seen)) (sym m.5)
     (go_on-chain (entries_after v.seen) (entries_after m.0) (after_call (entries_after m.0) call) m.1
-        (go_on-call (entries_after m.0) call))
+    (go_on-call (entries_after m.0) call))
 
 -- the reply is no less than the length that the seat knew
 pub reply-known : (v w : View) (call : Call) (reply : ℕ) → Extends v call reply w
@@ -114,7 +114,7 @@ entered-there v w entry index e =
     record {
       stands =
           subst (λ es. slice_get es index ≡ Some entry) (sym m.5)
-              (get_last (entries_after m.0) entry index m.4);
+          (get_last (entries_after m.0) entry index m.4);
       last = ap length m.5 ∙ length_push (entries_after m.0) entry ∙ ap (λ n. n + 1) (sym m.4);
       small = subst (λ n. n < 2 ^ 22) (sym m.4) (not_full (length (entries_after m.0)) m.3.0);
     }

@@ -64,9 +64,9 @@ pub calls-other : (n : ℕ) (h : List Step) (s : Step) → s.seat ≢ n → call
 calls-other n h s other =
     filter-append (λ (x : Step). x.seat == n) h (s ∷ [])
     ∙ ap (λ l. calls_of n h ++ l)
-        (cond-false (s.seat == n) (s ∷ []) []
-            (⊎_elim (λ (e : (s.seat == n) ≡ true). absurd (other (eqb-true s.seat n e))) (λ e. e)
-                (cases_Bool (s.seat == n))))
+    (cond-false (s.seat == n) (s ∷ []) []
+    (⊎_elim (λ (e : (s.seat == n) ≡ true). absurd (other (eqb-true s.seat n e))) (λ e. e)
+    (cases_Bool (s.seat == n))))
     ∙ append-nil (calls_of n h)
 
 pub starts-more : (h first : List Step) (s : Step) → StartsWith h first → StartsWith (h ++ s ∷ []) first
@@ -131,9 +131,11 @@ spent-set views id v w at stays (c ∷ claims) f =
   where
     here : (c.number ≡ id) ⊎ (c.number ≢ id) → IsSpentAt (set views id w) c.number
     here (inl is) =
-        let same : v ≡ f.0.0 = some-injective v f.0.0 (sym at ∙ ap (get_elem? views) (sym is) ∙ f.0.1) in
-        (w, ap (get_elem? (set views id w)) is ∙ set_here views id w (below views id v at),
-            stays (ap (λ (z : View). z.stage) same ∙ f.0.2))
+        let same : v ≡ f.0.0 = some-injective v f.0.0 (sym at ∙ ap (get_elem? views) (sym is) ∙ f.0.1) in (
+          w,
+          ap (get_elem? (set views id w)) is ∙ set_here views id w (below views id v at),
+          stays (ap (λ (z : View). z.stage) same ∙ f.0.2),
+        )
     here (inr other) = (f.0.0, set_else views id c.number w other ∙ f.0.1, f.0.2)
 
 -- and where a seat comes
@@ -147,13 +149,14 @@ spent-longer views more (c ∷ claims) f =
 pub spent-others : (views : List View) (n : ℕ) (w : View) → get_elem? views n ≡ some w → (w.stage ≡ Spent → ⊥)
     → (claims : List Claim) → AreSpent views claims → AreOfOthers n claims
 spent-others views n w at live [] f = tt
-spent-others views n w at live (c ∷ claims) f =
-    ((λ is.
-         live
-             (ap (λ (z : View). z.stage)
-                 (some-injective w f.0.0 (sym at ∙ ap (get_elem? views) (sym is) ∙ f.0.1))
-                 ∙ f.0.2)),
-        spent-others views n w at live claims f.1)
+spent-others views n w at live (c ∷ claims) f = (
+  (λ is.
+      live
+      (ap (λ (z : View). z.stage)
+      (some-injective w f.0.0 (sym at ∙ ap (get_elem? views) (sym is) ∙ f.0.1))
+      ∙ f.0.2)),
+  spent-others views n w at live claims f.1,
+)
 
 -- ---- the seats that have tickets
 
@@ -166,10 +169,10 @@ held-set views id v w t at stays holder = here (cases_eq holder.0 id)
     here : (holder.0 ≡ id) ⊎ (holder.0 ≢ id) → IsHeld (set views id w) t
     here (inl is) =
         let same : v ≡ holder.1 =
-            some-injective v holder.1 (sym at ∙ ap (get_elem? views) (sym is) ∙ holder.2) in
+        some-injective v holder.1 (sym at ∙ ap (get_elem? views) (sym is) ∙ holder.2) in
         let kept =
-            stays (ap (λ (z : View). has_ticket z.stage) same ∙ holder.3)
-                (ap (λ (z : View). z.ticket) same ∙ holder.4) in
+        stays (ap (λ (z : View). has_ticket z.stage) same ∙ holder.3)
+        (ap (λ (z : View). z.ticket) same ∙ holder.4) in
         (id, w, set_here views id w (below views id v at), kept.0, kept.1)
     here (inr other) = (holder.0, holder.1, set_else views id holder.0 w other ∙ holder.2, holder.3, holder.4)
 
@@ -189,62 +192,63 @@ pub kept-changed : (h : List Step) (next serving : ℕ) (s : State Slot View) �
     → (h2 : List Step) (next2 serving2 : ℕ) (words : List ℕ) (homes : List (Maybe Slot)) (w : View)
     → words ≡ next2 ∷ serving2 ∷ [] → serving2 ≤ next2 → IsLegal h2
     → ((n : ℕ) (u : View) → n ≢ id → get_elem? s.views n ≡ some u → Fits h2 next2 serving2 n u)
-        → Fits h2 next2 serving2 id w
+    → Fits h2 next2 serving2 id w
     → ((n : ℕ) → length s.views ≤ n → calls_of n h2 ≡ [])
     → (has_ticket w.stage ≡ true → (n : ℕ) (u : View) → n ≢ id → get_elem? s.views n ≡ some u
-          → has_ticket u.stage ≡ true → w.ticket ≡ u.ticket → ⊥)
+    → has_ticket u.stage ≡ true → w.ticket ≡ u.ticket → ⊥)
     → (v.stage ≡ Spent → w.stage ≡ Spent) → AreSpent (set s.views id w) w.claims
     → ((t : ℕ) → serving2 ≤ t → t < next2 → IsHeld (set s.views id w) t) → w.given ≤ length s.views
     → IsHome h2 (record { words = words; homes = homes; views = set s.views id w })
     → IsKept h2 next2 serving2 (record { words = words; homes = homes; views = set s.views id w })
 kept-changed h next serving s k id v at h2 next2 serving2 words homes w words_are served legal others mine
-        strangers tickets stays claims held given home =
+    strangers tickets stays claims held given home =
     record {
-  words = words_are;
-  served = served;
-  legal = legal;
-  seats = λ n u e.
-      ⊎_elim
-      (λ (is : (n ≡ id) × (w ≡ u)).
+      words = words_are;
+      served = served;
+      legal = legal;
+      seats = λ n u e.
+          ⊎_elim
+          (λ (is : (n ≡ id) × (w ≡ u)).
           subst (λ m. Fits h2 next2 serving2 m u) (sym is.0) (subst (Fits h2 next2 serving2 id) is.1 mine))
-      (λ (other : (n ≢ id) × (get_elem? s.views n ≡ some u)). others n u other.0 other.1)
-      (at_set s.views id n w u e);
-  strangers = λ n far. strangers n (omega (arith, far, length-set s.views id w));
-  apart = λ m n x y em en tx ty same.
-      ⊎_elim
-      (λ (mi : (m ≡ id) × (w ≡ x)).
-      ⊎_elim
-      (λ (ni : (n ≡ id) × (w ≡ y)). mi.0 ∙ sym ni.0)
-      (λ (no : (n ≢ id) × (get_elem? s.views n ≡ some y)).
-      absurd
+          (λ (other : (n ≢ id) × (get_elem? s.views n ≡ some u)). others n u other.0 other.1)
+          (at_set s.views id n w u e);
+      strangers = λ n far. strangers n (omega (arith, far, length-set s.views id w));
+      apart = λ m n x y em en tx ty same.
+          ⊎_elim
+          (λ (mi : (m ≡ id) × (w ≡ x)).
+          ⊎_elim
+          (λ (ni : (n ≡ id) × (w ≡ y)). mi.0 ∙ sym ni.0)
+          (λ (no : (n ≢ id) × (get_elem? s.views n ≡ some y)).
+          absurd
           (tickets (ap (λ (z : View). has_ticket z.stage) mi.1 ∙ tx) n y no.0 no.1 ty
-              (ap (λ (z : View). z.ticket) mi.1 ∙ same)))
-      (at_set s.views id n w y en))
-      (λ (mo : (m ≢ id) × (get_elem? s.views m ≡ some x)).
-      ⊎_elim
-      (λ (ni : (n ≡ id) × (w ≡ y)).
-      absurd
+          (ap (λ (z : View). z.ticket) mi.1 ∙ same)))
+          (at_set s.views id n w y en))
+          (λ (mo : (m ≢ id) × (get_elem? s.views m ≡ some x)).
+          ⊎_elim
+          (λ (ni : (n ≡ id) × (w ≡ y)).
+          absurd
           (tickets (ap (λ (z : View). has_ticket z.stage) ni.1 ∙ ty) m x mo.0 mo.1 tx
-              (ap (λ (z : View). z.ticket) ni.1 ∙ sym same)))
-      (λ (no : (n ≢ id) × (get_elem? s.views n ≡ some y)). k.apart m n x y mo.1 no.1 tx ty same)
-      (at_set s.views id n w y en))
-      (at_set s.views id m w x em);
-  held = held;
-  given = λ n u e.
-      ⊎_elim
-      (λ (is : (n ≡ id) × (w ≡ u)).
+          (ap (λ (z : View). z.ticket) ni.1 ∙ sym same)))
+          (λ (no : (n ≢ id) × (get_elem? s.views n ≡ some y)). k.apart m n x y mo.1 no.1 tx ty same)
+          (at_set s.views id n w y en))
+          (at_set s.views id m w x em);
+      held = held;
+      given = λ n u e.
+          ⊎_elim
+          (λ (is : (n ≡ id) × (w ≡ u)).
           let same = ap (λ (z : View). z.given) is.1 in omega (arith, same, given, length-set s.views id w))
-      (λ (other : (n ≢ id) × (get_elem? s.views n ≡ some u)).
+          (λ (other : (n ≢ id) × (get_elem? s.views n ≡ some u)).
           let old = k.given n u other.1 in omega (arith, old, length-set s.views id w))
-      (at_set s.views id n w u e);
-  gone = λ n u e.
-      ⊎_elim
-      (λ (is : (n ≡ id) × (w ≡ u)). subst (λ (z : View). AreSpent (set s.views id w) z.claims) is.1 claims)
-      (λ (other : (n ≢ id) × (get_elem? s.views n ≡ some u)).
+          (at_set s.views id n w u e);
+      gone = λ n u e.
+          ⊎_elim
+          (λ (is : (n ≡ id) × (w ≡ u)).
+          subst (λ (z : View). AreSpent (set s.views id w) z.claims) is.1 claims)
+          (λ (other : (n ≢ id) × (get_elem? s.views n ≡ some u)).
           spent-set s.views id v w at stays u.claims (k.gone n u other.1))
-      (at_set s.views id n w u e);
-  home = home;
-}
+          (at_set s.views id n w u e);
+      home = home;
+    }
 
 pub false_true : false ≡ true → ⊥
 false_true e = false≢true e
@@ -289,7 +293,7 @@ snoc_at [] a (suc n) b e = absurd (some-ne-none b (sym e))
 snoc_at (x ∷ xs) a zero b e = inl e
 snoc_at (x ∷ xs) a (suc n) b e =
     ⊎_elim (λ (there : get_elem? xs n ≡ some b). inl there)
-        (λ (last : (a ≡ b) × (n ≡ length xs)). inr (last.0, ap suc last.1)) (snoc_at xs a n b e)
+    (λ (last : (a ≡ b) × (n ≡ length xs)). inr (last.0, ap suc last.1)) (snoc_at xs a n b e)
 
 waiting_turn : Waiting ≡ Turn → ⊥
 waiting_turn e = false_true (ap is_turn e)
@@ -306,10 +310,14 @@ home-kept h s id v w words at stays (inr out) = holder (cases_eq out.1 id)
         → IsHome h (record { words = words; homes = s.homes; views = set s.views id w })
     holder (inl is) =
         let same : v ≡ out.2 =
-            some-injective v out.2 (sym at ∙ subst (λ n. get_elem? s.views n ≡ some out.2) is out.3) in
-        inr
-            (out.0, id, w, set_here s.views id w (below s.views id v at),
-                stays (ap (λ (z : View). z.stage) same ∙ out.4))
+        some-injective v out.2 (sym at ∙ subst (λ n. get_elem? s.views n ≡ some out.2) is out.3) in
+        inr (
+          out.0,
+          id,
+          w,
+          set_here s.views id w (below s.views id v at),
+          stays (ap (λ (z : View). z.stage) same ∙ out.4),
+        )
     holder (inr other) = inr (out.0, out.1, out.2, set_else s.views id out.1 w other ∙ out.3, out.4)
 
 below_next : (h : List Step) (next serving : ℕ) (st : Stage) (n : ℕ) (u : View) → has_ticket st ≡ true
@@ -328,7 +336,7 @@ pub kept-same : (h : List Step) (next serving : ℕ) (s : State Slot View) → I
     → IsKept h next serving (record { words = words; homes = s.homes; views = set s.views id v })
 kept-same h next serving s k id v at words same =
     kept-changed h next serving s k id v at h next serving words s.homes v same k.served k.legal
-        (λ n u other e. k.seats n u e) (k.seats id v at) k.strangers
+    (λ n u other e. k.seats n u e) (k.seats id v at) k.strangers
     (λ has n u other e tu ticket. other (sym (k.apart id n v u at e has tu ticket)))
     (λ gone. gone) (spent-set s.views id v v at (λ gone. gone) v.claims (k.gone id v at))
     (λ t low high. held-set s.views id v v t at (λ has is. (has, is)) (k.held t low high)) (k.given id v at)
@@ -343,7 +351,7 @@ at_words words next serving e = (ap (λ ws. slice_index ws 0) e, ap (λ ws. slic
 abbrev GoesOn : State Slot View → ℕ → Me Slot View → ℕ → ℕ → (Me Slot View → Type 0) → Type 0
 GoesOn s id me i n tells =
     (w : View) × (a : Act Slot) × Valid s.homes me.1 a × Kept (stepped s i n id me.1 w a)
-        × tells (w, carried_after me.1 a)
+    × tells (w, carried_after me.1 a)
 
 -- a ticket is taken, or not
 pub draws : (id old : ℕ) (v : View) → v.stage ≡ Idle
@@ -370,16 +378,16 @@ draws id old v idle s kept slots at small = by_case (cases_eq (slice_index s.wor
 
     by_case : (slice_index s.words 0 ≡ old) ⊎ (slice_index s.words 0 ≢ old)
         → GoesOn s id (v, []) 0 (either (slice_index s.words 0 == old) (old + 1) (slice_index s.words 0))
-            (Drawn old (v, []) (slice_index s.words 0))
+        (Drawn old (v, []) (slice_index s.words 0))
     by_case (inl is) =
         let is_next : next ≡ old = sym found ∙ is in
         let value : either (slice_index s.words 0 == old) (old + 1) (slice_index s.words 0) ≡ next + 1 =
         ap (λ b. either b (old + 1) (slice_index s.words 0)) (eq-eqb _ _ is)
-            ∙ ap (λ n. n + 1) (sym is_next) in
+        ∙ ap (λ n. n + 1) (sym is_next) in
         let words : set s.words 0 (either (slice_index s.words 0 == old) (old + 1) (slice_index s.words 0))
-                ≡ (next + 1) ∷ serving ∷ [] =
+        ≡ (next + 1) ∷ serving ∷ [] =
         ap (λ ws. set ws 0 (either (slice_index s.words 0 == old) (old + 1) (slice_index s.words 0))) k.words
-            ∙ ap (λ n. n ∷ serving ∷ []) value in
+        ∙ ap (λ n. n ∷ serving ∷ []) value in
         let w = with_ticket v old in (
           w,
           keeps,
@@ -392,53 +400,67 @@ draws id old v idle s kept slots at small = by_case (cases_eq (slice_index s.wor
                 (set s.words 0 (either (slice_index s.words 0 == old) (old + 1) (slice_index s.words 0)))
                 s.homes w words
                 (omega (arith, k.served)) k.legal
-                (λ n u other e. fits-next u.stage h next serving n u (k.seats n u e))
-                (record {
-                  number = knows.number;
-                  seen = knows.seen;
-                  told = knows.told;
-                  own = knows.own;
-                }, omega (arith, k.served, is_next), omega (arith, is_next))
+                (λ n u other e. fits-next u.stage h next serving n u (k.seats n u e)) (
+                  record {
+                    number = knows.number;
+                    seen = knows.seen;
+                    told = knows.told;
+                    own = knows.own;
+                  },
+                  omega (arith, k.served, is_next),
+                  omega (arith, is_next),
+                )
                 k.strangers
                 (λ _ n u other e has same.
-                    below_next h next serving u.stage n u has (k.seats n u e) (sym same ∙ sym is_next))
+                below_next h next serving u.stage n u has (k.seats n u e) (sym same ∙ sym is_next))
                 (λ gone. absurd (not_spent v.stage Idle idle refl gone))
                 (spent-set s.views id v w at (λ gone. absurd (not_spent v.stage Idle idle refl gone)) v.claims
-                    (k.gone id v at))
+                (k.gone id v at))
                 (λ t low high.
                 ⊎_elim
                 (λ (less : t < next).
-                    held-set s.views id v w t at (λ has _. absurd (no_ticket v.stage Idle idle refl has))
-                        (k.held t low less))
-                (λ (past : next ≤ t).
-                    (id, w, set_here s.views id w (below s.views id v at), refl,
-                        omega (arith, is_next, past, high)))
+                held-set s.views id v w t at (λ has _. absurd (no_ticket v.stage Idle idle refl has))
+                (k.held t low less))
+                (λ (past : next ≤ t). (
+                  id,
+                  w,
+                  set_here s.views id w (below s.views id v at),
+                  refl,
+                  omega (arith, is_next, past, high),
+                ))
                 (cases_lt t next))
                 (k.given id v at)
                 (home-kept h s id v w
-                    (set s.words 0 (either (slice_index s.words 0 == old) (old + 1) (slice_index s.words 0)))
-                    at (λ turn. absurd (idle_turn (sym idle ∙ turn))) k.home),
+                (set s.words 0 (either (slice_index s.words 0 == old) (old + 1) (slice_index s.words 0)))
+                at (λ turn. absurd (idle_turn (sym idle ∙ turn))) k.home),
           ),
           inl (is, refl),
         )
     by_case (inr other) =
         let value : either (slice_index s.words 0 == old) (old + 1) (slice_index s.words 0)
-                ≡ slice_index s.words 0 =
+        ≡ slice_index s.words 0 =
         ap (λ b. either b (old + 1) (slice_index s.words 0))
-            (⊎_elim (λ (e : (slice_index s.words 0 == old) ≡ true). absurd (other (eqb-true _ old e)))
-                (λ e. e) (cases_Bool (slice_index s.words 0 == old))) in
+        (⊎_elim (λ (e : (slice_index s.words 0 == old) ≡ true). absurd (other (eqb-true _ old e)))
+        (λ e. e) (cases_Bool (slice_index s.words 0 == old))) in
         let words : set s.words 0 (either (slice_index s.words 0 == old) (old + 1) (slice_index s.words 0))
-                ≡ next ∷ serving ∷ [] =
+        ≡ next ∷ serving ∷ [] =
         ap (λ ws. set ws 0 (either (slice_index s.words 0 == old) (old + 1) (slice_index s.words 0))) k.words
-            ∙ ap (λ n. n ∷ serving ∷ []) (value ∙ found) in
-        (v, keeps, tt,
-            (h, next, serving,
-                kept-same h next serving s k id v
-                    at
-                        (set s.words 0
-                            (either (slice_index s.words 0 == old) (old + 1) (slice_index s.words 0)))
-                    words),
-            inr (other, refl))
+        ∙ ap (λ n. n ∷ serving ∷ []) (value ∙ found) in (
+          v,
+          keeps,
+          tt,
+          (
+            h,
+            next,
+            serving,
+            kept-same h next serving s k id v
+                at
+                (set s.words 0
+                (either (slice_index s.words 0 == old) (old + 1) (slice_index s.words 0)))
+                words,
+          ),
+          inr (other, refl),
+        )
 
 -- the ticket is served, or not
 pub serves : (id : ℕ) (v : View) → v.stage ≡ Waiting
@@ -470,10 +492,10 @@ serves id v waiting s kept slots at small = by_case (cases_eq (slice_index s.wor
     at_home mine (inl there) = there
     at_home mine (inr out) =
         let turn : FitsAt Turn h next serving out.1 out.2 =
-            subst (λ st. FitsAt st h next serving out.1 out.2) out.4 (k.seats out.1 out.2 out.3) in
+        subst (λ st. FitsAt st h next serving out.1 out.2) out.4 (k.seats out.1 out.2 out.3) in
         let same : id ≡ out.1 =
-            k.apart id out.1 v out.2 at out.3 (ap has_ticket waiting) (ap has_ticket out.4)
-                (mine ∙ sym turn.1) in
+        k.apart id out.1 v out.2 at out.3 (ap has_ticket waiting) (ap has_ticket out.4)
+        (mine ∙ sym turn.1) in
         let view : v ≡ out.2 = some-injective v out.2 (sym at ∙ ap (get_elem? s.views) same ∙ out.3) in
         absurd (waiting_turn (sym waiting ∙ ap (λ (z : View). z.stage) view ∙ out.4))
 
@@ -493,36 +515,51 @@ serves id v waiting s kept slots at small = by_case (cases_eq (slice_index s.wor
             serving,
             kept-changed h next serving s k id v at h next serving (set s.words 1 (slice_index s.words 1))
                 (set s.homes 0 none) w words k.served k.legal
-                (λ n u other e. k.seats n u e)
-                (record {
-                  number = fits.0.number;
-                  seen = ([], sym (append-nil h));
-                  told = fits.0.told;
-                  own = fits.0.own;
-                }, mine, omega (arith, fits.1, fits.2), refl, tt, tt)
+                (λ n u other e. k.seats n u e) (
+                  record {
+                    number = fits.0.number;
+                    seen = ([], sym (append-nil h));
+                    told = fits.0.told;
+                    own = fits.0.own;
+                  },
+                  mine,
+                  omega (arith, fits.1, fits.2),
+                  refl,
+                  tt,
+                  tt,
+                )
                 k.strangers
                 (λ _ n u other e has same.
-                    other (sym (k.apart id n v u at e (ap has_ticket waiting) has same)))
+                other (sym (k.apart id n v u at e (ap has_ticket waiting) has same)))
                 (λ gone. absurd (not_spent v.stage Waiting waiting refl gone)) tt
                 (λ t low high. held-set s.views id v w t at (λ _ is_t. (refl, is_t)) (k.held t low high))
-                    (k.given id v at)
+                (k.given id v at)
                 (inr (homes, id, w, set_here s.views id w (below s.views id v at), refl)),
           ),
-          inl
-              (is, h,
-                  record {
-                    legal = k.legal;
-                    seen = fits.0.seen;
-                    told = fits.0.told;
-                    own = ap (λ n. calls_of n h) fits.0.number ∙ fits.0.own;
-                  },
-                  refl),
+          inl (
+            is,
+            h,
+            record {
+              legal = k.legal;
+              seen = fits.0.seen;
+              told = fits.0.told;
+              own = ap (λ n. calls_of n h) fits.0.number ∙ fits.0.own;
+            },
+            refl,
+          ),
         )
-    by_case (inr other) =
-        (v, keeps, tt,
-            (h, next, serving,
-                kept-same h next serving s k id v at (set s.words 1 (slice_index s.words 1)) words),
-            inr (omega (arith, fits.1, found, other), refl))
+    by_case (inr other) = (
+      v,
+      keeps,
+      tt,
+      (
+        h,
+        next,
+        serving,
+        kept-same h next serving s k id v at (set s.words 1 (slice_index s.words 1)) words,
+      ),
+      inr (omega (arith, fits.1, found, other), refl),
+    )
 
 -- the turn is given back with a call
 pub calls : (id : ℕ) (v : View) (call : Call) (es : List Entry) → v.stage ≡ Turn
@@ -539,11 +576,11 @@ calls id v call es turn after possible s kept slots at small = (
     kept-changed h next serving s k id v at (h ++ x ∷ []) next (serving + 1) (set s.words 1 (v.ticket + 1))
         (set s.homes 0 (some (Some es))) w words (omega (arith, fits.2))
         (legal-more h x k.legal (subst (λ l. IsPossible (entries_after l) call) fits.3 possible)
-            (ap (λ l. length (entries_after l)) fits.3))
+        (ap (λ l. length (entries_after l)) fits.3))
         (λ n u other e.
-            fits-call u.stage h next serving n u x (λ same. other (sym same ∙ fits.0.number))
-                (λ has same. other (sym (k.apart id n v u at e (ap has_ticket turn) has (fits.1 ∙ sym same))))
-                (k.seats n u e))
+        fits-call u.stage h next serving n u x (λ same. other (sym same ∙ fits.0.number))
+        (λ has same. other (sym (k.apart id n v u at e (ap has_ticket turn) has (fits.1 ∙ sym same))))
+        (k.seats n u e))
         (record {
           number = fits.0.number;
           seen = ([], ap (λ l. l ++ x ∷ []) (sym fits.3) ∙ sym (append-nil (v.seen ++ x ∷ [])));
@@ -554,11 +591,11 @@ calls id v call es turn after possible s kept slots at small = (
         (λ has. absurd (false_true has))
         (λ gone. absurd (not_spent v.stage Turn turn refl gone))
         (spent-set s.views id v w at (λ gone. absurd (not_spent v.stage Turn turn refl gone)) v.claims
-            (k.gone id v at))
+        (k.gone id v at))
         (λ t low high.
-            held-set s.views id v w t at (λ _ is. absurd (omega (arith, fits.1, is, low)))
-                (k.held t (omega (arith, low)) high))
-            (k.given id v at)
+        held-set s.views id v w t at (λ _ is. absurd (omega (arith, fits.1, is, low)))
+        (k.held t (omega (arith, low)) high))
+        (k.given id v at)
         (inl (homes k.home)),
   ),
   refl,
@@ -600,7 +637,7 @@ calls id v call es turn after possible s kept slots at small = (
 
 pub looks : (id : ℕ) (v : View) → v.stage ≡ Turn
     → Allows Kept 1 id (v, (0, Some (entries_after v.seen)) ∷ []) 1 (λ _. v.ticket + 1)
-        (λ _ m. Looked (v, (0, Some (entries_after v.seen)) ∷ []) m)
+    (λ _ m. Looked (v, (0, Some (entries_after v.seen)) ∷ []) m)
 looks id v turn = calls id v Look (entries_after v.seen) turn refl tt
 
 -- ---- the steps of a seat as it stands
@@ -609,19 +646,19 @@ pub draws_as : (slots id old : ℕ) (me : Me Slot View) → slots ≡ 1 → me.0
     → Allows Kept slots id me 0 (λ n. either (n == old) (old + 1) n) (λ n m. Drawn old me n m)
 draws_as slots id old me one idle empty =
     subst (λ k. Allows Kept k id me 0 (λ n. either (n == old) (old + 1) n) (λ n m. Drawn old me n m))
-        (sym one)
+    (sym one)
     (subst
-        (λ c.
-            Allows Kept 1 id (me.0, c) 0 (λ n. either (n == old) (old + 1) n)
-                (λ n m. Drawn old (me.0, c) n m))
-        (sym empty) (draws id old me.0 idle))
+    (λ c.
+    Allows Kept 1 id (me.0, c) 0 (λ n. either (n == old) (old + 1) n)
+    (λ n m. Drawn old (me.0, c) n m))
+    (sym empty) (draws id old me.0 idle))
 
 pub serves_as : (slots id : ℕ) (me : Me Slot View) → slots ≡ 1 → me.0.stage ≡ Waiting → me.1 ≡ []
     → Allows Kept slots id me 1 (λ n. n) (λ n m. Served me n m)
 serves_as slots id me one waiting empty =
     subst (λ k. Allows Kept k id me 1 (λ n. n) (λ n m. Served me n m)) (sym one)
     (subst (λ c. Allows Kept 1 id (me.0, c) 1 (λ n. n) (λ n m. Served (me.0, c) n m)) (sym empty)
-        (serves id me.0 waiting))
+    (serves id me.0 waiting))
 
 pub looks_as : (slots id : ℕ) (me : Me Slot View) (v : View) (t : ℕ) (h : List Step) → slots ≡ 1
     → me ≡ (with_turn (with_ticket v t) h, (0, Some (entries_after h)) ∷ [])
@@ -629,7 +666,7 @@ pub looks_as : (slots id : ℕ) (me : Me Slot View) (v : View) (t : ℕ) (h : Li
 looks_as slots id me v t h one is =
     subst (λ k. Allows Kept k id me 1 (λ _. t + 1) (λ _ m. Looked me m)) (sym one)
     (subst (λ (x : Me Slot View). Allows Kept 1 id x 1 (λ _. t + 1) (λ _ m. Looked x m)) (sym is)
-        (looks id (with_turn (with_ticket v t) h) refl))
+    (looks id (with_turn (with_ticket v t) h) refl))
 
 pub calls_as : (slots id : ℕ) (me : Me Slot View) (v : View) (t : ℕ) (h : List Step) (e : Entry) → slots ≡ 1
     → me ≡ (with_turn (with_ticket v t) h, (0, Some (entries_after h ++ e ∷ [])) ∷ [])
@@ -640,8 +677,8 @@ calls_as slots id me v t h e one is possible =
     (subst (λ (x : Me Slot View). Allows Kept 1 id x 1 (λ _. t + 1) (λ _ m. Entered x m)) (sym is)
     (λ s kept count at small.
     let goes =
-        calls id (with_turn (with_ticket v t) h) (Enter e) (entries_after h ++ e ∷ []) refl refl possible s
-            kept count at small in
+    calls id (with_turn (with_ticket v t) h) (Enter e) (entries_after h ++ e ∷ []) refl refl possible s
+    kept count at small in
     (goes.0, goes.1, goes.2, goes.3, (e, refl, goes.4))))
 
 -- what a seat knows after its call
@@ -661,7 +698,7 @@ extends v t h call reply turn possible is =
       own = refl;
       alone =
           calls-own v.number h (step_of (with_turn (with_ticket v t) h) call) refl
-              ∙ ap (λ l. l ++ step_of (with_turn (with_ticket v t) h) call ∷ []) turn.own;
+          ∙ ap (λ l. l ++ step_of (with_turn (with_ticket v t) h) call ∷ []) turn.own;
     })
 
 -- the same, for a Look of a seat that has given the turn back
@@ -671,10 +708,10 @@ pub looked : (v : View) (t : ℕ) (h : List Step) (reply : ℕ) (drawn served gi
     → Looked given after → reply ≡ length (entries_after h) → Extends v Look reply after.0
 looked v t h reply drawn served given after is turn has same gave count =
     subst (λ (w : View). Extends v Look reply w)
-        (sym
-            (ap (λ m. m.0) gave
-                ∙ ap (λ m. with_call m.0 Look)
-                    (same ∙ has ∙ ap (λ m. (with_turn m.0 h, (0, Some (entries_after h)) ∷ [])) is)))
+    (sym
+    (ap (λ m. m.0) gave
+    ∙ ap (λ m. with_call m.0 Look)
+    (same ∙ has ∙ ap (λ m. (with_turn m.0 h, (0, Some (entries_after h)) ∷ [])) is)))
     (extends v t h Look reply (subst (λ (m : View). HasTurn m h) (ap (λ m. m.0) is) turn) tt count)
 
 pub looked-list : (given after : Me Slot View) → Looked given after
@@ -699,22 +736,22 @@ pub entered : (v : View) (t : ℕ) (h : List Step) (e : Entry) (reply : ℕ)
     → drawn ≡ (with_ticket v t, []) → HasTurn drawn.0 h
     → served ≡ (with_turn drawn.0 h, (0, Some (entries_after h)) ∷ [])
     → given ≡ (served.0, (0, Some (entries_after h ++ e ∷ [])) ∷ []) → Entered given after
-        → reply ≡ length (entries_after h) → IsPossible (entries_after h) (Enter e)
-        → Extends v (Enter e) reply after.0
+    → reply ≡ length (entries_after h) → IsPossible (entries_after h) (Enter e)
+    → Extends v (Enter e) reply after.0
 entered v t h e reply drawn served given after is turn has same gave count possible =
     let carried : given ≡ (with_turn (with_ticket v t) h, (0, Some (entries_after h ++ e ∷ [])) ∷ []) =
     same
-        ∙ ap (λ m. (m.0, (0, Some (entries_after h ++ e ∷ [])) ∷ []))
-            (has ∙ ap (λ m. (with_turn m.0 h, (0, Some (entries_after h)) ∷ [])) is) in
+    ∙ ap (λ m. (m.0, (0, Some (entries_after h ++ e ∷ [])) ∷ []))
+    (has ∙ ap (λ m. (with_turn m.0 h, (0, Some (entries_after h)) ∷ [])) is) in
     let entries : entries_after h ++ e ∷ [] ≡ entries_after h ++ gave.0 ∷ [] =
     sym (ap held carried) ∙ ap (λ c. held (given.0, c)) gave.1
-        ∙ ap (λ m. entries_after m.0.seen ++ gave.0 ∷ []) carried in
+    ∙ ap (λ m. entries_after m.0.seen ++ gave.0 ∷ []) carried in
     let one : e ∷ [] ≡ gave.0 ∷ [] = append_cancel_left (entries_after h) (e ∷ []) (gave.0 ∷ []) entries in
     let same_entry : gave.0 ≡ e = sym (ap (head_or e) one) in
     subst (λ (w : View). Extends v (Enter e) reply w)
     (sym
-        (ap (λ m. m.0) gave.2 ∙ ap (λ (x : Entry). with_call given.0 (Enter x)) same_entry
-            ∙ ap (λ m. with_call m.0 (Enter e)) carried))
+    (ap (λ m. m.0) gave.2 ∙ ap (λ (x : Entry). with_call given.0 (Enter x)) same_entry
+    ∙ ap (λ m. with_call m.0 (Enter e)) carried))
     (extends v t h (Enter e) reply (subst (λ (m : View). HasTurn m h) (ap (λ m. m.0) is) turn) possible count)
   where
     held : Me Slot View → List Entry

@@ -42,15 +42,16 @@ pub from_tree : (root : ℕ) (entries : List Entry) (x : List Half) → IsIn x (
     → (e : Entry) × HasEntry entries e × (e.root ≡ root) × (x ≡ tree_share e)
 from_tree root [] x there = absurd there
 from_tree root (f ∷ entries) x there =
-    elim (IsIn-append_cases x (cond (f.root == root) (tree_share f ∷ []) []) (tree_shares root entries) there)
-        [
-  | inl here ↦
-      let is = cond_in (f.root == root) x (tree_share f) here in
-      (f, (0, refl), eqb-true f.root root is.0, is.1)
-  | inr rest ↦
-      let found = from_tree root entries x rest in
-      (found.0, has_later f found.0 entries found.1, found.2, found.3)
-]
+    elim
+    (IsIn-append_cases x (cond (f.root == root) (tree_share f ∷ []) []) (tree_shares root entries)
+    there) [
+      | inl here ↦
+          let is = cond_in (f.root == root) x (tree_share f) here in
+          (f, (0, refl), eqb-true f.root root is.0, is.1)
+      | inr rest ↦
+          let found = from_tree root entries x rest in
+          (found.0, has_later f found.0 entries found.1, found.2, found.3)
+    ]
 
 -- a long list of halves that begins with a held share begins with one of the shares
 pub held_begins : (shares : List (List Half)) (s l : List Half) → Hold shares s → begins_with l s ≡ true
@@ -59,8 +60,8 @@ held_begins shares s l held begins long =
     Passes-list_any (λ t. begins_with l t) shares
     (list_any-from_Any (λ t. begins_with l t) shares
     (held l begins
-        (All-from_recursion (IsShort l) (s ∷ shares)
-            (length-begins_with l s begins, IsShort-span l shares long))))
+    (All-from_recursion (IsShort l) (s ∷ shares)
+    (length-begins_with l s begins, IsShort-span l shares long))))
 
 -- ---- an entry under a held span overlaps another one
 
@@ -83,26 +84,26 @@ under_overlaps entries s f held under =
     let start : List Half = start_share (s.path ++ number ∷ []) in
     let fill : List Half = replicate (halves_of shares) Keep in
     let path : f.path ≡ (s.path ++ number ∷ []) ++ more =
-        under.path ∙ sym (append_assoc s.path (number ∷ []) more) in
+    under.path ∙ sym (append_assoc s.path (number ∷ []) more) in
     let parts : tree_share f ≡ start ++ ((start_share more ++ replicate f.kept Keep) ++ part_halves f.part) =
     ap (λ p. finish_share p f.kept ++ part_halves f.part) path
     ∙ ap (λ x. (x ++ replicate f.kept Keep) ++ part_halves f.part)
-        (start_share-append (s.path ++ number ∷ []) more)
+    (start_share-append (s.path ++ number ∷ []) more)
     ∙ ap (λ x. x ++ part_halves f.part) (append_assoc start (start_share more) (replicate f.kept Keep))
     ∙ append_assoc start (start_share more ++ replicate f.kept Keep) (part_halves f.part) in
     let whole : tree_share f ++ fill
-            ≡ start ++ (((start_share more ++ replicate f.kept Keep) ++ part_halves f.part) ++ fill) =
+    ≡ start ++ (((start_share more ++ replicate f.kept Keep) ++ part_halves f.part) ++ fill) =
     ap (λ x. x ++ fill) parts
-        ∙ append_assoc start ((start_share more ++ replicate f.kept Keep) ++ part_halves f.part) fill in
+    ∙ append_assoc start ((start_share more ++ replicate f.kept Keep) ++ part_halves f.part) fill in
     let begins : begins_with (tree_share f ++ fill) start ≡ true =
-        subst (λ x. begins_with x start ≡ true) (sym whole)
-            (begins_with-longer start
-                (((start_share more ++ replicate f.kept Keep) ++ part_halves f.part) ++ fill)) in
+    subst (λ x. begins_with x start ≡ true) (sym whole)
+    (begins_with-longer start
+    (((start_share more ++ replicate f.kept Keep) ++ part_halves f.part) ++ fill)) in
     let all = length-append (tree_share f) fill in
     let filled = length-replicate (halves_of shares) Keep in
     one
-        (held_begins shares start (tree_share f ++ fill) (held number under.from_there under.to_there) begins
-            (omega (arith, all, filled)))
+    (held_begins shares start (tree_share f ++ fill) (held number under.from_there under.to_there) begins
+    (omega (arith, all, filled)))
   where
     one : Passes
         (λ t. begins_with (tree_share f ++ replicate (halves_of (tree_shares s.root entries)) Keep) t)
@@ -112,17 +113,17 @@ under_overlaps entries s f held under =
         let found = from_tree s.root entries x there in
         let P : List Half → Type 0 = λ t. overlaps (tree_share f) t ≡ true in
         let over : overlaps (tree_share f) x ≡ true =
-            elim
-                (begins_with-either (tree_share f ++ replicate (halves_of (tree_shares s.root entries)) Keep)
-                    (tree_share f) x
-                    (begins_with-longer (tree_share f)
-                        (replicate (halves_of (tree_shares s.root entries)) Keep))
-                    begun) [
+        elim
+        (begins_with-either (tree_share f ++ replicate (halves_of (tree_shares s.root entries)) Keep)
+        (tree_share f) x
+        (begins_with-longer (tree_share f)
+        (replicate (halves_of (tree_shares s.root entries)) Keep))
+        begun) [
           | inl first ↦ or_left _ _ first
           | inr second ↦ or_right (begins_with (tree_share f) x) _ second
         ] in
         any_at (is_overlap f) entries found.0 found.1
-            (overlaps_entry f found.0 (under.same_root ∙ sym found.2) (subst P found.3 over))
+        (overlaps_entry f found.0 (under.same_root ∙ sym found.2) (subst P found.3 over))
 
 -- ---- more entries hold it too
 
@@ -133,7 +134,7 @@ IsWithin-more root (e ∷ entries) f = grown (e.root == root) (IsWithin-more roo
   where
     grown : (b : Bool) → IsWithin (tree_shares root entries) (tree_shares root (entries ++ f ∷ []))
         → IsWithin (cond b (tree_share e ∷ []) [] ++ tree_shares root entries)
-            (cond b (tree_share e ∷ []) [] ++ tree_shares root (entries ++ f ∷ []))
+        (cond b (tree_share e ∷ []) [] ++ tree_shares root (entries ++ f ∷ []))
     grown false rest = rest
     grown true rest = record {
       any = λ p h. elim (or_cases (p (tree_share e)) (list_any p (tree_shares root entries)) h) [
@@ -147,7 +148,7 @@ more_held : (entries : List Entry) (s : Span) (f : Entry) → IsSpanHeld entries
     → IsSpanHeld (entries ++ f ∷ []) s Descendants
 more_held entries s f held number from to =
     Hold-within (tree_shares s.root entries) (tree_shares s.root (entries ++ f ∷ []))
-        (start_share (s.path ++ number ∷ [])) (IsWithin-more s.root entries f) (held number from to)
+    (start_share (s.path ++ number ∷ [])) (IsWithin-more s.root entries f) (held number from to)
 
 -- ---- whatever is called next
 
@@ -159,7 +160,7 @@ entry_stays (step ∷ later) entries k e is = next step.call (λ es there. entry
   where
     next : (call : Call)
         → ((es : List Entry) → slice_get es k ≡ Some e
-              → slice_get (fold (λ fs (s : Step). after_call fs s.call) es later) k ≡ Some e)
+        → slice_get (fold (λ fs (s : Step). after_call fs s.call) es later) k ≡ Some e)
         → slice_get (fold (λ fs (s : Step). after_call fs s.call) (after_call entries call) later) k ≡ Some e
     next (Enter f) stays = stays (entries ++ f ∷ []) (get_pushed entries f e k is)
     next Look stays = stays entries is
@@ -175,24 +176,24 @@ span_over (step ∷ later) entries s held legal index e past is under =
   where
     next : (call : Call) → IsPossible entries call → IsLegalFrom (after_call entries call) later
         → slice_get (fold (λ es (step : Step). after_call es step.call) (after_call entries call) later) index
-            ≡ Some e
+        ≡ Some e
         → ((es : List Entry) → IsSpanHeld es s Descendants → IsLegalFrom es later → (i : ℕ) (f : Entry)
-              → length es ≤ i
-              → slice_get (fold (λ fs (step : Step). after_call fs step.call) es later) i ≡ Some f
-              → IsUnder s f → ⊥)
+        → length es ≤ i
+        → slice_get (fold (λ fs (step : Step). after_call fs step.call) es later) i ≡ Some f
+        → IsUnder s f → ⊥)
         → ⊥
     next Look possible legal there over = over entries held legal index e past there under
     next (Enter f) possible legal there over = elim (cases_lt (length entries) index) [
       | inl further ↦
           let len = length_push entries f in
           over (entries ++ f ∷ []) (more_held entries s f held) legal index e (omega (arith, further, len))
-              there under
+          there under
       | inr here ↦
           let at_end : index ≡ length entries = omega (arith, here, past) in
           let same : f ≡ e =
-              same_Some f e
-                  (sym (entry_stays later (entries ++ f ∷ []) index f (get_last entries f index at_end))
-                      ∙ there) in
+          same_Some f e
+          (sym (entry_stays later (entries ++ f ∷ []) index f (get_last entries f index at_end))
+          ∙ there) in
           let P : Entry → Type 0 = λ x. IsUnder s x in
           false≢true (sym possible.1 ∙ under_overlaps entries s f held (subst P (sym same) under))
     ]

@@ -27,7 +27,7 @@ parent_and_number-push (m ∷ path) n =
 -- the share as runs
 pub tree_share-runs : (path : List ℕ) (kept : ℕ) (part : Part)
     → finish_share path kept ++ part_halves part
-        ≡ finish_share (tree_runs path kept part) (tree_last kept part)
+    ≡ finish_share (tree_runs path kept part) (tree_last kept part)
 tree_share-runs path kept Whole = append-nil (finish_share path kept)
 tree_share-runs path kept Body = sym (finish_share-keep path kept)
 tree_share-runs path kept Event = sym (finish_share-give path kept)
@@ -60,27 +60,27 @@ pub begins_with-unlike : (p q : List ℕ) (k m : ℕ) (a b : Part) (i : ℕ) →
 begins_with-unlike p q k m a b i less apart =
     false_from_ne_true (begins_with (finish_share p k ++ part_halves a) (finish_share q m ++ part_halves b))
     (
-        λ begun.
-            apart ( starts_with-at (tree_runs p k a) (tree_runs q m b) ( and_parts
-                (starts_with nat_eq (tree_runs p k a) (tree_runs q m b)) _
+    λ begun.
+    apart (starts_with-at (tree_runs p k a) (tree_runs q m b) (and_parts
+    (starts_with nat_eq (tree_runs p k a) (tree_runs q m b)) _
     (sym (begins_with-runs (tree_runs p k a) (tree_last k a) (tree_runs q m b) (tree_last m b))
     ∙ ap (λ x. begins_with x (finish_share (tree_runs q m b) (tree_last m b))) (sym (tree_share-runs p k a))
-        ∙ ap (begins_with (finish_share p k ++ part_halves a)) (sym (tree_share-runs q m b))
-        ∙ begun)).0 i less))
+    ∙ ap (begins_with (finish_share p k ++ part_halves a)) (sym (tree_share-runs q m b))
+    ∙ begun)).0 i less))
 
 pub begins_with-alike : (p q : List ℕ) (k m : ℕ) (a b : Part)
     → ((i : ℕ) → i < length (tree_runs q m b) → slice_get (tree_runs p k a) i ≡ slice_get (tree_runs q m b) i)
     → begins_with (finish_share p k ++ part_halves a) (finish_share q m ++ part_halves b)
-        ≡ leb (tree_last m b)
-            (unwrap_or (slice_get (tree_runs p k a) (length (tree_runs q m b))) (tree_last k a))
+    ≡ leb (tree_last m b)
+    (unwrap_or (slice_get (tree_runs p k a) (length (tree_runs q m b))) (tree_last k a))
 begins_with-alike p q k m a b same =
     ap (λ x. begins_with x (finish_share q m ++ part_halves b)) (tree_share-runs p k a)
-        ∙ ap (begins_with (finish_share (tree_runs p k a) (tree_last k a))) (tree_share-runs q m b)
+    ∙ ap (begins_with (finish_share (tree_runs p k a) (tree_last k a))) (tree_share-runs q m b)
     ∙ begins_with-runs (tree_runs p k a) (tree_last k a) (tree_runs q m b) (tree_last m b)
     ∙ ap (λ t. t && leb (tree_last m b) (get_or (tree_runs p k a) (length (tree_runs q m b)) (tree_last k a)))
-        (starts_with-all (tree_runs p k a) (tree_runs q m b) same)
+    (starts_with-all (tree_runs p k a) (tree_runs q m b) same)
     ∙ ap (leb (tree_last m b))
-        (sym (unwrap_or-slice_get (tree_runs p k a) (length (tree_runs q m b)) (tree_last k a)))
+    (sym (unwrap_or-slice_get (tree_runs p k a) (length (tree_runs q m b)) (tree_last k a)))
 
 -- ---- shares of a pool
 
@@ -104,7 +104,7 @@ in_pool_parts c d a b e =
       ⊎_elim (λ first. (start-begun c.1 d.1 [] [] (part_halves a) (part_halves b) first).0)
           (λ second. sym (start-begun d.1 c.1 [] [] (part_halves b) (part_halves a) second).0)
           (or_cases (begins_with (pool_share c.1 a) (pool_share d.1 b))
-              (begins_with (pool_share d.1 b) (pool_share c.1 a)) both.1),
+          (begins_with (pool_share d.1 b) (pool_share c.1 a)) both.1),
     )
 
 pub overlaps_in_pool-other : (p q : List ℕ) (a b : Part) → is_same_path p q ≡ false
@@ -116,20 +116,20 @@ overlaps_in_pool-other (m ∷ p) (n ∷ q) a b off =
     (λ on.
     let parts = in_pool_parts (last_of m p) (last_of n q) a b on in
     let same : m ∷ p ≡ n ∷ q =
-        child_path m p ∙ ap (λ r. r ++ (last_of m p).1 ∷ []) parts.0
-            ∙ ap (λ k. (last_of n q).0 ++ k ∷ []) parts.1 ∙ sym (child_path n q) in
+    child_path m p ∙ ap (λ r. r ++ (last_of m p).1 ∷ []) parts.0
+    ∙ ap (λ k. (last_of n q).0 ++ k ∷ []) parts.1 ∙ sym (child_path n q) in
     both_ways (is_same_path (m ∷ p) (n ∷ q)) off
-        (ap (is_same_path (m ∷ p)) (sym same) ∙ same_path-itself (m ∷ p)))
+    (ap (is_same_path (m ∷ p)) (sym same) ∙ same_path-itself (m ∷ p)))
 
 pub overlaps_in_pool-same : (p q : List ℕ) (a b : Part) → (length p ≡ 0 → ⊥) → is_same_path p q ≡ true
     → overlaps_in_pool (parent_and_number p) a (parent_and_number q) b
-        ≡ overlaps (part_halves a) (part_halves b)
+    ≡ overlaps (part_halves a) (part_halves b)
 overlaps_in_pool-same [] q a b some same = absurd (some refl)
 overlaps_in_pool-same (n ∷ p) q a b some same =
     let whole : n ∷ p ≡ q = same_path-true (n ∷ p) q same in
     ap (λ r. overlaps_in_pool (parent_and_number (n ∷ p)) a (parent_and_number r) b) (sym whole)
     ∙ ap (λ t. t && overlaps (pool_share (last_of n p).1 a) (pool_share (last_of n p).1 b))
-        (same_path-itself (last_of n p).0)
+    (same_path-itself (last_of n p).0)
     ∙ overlaps-shift (start_share ((last_of n p).1 ∷ [])) (part_halves a) (part_halves b)
 
 pub option_eq-itself : (o p : Option ℕ) → o ≡ p → not (option_eq nat_eq o p) ≡ true → ⊥
@@ -147,7 +147,7 @@ position_from-none test [] i h = refl
 position_from-none test (x ∷ xs) i h =
     let parts = or_parts (test x) (list_any test xs) h in
     cond-false (test x) (Some i) (position_from test (i + 1) xs) parts.0
-        ∙ position_from-none test xs (i + 1) parts.1
+    ∙ position_from-none test xs (i + 1) parts.1
 
 pub position_from-first : (test : Entry → Bool) (xs : List Entry) (i k : ℕ) (x : Entry)
     → list_any test (take k xs) ≡ false → slice_get xs k ≡ Some x → test x ≡ true
@@ -161,4 +161,4 @@ position_from-first test (y ∷ xs) i (suc k) x none at on =
     let parts = or_parts (test y) (list_any test (take k xs)) none in
     let e : (i + 1) + k ≡ i + suc k = omega arith in
     cond-false (test y) (Some i) (position_from test (i + 1) xs) parts.0
-        ∙ position_from-first test xs (i + 1) k x parts.1 at on ∙ ap (λ n. Some n) e
+    ∙ position_from-first test xs (i + 1) k x parts.1 at on ∙ ap (λ n. Some n) e

@@ -32,15 +32,15 @@ IsIn-append_cases x [] ys h = inr h
 IsIn-append_cases x (y ∷ xs) ys h =
     ⊎_elim (λ (same : x ≡ y). inl (inl same))
     (λ (there : IsIn x (xs ++ ys)).
-        ⊎_elim (λ (first : IsIn x xs). inl (inr first)) (λ (second : IsIn x ys). inr second)
-            (IsIn-append_cases x xs ys there)) h
+    ⊎_elim (λ (first : IsIn x xs). inl (inr first)) (λ (second : IsIn x ys). inr second)
+    (IsIn-append_cases x xs ys there)) h
 
 pub list_any-in : (test : List Half → Bool) (x : List Half) (xs : List (List Half)) → IsIn x xs
     → test x ≡ true → list_any test xs ≡ true
 list_any-in test x [] h passes = absurd h
 list_any-in test x (y ∷ xs) h passes =
     ⊎_elim (λ (same : x ≡ y). or_left _ _ (ap test (sym same) ∙ passes))
-        (λ (there : IsIn x xs). or_right (test y) _ (list_any-in test x xs there passes)) h
+    (λ (there : IsIn x xs). or_right (test y) _ (list_any-in test x xs there passes)) h
 
 pub data Passes (test : List Half → Bool) (xs : List (List Half)) : Type 0 where
   passes : (x : List Half) → IsIn x xs → test x ≡ true → Passes test xs
@@ -50,7 +50,7 @@ pub Passes-list_any : (test : List Half → Bool) (xs : List (List Half)) → li
 Passes-list_any test [] h = absurd (false≢true h)
 Passes-list_any test (y ∷ xs) h =
     ⊎_elim (λ first. passes y (inl refl) first) (λ rest. later (Passes-list_any test xs rest))
-        (or_cases (test y) (list_any test xs) h)
+    (or_cases (test y) (list_any test xs) h)
   where
     later : Passes test xs → Passes test (y ∷ xs)
     later (passes x there ok) = passes x (inr there) ok
@@ -65,13 +65,13 @@ all_short : (l x : List Half) (xs : List (List Half)) → ByRecursion (IsShort l
 all_short l x [] h there = absurd there
 all_short l x (y ∷ xs) h there =
     ⊎_elim (λ (same : x ≡ y). omega (arith, h.0, ap length same))
-        (λ (rest : IsIn x xs). all_short l x xs h.1 rest) there
+    (λ (rest : IsIn x xs). all_short l x xs h.1 rest) there
 
 pub begins_with-shift : (a u v : List Half) → begins_with (a ++ u) (a ++ v) ≡ begins_with u v
 begins_with-shift [] u v = refl
 begins_with-shift (h ∷ a) u v =
     ap (λ b. Rattle.std.specs.Prelude.◌&&◌ b (begins_with (a ++ u) (a ++ v))) (is_same_half-itself h)
-        ∙ begins_with-shift a u v
+    ∙ begins_with-shift a u v
 
 pub data IsSplit (l a s : List Half) : Type 0 where
   split : (r : List Half) → l ≡ a ++ r → begins_with r s ≡ true → IsSplit l a s
@@ -81,7 +81,7 @@ IsSplit-begun l [] s e = split l refl e
 IsSplit-begun [] (h ∷ a) s e = absurd (false≢true e)
 IsSplit-begun (g ∷ l) (h ∷ a) s e =
     below (and_parts (is_same_half g h) (begins_with l (a ++ s)) e).0
-        (IsSplit-begun l a s (and_parts (is_same_half g h) (begins_with l (a ++ s)) e).1)
+    (IsSplit-begun l a s (and_parts (is_same_half g h) (begins_with l (a ++ s)) e).1)
   where
     below : is_same_half g h ≡ true → IsSplit l a s → IsSplit (g ∷ l) (h ∷ a) s
     below first (split r same begun) = let k : g ≡ h = same_half g h first in split r (cc) begun
@@ -97,11 +97,11 @@ pub record IsRegion (a s : List Half) (xs ys : List (List Half)) : Type 0 where
 pub Hold-outside : (a s : List Half) (xs ys : List (List Half)) → IsRegion a s xs ys → Hold xs (a ++ s)
     → Hold ys s
 Hold-outside a s xs ys region held l begins long =
-    Any-from_list_any (λ t. begins_with l t) ys ( by_share ( Passes-list_any (λ t. begins_with far t) xs (
-        list_any-from_Any (λ t. begins_with far t) xs
+    Any-from_list_any (λ t. begins_with l t) ys (by_share (Passes-list_any (λ t. begins_with far t) xs (
+    list_any-from_Any (λ t. begins_with far t) xs
     (held far on_s
-        (All-from_recursion (IsShort far) ((a ++ s) ∷ xs)
-            (shorter, IsShort-span far xs (omega (arith, length-far))))))))
+    (All-from_recursion (IsShort far) ((a ++ s) ∷ xs)
+    (shorter, IsShort-span far xs (omega (arith, length-far))))))))
   where
     pad : List Half
     pad = replicate (span xs) Keep
@@ -126,15 +126,15 @@ Hold-outside a s xs ys region held l begins long =
         → list_any (λ t. begins_with l t) ys ≡ true
     by_shifted x on (shifted y inside same) =
         let after : begins_with (l ++ pad) y ≡ true =
-            sym (begins_with-shift a (l ++ pad) y) ∙ ap (begins_with far) (sym same) ∙ on in
+        sym (begins_with-shift a (l ++ pad) y) ∙ ap (begins_with far) (sym same) ∙ on in
         list_any-in (λ t. begins_with l t) y ys inside
-            (begins_with-cut l pad y after (all_short l y ys short.1 inside))
+        (begins_with-cut l pad y after (all_short l y ys short.1 inside))
 
     by_share : Passes (λ t. begins_with far t) xs → list_any (λ t. begins_with l t) ys ≡ true
     by_share (passes x inside on) =
         by_shifted x on (region.back x inside
         (⊎_elim (λ first. or_left _ _ first) (λ second. or_right (begins_with x (a ++ s)) _ second)
-            (begins_with-either far x (a ++ s) on on_s)))
+        (begins_with-either far x (a ++ s) on on_s)))
 
 pub Hold-inside : (a s : List Half) (xs ys : List (List Half)) → IsRegion a s xs ys → Hold ys s
     → Hold xs (a ++ s)
@@ -148,12 +148,12 @@ Hold-inside a s xs ys region held l begins long =
         → list_any (λ t. begins_with l t) xs ≡ true
     by_share r same (passes y inside on) =
         list_any-in (λ t. begins_with l t) (a ++ y) xs (region.there y inside)
-            (ap (λ x. begins_with x (a ++ y)) same ∙ begins_with-shift a r y ∙ on)
+        (ap (λ x. begins_with x (a ++ y)) same ∙ begins_with-shift a r y ∙ on)
 
     by_split : IsSplit l a s → list_any (λ t. begins_with l t) xs ≡ true
     by_split (split r same begun) =
-        by_share r same ( Passes-list_any (λ t. begins_with r t) ys ( list_any-from_Any (λ t. begins_with r t)
-            ys
+        by_share r same (Passes-list_any (λ t. begins_with r t) ys (list_any-from_Any (λ t. begins_with r t)
+        ys
         (held r begun (All-from_recursion (IsShort r) (s ∷ ys) (
           omega (arith, short.0, ap length same, length-append a r, length-append a s),
           short_from_all r ys (λ y inside.

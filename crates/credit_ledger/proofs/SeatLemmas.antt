@@ -96,29 +96,29 @@ copies id v idle s kept at = (
         ⊎_elim
         (λ (ey : get_elem? s.views n ≡ some y). kept.3.apart m n x y ex ey tx ty same)
         (λ (new : (copied v ≡ y) × (n ≡ length s.views)).
-            absurd (false_true (ap (λ (z : View). has_ticket z.stage) new.0 ∙ ty)))
+        absurd (false_true (ap (λ (z : View). has_ticket z.stage) new.0 ∙ ty)))
         (split_at n y en))
         (λ (new : (copied v ≡ x) × (m ≡ length s.views)).
-            absurd (false_true (ap (λ (z : View). has_ticket z.stage) new.0 ∙ tx)))
+        absurd (false_true (ap (λ (z : View). has_ticket z.stage) new.0 ∙ tx)))
         (split_at m x em);
     held =
         λ t low high.
-            subst (λ l. IsHeld (l ++ copied v ∷ []) t) (sym again)
-                (held-longer s.views (copied v ∷ []) t (kept.3.held t low high));
+        subst (λ l. IsHeld (l ++ copied v ∷ []) t) (sym again)
+        (held-longer s.views (copied v ∷ []) t (kept.3.held t low high));
     given = λ n u e.
         ⊎_elim
         (λ (old : get_elem? s.views n ≡ some u). let few = kept.3.given n u old in omega (arith, few, longer))
         (λ (new : (copied v ≡ u) × (n ≡ length s.views)).
-            let same = ap (λ (z : View). z.given) new.0 in
-            let few = kept.3.given id v at in omega (arith, same, few, longer))
+        let same = ap (λ (z : View). z.given) new.0 in
+        let few = kept.3.given id v at in omega (arith, same, few, longer))
         (split_at n u e);
     gone = λ n u e.
         ⊎_elim
         (λ (old : get_elem? s.views n ≡ some u).
-            subst (λ l. AreSpent (l ++ copied v ∷ []) u.claims) (sym again)
-                (spent-longer s.views (copied v ∷ []) u.claims (kept.3.gone n u old)))
+        subst (λ l. AreSpent (l ++ copied v ∷ []) u.claims) (sym again)
+        (spent-longer s.views (copied v ∷ []) u.claims (kept.3.gone n u old)))
         (λ (new : (copied v ≡ u) × (n ≡ length s.views)).
-            subst (λ (z : View). AreSpent (set s.views id v ++ copied v ∷ []) z.claims) new.0 tt)
+        subst (λ (z : View). AreSpent (set s.views id v ++ copied v ∷ []) z.claims) new.0 tt)
         (split_at n u e);
     home = home kept.3.home;
   },
@@ -154,7 +154,7 @@ copies id v idle s kept at = (
     seats n u (inl e) = kept.3.seats n u e
     seats n u (inr new) =
         subst (Fits kept.0 kept.1 kept.2 n) new.0
-            (knows.seen, knows.seen, refl, kept.3.strangers n (omega (arith, new.1)), later n new.1)
+        (knows.seen, knows.seen, refl, kept.3.strangers n (omega (arith, new.1)), later n new.1)
 
     home : IsHome kept.0 s
         → IsHome kept.0 (record {
@@ -164,11 +164,14 @@ copies id v idle s kept at = (
         })
     home (inl there) = inl there
     home (inr out) =
-        inr
-            (out.0, out.1, out.2,
-                at_longer (set s.views id v) (copied v ∷ []) out.1 out.2
-                    (subst (λ l. get_elem? l out.1 ≡ some out.2) (sym again) out.3),
-                out.4)
+        inr (
+          out.0,
+          out.1,
+          out.2,
+          at_longer (set s.views id v) (copied v ∷ []) out.1 out.2
+              (subst (λ l. get_elem? l out.1 ≡ some out.2) (sym again) out.3),
+          out.4,
+        )
 
 -- a new seat learns its number
 pub settles : (slots id : ℕ) (me : Me Slot View) → me.0.stage ≡ Fresh → me.1 ≡ []
@@ -184,21 +187,21 @@ settles slots id me fresh empty s kept count at small = (
     kept-changed kept.0 kept.1 kept.2 s kept.3 id me.0 at kept.0 kept.1 kept.2
         (set s.words 0 (slice_index s.words 0)) s.homes (with_number me.0 id)
         (ap (λ ws. set ws 0 (slice_index s.words 0)) kept.3.words
-            ∙ ap (λ n. n ∷ kept.2 ∷ []) (at_words s.words kept.1 kept.2 kept.3.words).0)
+        ∙ ap (λ n. n ∷ kept.2 ∷ []) (at_words s.words kept.1 kept.2 kept.3.words).0)
         kept.3.served kept.3.legal (λ n u other e. kept.3.seats n u e)
         (record { number = refl; seen = fits.0; told = fits.1; own = fits.3 ∙ sym fits.2 })
         kept.3.strangers
         (λ has. absurd (false_true has))
         (λ gone. absurd (not_spent me.0.stage Fresh fresh refl gone))
         (spent-set s.views id me.0 (with_number me.0 id)
-            at (λ gone. absurd (not_spent me.0.stage Fresh fresh refl gone)) me.0.claims
-            (kept.3.gone id me.0 at))
+        at (λ gone. absurd (not_spent me.0.stage Fresh fresh refl gone)) me.0.claims
+        (kept.3.gone id me.0 at))
         (λ t low high.
-            held-set s.views id me.0 (with_number me.0 id) t
-                at (λ has _. absurd (no_ticket me.0.stage Fresh fresh refl has)) (kept.3.held t low high))
+        held-set s.views id me.0 (with_number me.0 id) t
+        at (λ has _. absurd (no_ticket me.0.stage Fresh fresh refl has)) (kept.3.held t low high))
         (omega (arith, below s.views id me.0 at))
         (home-kept kept.0 s id me.0 (with_number me.0 id) (set s.words 0 (slice_index s.words 0))
-            at (λ turn. absurd (fresh_turn (sym fresh ∙ turn))) kept.3.home),
+        at (λ turn. absurd (fresh_turn (sym fresh ∙ turn))) kept.3.home),
   ),
   (id, no_calls id kept.0 me.0.seen fits.0 fits.3, fits.4, refl),
 )
@@ -217,11 +220,11 @@ tells id other v w idle idle_too s kept at apart there = (
       kept.3.words kept.3.served kept.3.legal (λ n u _ e. mid_kept.seats n u e) tt
       mid_kept.strangers (λ has. absurd (false_true has)) (λ _. refl) tt
       (λ t low high.
-          held-set mid.views other w spent t there
-              (λ has _. absurd (no_ticket w.stage Idle idle_too refl has)) (mid_kept.held t low high))
-          (omega arith)
+      held-set mid.views other w spent t there
+      (λ has _. absurd (no_ticket w.stage Idle idle_too refl has)) (mid_kept.held t low high))
+      (omega arith)
       (home-kept kept.0 mid other w spent s.words there (λ turn. absurd (idle_turn (sym idle_too ∙ turn)))
-          mid_kept.home),
+      mid_kept.home),
 )
   where
     mid : State Slot View
@@ -233,7 +236,7 @@ tells id other v w idle idle_too s kept at apart there = (
     knows_too : Knows kept.0 other w
     knows_too =
         subst (λ st. FitsAt st kept.0 kept.1 kept.2 other w) idle_too
-            (kept.3.seats other w (sym (set_else s.views id other (told_of v w) apart) ∙ there))
+        (kept.3.seats other w (sym (set_else s.views id other (told_of v w) apart) ∙ there))
 
     mid_kept : IsKept kept.0 kept.1 kept.2 (record {
       words = s.words;
@@ -242,7 +245,7 @@ tells id other v w idle idle_too s kept at apart there = (
     })
     mid_kept =
         kept-changed kept.0 kept.1 kept.2 s kept.3 id v at kept.0 kept.1 kept.2 s.words s.homes (told_of v w)
-            kept.3.words kept.3.served kept.3.legal (λ n u _ e. kept.3.seats n u e)
+        kept.3.words kept.3.served kept.3.legal (λ n u _ e. kept.3.seats n u e)
         (subst (λ st. FitsAt st kept.0 kept.1 kept.2 id (told_of v w)) (sym idle) (record {
           number = knows.number;
           seen = knows.seen;
@@ -252,12 +255,12 @@ tells id other v w idle idle_too s kept at apart there = (
         kept.3.strangers (λ has. absurd (false_true (sym (ap has_ticket idle) ∙ has)))
         (λ is. absurd (not_spent v.stage Idle idle refl is))
         (spent-set s.views id v (told_of v w) at (λ is. absurd (not_spent v.stage Idle idle refl is)) v.claims
-            (kept.3.gone id v at))
+        (kept.3.gone id v at))
         (λ t low high.
-            held-set s.views id v (told_of v w) t at (λ has is. (has, is)) (kept.3.held t low high))
+        held-set s.views id v (told_of v w) t at (λ has is. (has, is)) (kept.3.held t low high))
         (let few = kept.3.given id v at in
-         let few_too = kept.3.given other w (sym (set_else s.views id other (told_of v w) apart) ∙ there) in
-         omega (arith, few, few_too))
+        let few_too = kept.3.given other w (sym (set_else s.views id other (told_of v w) apart) ∙ there) in
+        omega (arith, few, few_too))
         (home-kept kept.0 s id v (told_of v w) s.words at (λ turn. turn) kept.3.home)
 
 -- a seat hears from a new one which numbers are given
@@ -271,11 +274,11 @@ hears id other v w idle fresh s kept at apart there = (
       kept.3.words kept.3.served kept.3.legal (λ n u _ e. mid_kept.seats n u e) tt
       mid_kept.strangers (λ has. absurd (false_true has)) (λ _. refl) tt
       (λ t low high.
-          held-set mid.views other w spent t there (λ has _. absurd (no_ticket w.stage Fresh fresh refl has))
-              (mid_kept.held t low high))
-          (omega arith)
+      held-set mid.views other w spent t there (λ has _. absurd (no_ticket w.stage Fresh fresh refl has))
+      (mid_kept.held t low high))
+      (omega arith)
       (home-kept kept.0 mid other w spent s.words there (λ turn. absurd (fresh_turn (sym fresh ∙ turn)))
-          mid_kept.home),
+      mid_kept.home),
 )
   where
     mid : State Slot View
@@ -291,7 +294,7 @@ hears id other v w idle fresh s kept at apart there = (
     })
     mid_kept =
         kept-changed kept.0 kept.1 kept.2 s kept.3 id v at kept.0 kept.1 kept.2 s.words s.homes
-            (with_given v w.given) kept.3.words kept.3.served kept.3.legal (λ n u _ e. kept.3.seats n u e)
+        (with_given v w.given) kept.3.words kept.3.served kept.3.legal (λ n u _ e. kept.3.seats n u e)
         (subst (λ st. FitsAt st kept.0 kept.1 kept.2 id (with_given v w.given)) (sym idle) (record {
           number = knows.number;
           seen = knows.seen;
@@ -301,9 +304,9 @@ hears id other v w idle fresh s kept at apart there = (
         kept.3.strangers (λ has. absurd (no_ticket v.stage Idle idle refl has))
         (λ is. absurd (not_spent v.stage Idle idle refl is))
         (spent-set s.views id v (with_given v w.given) at (λ is. absurd (not_spent v.stage Idle idle refl is))
-            v.claims (kept.3.gone id v at))
+        v.claims (kept.3.gone id v at))
         (λ t low high.
-            held-set s.views id v (with_given v w.given) t at (λ has is. (has, is)) (kept.3.held t low high))
+        held-set s.views id v (with_given v w.given) t at (λ has is. (has, is)) (kept.3.held t low high))
         (kept.3.given other w (sym (set_else s.views id other (with_given v w.given) apart) ∙ there))
         (home-kept kept.0 s id v (with_given v w.given) s.words at (λ turn. turn) kept.3.home)
 
@@ -327,26 +330,26 @@ sits slots s kept count small = (
           ⊎_elim
           (λ (ey : get_elem? s.views n ≡ some y). kept.3.apart m n x y ex ey tx ty same)
           (λ (is : (new ≡ y) × (n ≡ length s.views)).
-              absurd (false_true (ap (λ (z : View). has_ticket z.stage) is.0 ∙ ty)))
+          absurd (false_true (ap (λ (z : View). has_ticket z.stage) is.0 ∙ ty)))
           (snoc_at s.views new n y en))
           (λ (is : (new ≡ x) × (m ≡ length s.views)).
-              absurd (false_true (ap (λ (z : View). has_ticket z.stage) is.0 ∙ tx)))
+          absurd (false_true (ap (λ (z : View). has_ticket z.stage) is.0 ∙ tx)))
           (snoc_at s.views new m x em);
       held = λ t low high. held-longer s.views (new ∷ []) t (kept.3.held t low high);
       given = λ n u e.
           ⊎_elim
           (λ (old : get_elem? s.views n ≡ some u).
-              let few = kept.3.given n u old in omega (arith, few, length-append s.views (new ∷ [])))
+          let few = kept.3.given n u old in omega (arith, few, length-append s.views (new ∷ [])))
           (λ (is : (new ≡ u) × (n ≡ length s.views)).
-              let same = ap (λ (z : View). z.given) is.0 in
-              omega (arith, same, length-append s.views (new ∷ [])))
+          let same = ap (λ (z : View). z.given) is.0 in
+          omega (arith, same, length-append s.views (new ∷ [])))
           (snoc_at s.views new n u e);
       gone = λ n u e.
           ⊎_elim
           (λ (old : get_elem? s.views n ≡ some u).
-              spent-longer s.views (new ∷ []) u.claims (kept.3.gone n u old))
+          spent-longer s.views (new ∷ []) u.claims (kept.3.gone n u old))
           (λ (is : (new ≡ u) × (n ≡ length s.views)).
-              subst (λ (z : View). AreSpent (s.views ++ new ∷ []) z.claims) is.0 tt)
+          subst (λ (z : View). AreSpent (s.views ++ new ∷ []) z.claims) is.0 tt)
           (snoc_at s.views new n u e);
       home = home kept.3.home;
     },
@@ -411,12 +414,12 @@ gathers id other v w turn idle s kept at apart there = (
     claim : StartsWith v.seen w.seen × (calls_of w.number v.seen ≡ w.own)
     claim =
         subst (λ h. StartsWith h w.seen × (calls_of w.number h ≡ w.own)) (sym fits.3)
-            (knows.seen, ap (λ n. calls_of n kept.0) knows.number ∙ knows.own)
+        (knows.seen, ap (λ n. calls_of n kept.0) knows.number ∙ knows.own)
 
     others : AreOfOthers w.number v.claims
     others =
         spent-others s.views w.number w (ap (get_elem? s.views) knows.number ∙ there_too)
-            (not_spent w.stage Idle idle refl) v.claims (kept.3.gone id v at)
+        (not_spent w.stage Idle idle refl) v.claims (kept.3.gone id v at)
 
     mid_kept : IsKept kept.0 kept.1 kept.2 (record {
       words = s.words;
@@ -425,21 +428,23 @@ gathers id other v w turn idle s kept at apart there = (
     })
     mid_kept =
         kept-changed kept.0 kept.1 kept.2 s kept.3 other w there_too kept.0 kept.1 kept.2 s.words s.homes
-            spent kept.3.words kept.3.served kept.3.legal (λ n u _ e. kept.3.seats n u e) tt
+        spent kept.3.words kept.3.served kept.3.legal (λ n u _ e. kept.3.seats n u e) tt
         kept.3.strangers (λ has. absurd (false_true has)) (λ _. refl) tt
         (λ t low high.
-            held-set s.views other w spent t there_too
-                (λ has _. absurd (no_ticket w.stage Idle idle refl has)) (kept.3.held t low high))
-            (omega arith)
+        held-set s.views other w spent t there_too
+        (λ has _. absurd (no_ticket w.stage Idle idle refl has)) (kept.3.held t low high))
+        (omega arith)
         (home-kept kept.0 s other w spent s.words there_too (λ stays. absurd (idle_turn (sym idle ∙ stays)))
-            kept.3.home)
+        kept.3.home)
 
     now_spent : AreSpent (set s.views other spent) (claim_of w ∷ v.claims)
     now_spent = (
-      (spent,
-          ap (get_elem? (set s.views other spent)) knows.number
-              ∙ set_here s.views other spent (below s.views other w there_too),
-          refl),
+      (
+        spent,
+        ap (get_elem? (set s.views other spent)) knows.number
+            ∙ set_here s.views other spent (below s.views other w there_too),
+        refl,
+      ),
       spent-set s.views other w spent there_too (λ _. refl) v.claims (kept.3.gone id v at),
     )
 
@@ -450,24 +455,30 @@ gathers id other v w turn idle s kept at apart there = (
     })
     both_kept =
         kept-changed kept.0 kept.1 kept.2 mid mid_kept id v at_too kept.0 kept.1 kept.2 s.words s.homes
-            (with_claim v w) kept.3.words kept.3.served kept.3.legal (λ n u _ e. mid_kept.seats n u e)
-        (subst (λ st. FitsAt st kept.0 kept.1 kept.2 id (with_claim v w)) (sym turn)
-        (record {
-          number = fits.0.number;
-          seen = fits.0.seen;
-          told = fits.0.told;
-          own = fits.0.own;
-        }, fits.1, fits.2, fits.3, (claim, fits.4), (others, fits.5)))
+        (with_claim v w) kept.3.words kept.3.served kept.3.legal (λ n u _ e. mid_kept.seats n u e)
+        (subst (λ st. FitsAt st kept.0 kept.1 kept.2 id (with_claim v w)) (sym turn) (
+          record {
+            number = fits.0.number;
+            seen = fits.0.seen;
+            told = fits.0.told;
+            own = fits.0.own;
+          },
+          fits.1,
+          fits.2,
+          fits.3,
+          (claim, fits.4),
+          (others, fits.5),
+        ))
         mid_kept.strangers
         (λ _ n u apart_too e has same.
-            apart_too (sym (mid_kept.apart id n v u at_too e (ap has_ticket turn) has same)))
+        apart_too (sym (mid_kept.apart id n v u at_too e (ap has_ticket turn) has same)))
         (λ is. absurd (not_spent v.stage Turn turn refl is))
         (spent-set (set s.views other spent) id v (with_claim v w) at_too
-            (λ is. absurd (not_spent v.stage Turn turn refl is)) (claim_of w ∷ v.claims) now_spent)
+        (λ is. absurd (not_spent v.stage Turn turn refl is)) (claim_of w ∷ v.claims) now_spent)
         (λ t low high.
-            held-set (set s.views other spent) id v (with_claim v w) t at_too (λ has is. (has, is))
-                (mid_kept.held t low high))
-            (mid_kept.given id v at_too)
+        held-set (set s.views other spent) id v (with_claim v w) t at_too (λ has is. (has, is))
+        (mid_kept.held t low high))
+        (mid_kept.given id v at_too)
         (home-kept kept.0 mid id v (with_claim v w) s.words at_too (λ stays. stays) mid_kept.home)
 
 -- and is told of what it took in
@@ -483,7 +494,7 @@ told_claims slots id me turn s kept count at small = (
     kept.2,
     kept-same kept.0 kept.1 kept.2 s kept.3 id me.0 at (set s.words 0 (slice_index s.words 0))
         (ap (λ ws. set ws 0 (slice_index s.words 0)) kept.3.words
-            ∙ ap (λ n. n ∷ kept.2 ∷ []) (at_words s.words kept.1 kept.2 kept.3.words).0),
+        ∙ ap (λ n. n ∷ kept.2 ∷ []) (at_words s.words kept.1 kept.2 kept.3.words).0),
   ),
   (refl, fits.4, fits.5),
 )

@@ -136,12 +136,12 @@ pub record IsLater (v : View) (n : ℕ) : Type 0 where
 abbrev pub FitsAt : Stage → List Step → ℕ → ℕ → ℕ → View → Type 0
 FitsAt Fresh history next serving n v =
     StartsWith history v.seen × StartsWith history v.told × (v.own ≡ []) × (calls_of n history ≡ [])
-        × IsLater v n
+    × IsLater v n
 FitsAt Idle history next serving n v = Knows history n v
 FitsAt Waiting history next serving n v = Knows history n v × (serving ≤ v.ticket) × (v.ticket < next)
 FitsAt Turn history next serving n v =
     Knows history n v × (v.ticket ≡ serving) × (serving < next) × (v.seen ≡ history)
-        × AreClaims v.seen v.claims
+    × AreClaims v.seen v.claims
     × AreApart v.claims
 FitsAt Spent history next serving n v = Unit {0}
 
@@ -182,7 +182,7 @@ Kept s = (history : List Step) × (next : ℕ) × (serving : ℕ) × IsKept hist
 abbrev pub Settled : Me Slot View → Me Slot View → Type 0
 Settled before after =
     (n : ℕ) × (calls_of n before.0.seen ≡ []) × IsLater before.0 n
-        × (after ≡ (with_number before.0 n, before.1))
+    × (after ≡ (with_number before.0 n, before.1))
 
 -- a new seat, which has seen what this one has, has made no call, and has a number that is later than this
 -- one's, than each that this one knows to be given, and than each that stands in what it has seen

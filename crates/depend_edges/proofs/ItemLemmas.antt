@@ -17,8 +17,8 @@ pub depends_index : (rs : List Record) (family : FamilyView) (task : ℕ) (dep :
     → DependsOn rs task dep → (index : ℕ) × (slice_get family.tasks index ≡ Some task)
 depends_index rs family task dep are depends =
     let found =
-        subject_index dependences (task, depends.1) task rs depends.0 family.tasks _
-            (dependences_subject task depends.1) (subject_calls rs family depends.0 are) depends.2 in
+    subject_index dependences (task, depends.1) task rs depends.0 family.tasks _
+    (dependences_subject task depends.1) (subject_calls rs family depends.0 are) depends.2 in
     (found.0, found.2)
 
 pub unmade_items : (rs : List Record) (family : FamilyView) (task : ℕ) → IsFamilyOf rs family

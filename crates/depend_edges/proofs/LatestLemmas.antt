@@ -52,16 +52,17 @@ pub maxima_more : (rs : List Record) (tasks own siblings : List ℕ) (n index ta
     → AreMaxima rs tasks own siblings (n + 1) new
 maxima_more rs tasks own siblings n index task items old new apart here is_index depends entered are =
     record {
-  bound = bound;
-  only = λ var kind. elim (entered.only var kind) [
-    | inl kept ↦ elim (are.only var kind) [
-      | inl nothing ↦ inl (kept ∙ nothing)
-      | inr (place, item, is, location, alike, reached) ↦
-          inr (place, item, use_on rs tasks siblings n place item is, location, alike, kept ∙ reached)
-    ]
-    | inr (item, has, location, alike, reached) ↦ inr (index, item, used item has, location, alike, reached)
-  ];
-}
+      bound = bound;
+      only = λ var kind. elim (entered.only var kind) [
+        | inl kept ↦ elim (are.only var kind) [
+          | inl nothing ↦ inl (kept ∙ nothing)
+          | inr (place, item, is, location, alike, reached) ↦
+              inr (place, item, use_on rs tasks siblings n place item is, location, alike, kept ∙ reached)
+        ]
+        | inr (item, has, location, alike, reached) ↦
+            inr (index, item, used item has, location, alike, reached)
+      ];
+    }
   where
     used : (item : Dep) → Contains items item → IsUse rs tasks siblings (n + 1) index item
     used item has = record {
@@ -78,21 +79,21 @@ maxima_more rs tasks own siblings n index task items old new apart here is_index
     bound place item is = elim (cases_lt is.number n) [
       | inl less ↦
           let before =
-              are.bound place item (record {
-                number = is.number;
-                below = less;
-                sibling = is.sibling;
-                stands = is.stands;
-                is_index = is.is_index;
-                depends = is.depends;
-              }) in
+          are.bound place item (record {
+            number = is.number;
+            below = less;
+            sibling = is.sibling;
+            stands = is.stands;
+            is_index = is.is_index;
+            depends = is.depends;
+          }) in
           let after = entered.rises item.var item.kind in
           omega (arith, before, after)
       | inr more ↦
           let below = is.below in
           let same : n ≡ is.number = omega (arith, below, more) in
           let its : task ≡ is.sibling =
-              same_Some task is.sibling (sym here ∙ ap (slice_get siblings) same ∙ is.stands) in
+          same_Some task is.sibling (sym here ∙ ap (slice_get siblings) same ∙ is.stands) in
           let at : index ≡ place = apart index place task is_index (is.is_index ∙ ap Some (sym its)) in
           let P : ℕ → Type 0 = λ t. DependsOn rs t item in
           let stands = contains_get items item ((depends item).1 (subst P (sym its) is.depends)) in
@@ -115,9 +116,13 @@ child_latest rs tasks own parent number task greatest items map once child depen
     | inr (item, kind, has, conflicts, reached) ↦ elim (are.only item.var kind) [
       | inl nothing ↦ inl (sym reached ∙ nothing)
       | inr (index, other, used, location, alike, at) ↦
-          inr
-              (index, used.sibling, as_predecessor item other kind index has conflicts used location alike,
-                  used.is_index, sym at ∙ reached)
+          inr (
+            index,
+            used.sibling,
+            as_predecessor item other kind index has conflicts used location alike,
+            used.is_index,
+            sym at ∙ reached,
+          )
     ]
   ];
 }
@@ -157,8 +162,8 @@ child_latest rs tasks own parent number task greatest items map once child depen
         let low = are.bound other before.other used in
         let stands = contains_get items before.item ((depends before.item).1 before.depends) in
         let high =
-            is.bound stands.0 before.item before.other.kind
-                (slice_get_within items stands.0 before.item stands.1) stands.1 before.conflicting in
+        is.bound stands.0 before.item before.other.kind
+        (slice_get_within items stands.0 before.item stands.1) stands.1 before.conflicting in
         let Q : ℕ → Type 0 = λ v. slice_index own other ≤ maximum_at map v before.other.kind in
         let there = subst Q before.same_location low in
         omega (arith, there, high)
@@ -173,24 +178,25 @@ latest_next rs tasks own latest up parent is_up are = record {
   all = are.all;
   bound =
       λ index task other predecessor here is (place, stands, passed) at.
-          are.bound index task other predecessor here is (
-    place,
-    stands,
-    elim passed [
-      | inr (same, low) ↦ absurd (omega (arith, low))
-      | inl low ↦ elim (cases_lt place up) [
-        | inl less ↦ inl less
-        | inr more ↦
-            let same : place ≡ up = omega (arith, low, more) in
-            let its : is.parent ≡ parent =
+      are.bound index task other predecessor here is (
+        place,
+        stands,
+        elim passed [
+          | inr (same, low) ↦ absurd (omega (arith, low))
+          | inl low ↦ elim (cases_lt place up) [
+            | inl less ↦ inl less
+            | inr more ↦
+                let same : place ≡ up = omega (arith, low, more) in
+                let its : is.parent ≡ parent =
                 same_Some is.parent parent (sym stands ∙ ap (slice_get tasks) same ∙ is_up) in
-            inr
-                (same,
-                    slice_get_within (children rs parent) is.number task
-                        (ap (λ p. slice_get (children rs p) is.number) (sym its) ∙ is.is_child))
-      ]
-    ],
-  ) at;
+                inr (
+                  same,
+                  slice_get_within (children rs parent) is.number task
+                      (ap (λ p. slice_get (children rs p) is.number) (sym its) ∙ is.is_child),
+                )
+          ]
+        ],
+      ) at;
   only = are.only;
 }
 
@@ -205,34 +211,38 @@ latest_more rs tasks own old up number parent index task latest apart is_up chil
   bound = λ place its other predecessor stands before passed at. elim (cases_eq place index) [
     | inl same ↦
         let same_task : task ≡ its =
-            same_Some task its (sym here ∙ ap (slice_get tasks) (sym same) ∙ stands) in
+        same_Some task its (sym here ∙ ap (slice_get tasks) (sym same) ∙ stands) in
         let P : ℕ → Type 0 = λ t. IsPredecessor rs t predecessor in
         let low = is.bound other predecessor (subst P (sym same_task) before) at in
         let Q : ℕ → Type 0 = λ v. slice_index own other ≤ v in
         subst Q (sym (ap (slice_index (set old index latest)) same ∙ written)) low
     | inr different ↦
         let low =
-            are.bound place its other predecessor stands before
-                (back place its predecessor different stands before passed) at in
+        are.bound place its other predecessor stands before
+        (back place its predecessor different stands before passed) at in
         let Q : ℕ → Type 0 = λ v. slice_index own other ≤ v in
         subst Q (sym (get_or-set_other old index place latest 0 different)) low
   ];
   only = λ place its stands. elim (cases_eq place index) [
     | inl same ↦
         let same_task : task ≡ its =
-            same_Some task its (sym here ∙ ap (slice_get tasks) (sym same) ∙ stands) in
+        same_Some task its (sym here ∙ ap (slice_get tasks) (sym same) ∙ stands) in
         let now : slice_index (set old index latest) place ≡ latest =
-            ap (slice_index (set old index latest)) same ∙ written in
+        ap (slice_index (set old index latest)) same ∙ written in
         elim is.only [
           | inl nothing ↦ inl (now ∙ nothing)
           | inr (other, predecessor, before, at, reached) ↦
-              inr
-                  (other, predecessor, subst (λ (t : ℕ). IsPredecessor rs t predecessor) same_task before, at,
-                      reached ∙ sym now)
+              inr (
+                other,
+                predecessor,
+                subst (λ (t : ℕ). IsPredecessor rs t predecessor) same_task before,
+                at,
+                reached ∙ sym now,
+              )
         ]
     | inr different ↦
         let kept : slice_index (set old index latest) place ≡ slice_index old place =
-            get_or-set_other old index place latest 0 different in
+        get_or-set_other old index place latest 0 different in
         elim (are.only place its stands) [
           | inl nothing ↦ inl (kept ∙ nothing)
           | inr (other, predecessor, before, at, reached) ↦
@@ -261,11 +271,11 @@ latest_more rs tasks own old up number parent index task latest apart is_up chil
           | inr more ↦
               let same_number : before.number ≡ number = omega (arith, low, more) in
               let same_parent : before.parent ≡ parent =
-                  same_Some before.parent parent (sym is_above ∙ ap (slice_get tasks) same ∙ is_up) in
+              same_Some before.parent parent (sym is_above ∙ ap (slice_get tasks) same ∙ is_up) in
               let same_task : its ≡ task =
-                  same_Some its task
-                      (sym before.is_child ∙ ap (λ p. slice_get (children rs p) before.number) same_parent
-                          ∙ ap (slice_get (children rs parent)) same_number ∙ child) in
+              same_Some its task
+              (sym before.is_child ∙ ap (λ p. slice_get (children rs p) before.number) same_parent
+              ∙ ap (slice_get (children rs parent)) same_number ∙ child) in
               absurd (different (apart place index its stands (here ∙ ap Some (sym same_task))))
         ]
       ],
@@ -278,15 +288,15 @@ pub child_index : (rs : List Record) (family : FamilyView) (parent number task :
 child_index rs family parent number task are child =
     let place = child_place rs parent (length rs) number task child in
     contains_get family.tasks task
-        (are.noted.each place.0 task (at_within creation rs place.0 (parent, task) place.2)
-            (creation_made rs parent task place.0 place.2))
+    (are.noted.each place.0 task (at_within creation rs place.0 (parent, task) place.2)
+    (creation_made rs parent task place.0 place.2))
 
 parent_index : (rs : List Record) (family : FamilyView) (parent number task : ℕ) → IsFamilyOf rs family
     → IsChild rs parent number task → (index : ℕ) × (slice_get family.tasks index ≡ Some parent)
 parent_index rs family parent number task are child =
     let place = child_place rs parent (length rs) number task child in
     contains_get family.tasks parent
-        (parent_noted rs family.tasks place.0 parent task are.noted are.rooted place.2)
+    (parent_noted rs family.tasks place.0 parent task are.noted are.rooted place.2)
 
 pub latest_all : (rs : List Record) (family : FamilyView) (own latest : List ℕ) (n : ℕ) → IsFamilyOf rs family
     → length family.tasks ≤ n → AreLatestSoFar rs family.tasks own n 0 latest
@@ -308,8 +318,8 @@ pub child_found : (rs : List Record) (family : FamilyView) (up number task : ℕ
 child_found rs family up number task are within child none =
     let parent = get_or family.tasks up 0 in
     let index =
-        child_index rs family parent number task are
-            (child parent (slice_get-get_or family.tasks up 0 within)) in
+    child_index rs family parent number task are
+    (child parent (slice_get-get_or family.tasks up 0 within)) in
     none index.0 index.1
 
 pub maxima_at_more : (rs : List Record) (family : FamilyView) (own : List ℕ) (up n index task : ℕ)
@@ -320,7 +330,7 @@ pub maxima_at_more : (rs : List Record) (family : FamilyView) (own : List ℕ) (
     → AreMaximaAt rs family.tasks own up n old → AreMaximaAt rs family.tasks own up (n + 1) new
 maxima_at_more rs family own up n index task items old new is child here depends entered are parent is_up =
     maxima_more rs family.tasks own (children rs parent) n index task items old new is.makers.apart
-        (child parent is_up) here depends entered (are parent is_up)
+    (child parent is_up) here depends entered (are parent is_up)
 
 pub latest_at_more : (rs : List Record) (family : FamilyView) (own old : List ℕ)
     (up number index task greatest : ℕ) (items : List Dep) (map : BTreeMap ℕ Maxima)
@@ -334,10 +344,10 @@ latest_at_more rs family own old up number index task greatest items map is with
     let parent = get_or family.tasks up 0 in
     let is_up = slice_get-get_or family.tasks up 0 within in
     latest_more rs family.tasks own old up number parent index task greatest is.makers.apart is_up
-        (child parent is_up) here
-        (child_latest rs family.tasks own parent number task greatest items map is.once (child parent is_up)
-            depends (maxima parent is_up) top)
-        are
+    (child parent is_up) here
+    (child_latest rs family.tasks own parent number task greatest items map is.once (child parent is_up)
+    depends (maxima parent is_up) top)
+    are
 
 pub latest_at_next : (rs : List Record) (tasks own latest : List ℕ) (up n : ℕ) → up < length tasks
     → ((parent : ℕ) → slice_get tasks up ≡ Some parent → length (children rs parent) ≡ n)
@@ -358,13 +368,13 @@ latest_none rs family own latest lists listed is are tells not_listed zeros = re
   all = ap length zeros ∙ length-replicate (length family.tasks) 0;
   each =
       λ index task other predecessor here before there.
-          absurd (none index task before.item here before.depends);
+      absurd (none index task before.item here before.depends);
   only =
       λ index task here.
-          inl
-              (ap (λ l. slice_index l index) zeros
-                  ∙ get_or-replicate (length family.tasks) index 0 0
-                      (slice_get_within family.tasks index task here));
+      inl
+      (ap (λ l. slice_index l index) zeros
+      ∙ get_or-replicate (length family.tasks) index 0 0
+      (slice_get_within family.tasks index task here));
 }
   where
     none : (index task : ℕ) (dep : Dep) → slice_get family.tasks index ≡ Some task → DependsOn rs task dep → ⊥

@@ -45,19 +45,19 @@ same_list : (rs : List Record) (a b i k task : ℕ) (items other : List Dep) →
     → AreFollowed rs b k → i ≡ k
 same_list rs a b i k task items other once lists another first second =
     let own : first.task ≡ task =
-        ap (λ (p : ℕ × List Dep). p.0)
-            (same_Some (first.task, first.items) (task, items) (sym first.listed ∙ lists)) in
+    ap (λ (p : ℕ × List Dep). p.0)
+    (same_Some (first.task, first.items) (task, items) (sym first.listed ∙ lists)) in
     let its : second.task ≡ task =
-        ap (λ (p : ℕ × List Dep). p.0)
-            (same_Some (second.task, second.items) (task, other) (sym second.listed ∙ another)) in
+    ap (λ (p : ℕ × List Dep). p.0)
+    (same_Some (second.task, second.items) (task, other) (sym second.listed ∙ another)) in
     let here : at made rs a ≡ Some task =
-        at_through created_with_deps made first.task first.task rs a (with_deps_made first.task)
-            first.is_created
-            ∙ ap Some own in
+    at_through created_with_deps made first.task first.task rs a (with_deps_made first.task)
+    first.is_created
+    ∙ ap Some own in
     let there : at made rs b ≡ Some task =
-        at_through created_with_deps made second.task second.task rs b (with_deps_made second.task)
-            second.is_created
-            ∙ ap Some its in
+    at_through created_with_deps made second.task second.task rs b (with_deps_made second.task)
+    second.is_created
+    ∙ ap Some its in
     let same : b ≡ a = made_once rs task b a once there here in
     let P : ℕ → Type 0 = λ c. IsNextInThread rs c k in
     one_next rs a i k first.next (subst P same second.next)
@@ -67,17 +67,17 @@ one_list rs once placed i k task items other lists another = elim (cases_eq i k)
   | inl same ↦ same
   | inr apart ↦
       absurd
-          (placed i
-              (deps_place
-                  (stray (ap is_some lists)
-                      (λ a first.
-                          placed k
-                              (deps_place
-                                  (stray (ap is_some another)
-                                      (λ b second.
-                                          apart
-                                              (same_list rs a b i k task items other once lists another first
-                                                  second))))))))
+      (placed i
+      (deps_place
+      (stray (ap is_some lists)
+      (λ a first.
+      placed k
+      (deps_place
+      (stray (ap is_some another)
+      (λ b second.
+      apart
+      (same_list rs a b i k task items other once lists another first
+      second))))))))
 ]
 
 -- ---- in the tasks' own order, which has the same records
@@ -87,12 +87,14 @@ listed_in_file : (rs : List Record) (own : OwnView) (number : ℕ) (list : ℕ �
     → (place : ℕ) × (slice_get own.places number ≡ Some place) × (at dependences rs place ≡ Some list)
 listed_in_file rs own number list of is says =
     let within : number < length own.places =
-        let below = at_within dependences own.run.records number list says in rw is.places.all below in
-    let stands = slice_get-get_or own.places number 0 within in
-    (get_or own.places number 0, stands,
-        ap (option_and_then (λ (r : Record). dependences r.body))
-            (sym (own_record rs own of number (get_or own.places number 0) stands))
-            ∙ says)
+    let below = at_within dependences own.run.records number list says in rw is.places.all below in
+    let stands = slice_get-get_or own.places number 0 within in (
+      get_or own.places number 0,
+      stands,
+      ap (option_and_then (λ (r : Record). dependences r.body))
+          (sym (own_record rs own of number (get_or own.places number 0) stands))
+          ∙ says,
+    )
 
 -- a task has one list there too
 pub own_lists_once : (rs : List Record) (own : OwnView) → IsOwnOf rs own → IsOwn own
@@ -101,7 +103,7 @@ own_lists_once rs own of is once placed i k task items other lists another =
     let first = listed_in_file rs own i (task, items) of is lists in
     let second = listed_in_file rs own k (task, other) of is another in
     let same : first.0 ≡ second.0 =
-        one_list rs once placed first.0 second.0 task items other first.2 second.2 in
+    one_list rs once placed first.0 second.0 task items other first.2 second.2 in
     is.places.apart i k first.0 first.1 (second.1 ∙ ap Some (sym same))
 
 -- and none has one where the file has none
@@ -117,10 +119,10 @@ own_lists_none rs own lists of is none are = record {
       let within = slice_get_within lists index (Some i) stands in
       let long = slots_long (length own.run.family.tasks) lists are in
       absurd
-          (none-some i
-              (same_Some None (Some i)
-                  (sym (no_slot (length own.run.family.tasks) index lists are (omega (arith, within, long)))
-                      ∙ stands)));
+      (none-some i
+      (same_Some None (Some i)
+      (sym (no_slot (length own.run.family.tasks) index lists are (omega (arith, within, long)))
+      ∙ stands)));
 }
 
 -- ---- the lists so far
@@ -143,18 +145,18 @@ listed_more rs n own task items tasks lists distinct once lists_here is_own are 
     | inr more ↦
         let here : n ≡ i = omega arith in
         let its : task ≡ other =
-            ap (λ (p : ℕ × List Dep). p.0)
-                (same_Some (task, items) (other, list)
-                    (sym lists_here ∙ ap (at dependences rs) here ∙ says)) in
+        ap (λ (p : ℕ × List Dep). p.0)
+        (same_Some (task, items) (other, list)
+        (sym lists_here ∙ ap (at dependences rs) here ∙ says)) in
         let same : index ≡ own = distinct index own other is (is_own ∙ ap Some its) in
         ap (slice_get (set lists own (Some n))) same ∙ stood ∙ ap (λ k. Some (Some k)) here
   ];
   only = λ index i stands. elim (cases_eq index own) [
     | inl same ↦
         let here : n ≡ i =
-            same_Some n i
-                (same_Some (Some n) (Some i)
-                    (sym stood ∙ ap (slice_get (set lists own (Some n))) (sym same) ∙ stands)) in
+        same_Some n i
+        (same_Some (Some n) (Some i)
+        (sym stood ∙ ap (slice_get (set lists own (Some n))) (sym same) ∙ stands)) in
         (task, items, ap (slice_get tasks) same ∙ is_own, ap (at dependences rs) (sym here) ∙ lists_here)
     | inr apart ↦ are.only index i (sym (get_set_other lists own index (Some n) apart) ∙ stands)
   ];
@@ -163,4 +165,4 @@ listed_more rs n own task items tasks lists distinct once lists_here is_own are 
     stood : slice_get (set lists own (Some n)) own ≡ Some (Some n)
     stood =
         get_set_same lists own (Some n)
-            (let within = slice_get_within tasks own task is_own in omega (arith, within, are.all))
+        (let within = slice_get_within tasks own task is_own in omega (arith, within, are.all))

@@ -129,14 +129,14 @@ raised_here : (old new : BTreeMap ℕ Maxima) (var : ℕ) (raised : Maxima)
     → maximum_at new var kind ≡ maximum raised kind
 raised_here old new var raised updates kind =
     ap (λ (o : Option Maxima). option_map_or (λ (m : Maxima). maximum m kind) o 0)
-        (updated_here old new var (Some raised) updates)
+    (updated_here old new var (Some raised) updates)
 
 raised_there : (old new : BTreeMap ℕ Maxima) (var other : ℕ) (raised : Maxima)
     → Updates nat_cmp old new var (Some raised) → other ≢ var → (kind : DepKind)
     → maximum_at new other kind ≡ maximum_at old other kind
 raised_there old new var other raised updates apart kind =
     ap (λ (o : Option Maxima). option_map_or (λ (m : Maxima). maximum m kind) o 0)
-        (updated_there old new var (Some raised) updates other apart)
+    (updated_there old new var (Some raised) updates other apart)
 
 pub entered_more : (start old new : BTreeMap ℕ Maxima) (items : List Dep) (n task_length : ℕ) (item : Dep)
     (was raised : Maxima)
@@ -146,7 +146,7 @@ pub entered_more : (start old new : BTreeMap ℕ Maxima) (items : List Dep) (n t
 entered_more start old new items n task_length item was raised here reads rise updates are = record {
   rises =
       λ var kind.
-          let before = are.rises var kind in let after = rises var kind in omega (arith, before, after);
+      let before = are.rises var kind in let after = rises var kind in omega (arith, before, after);
   entered = λ k other below is. elim (cases_lt k n) [
     | inl less ↦
         let before = are.entered k other less is in
@@ -156,29 +156,33 @@ entered_more start old new items n task_length item was raised here reads rise u
         let its : item ≡ other = same_Some item other (sym here ∙ ap (slice_get items) same ∙ is) in
         let P : Dep → Type 0 = λ d. task_length ≤ maximum_at new d.var d.kind in
         subst P its
-            (let entered = rise.entered in
-             let now = raised_here old new item.var raised updates item.kind in omega (arith, entered, now))
+        (let entered = rise.entered in
+        let now = raised_here old new item.var raised updates item.kind in omega (arith, entered, now))
   ];
   only = λ var kind. elim (cases_eq var item.var) [
     | inr apart ↦
         let same = raised_there old new item.var var raised updates apart kind in elim (are.only var kind) [
-      | inl before ↦ inl (same ∙ before)
-      | inr (other, has, location, alike, is) ↦ inr (other, has, location, alike, same ∙ is)
-    ]
+          | inl before ↦ inl (same ∙ before)
+          | inr (other, has, location, alike, is) ↦ inr (other, has, location, alike, same ∙ is)
+        ]
     | inl same ↦ elim (rise.only kind) [
       | inl kept ↦
           let now : maximum_at new var kind ≡ maximum_at old var kind =
-              ap (λ v. maximum_at new v kind) same ∙ raised_here old new item.var raised updates kind ∙ kept
-                  ∙ reads kind ∙ ap (λ v. maximum_at old v kind) (sym same) in
+          ap (λ v. maximum_at new v kind) same ∙ raised_here old new item.var raised updates kind ∙ kept
+          ∙ reads kind ∙ ap (λ v. maximum_at old v kind) (sym same) in
           elim (are.only var kind) [
             | inl before ↦ inl (now ∙ before)
             | inr (other, has, location, alike, is) ↦ inr (other, has, location, alike, now ∙ is)
           ]
       | inr (is, alike) ↦
-          inr
-              (item, get_contains items item n here, sym same, alike,
-                  ap (λ v. maximum_at new v kind) same ∙ raised_here old new item.var raised updates kind
-                      ∙ is)
+          inr (
+            item,
+            get_contains items item n here,
+            sym same,
+            alike,
+            ap (λ v. maximum_at new v kind) same ∙ raised_here old new item.var raised updates kind
+                ∙ is,
+          )
     ]
   ];
 }
@@ -210,9 +214,9 @@ greatest_more map items n old waits new item maxima here reads awaited is are = 
         let its : item ≡ other = same_Some item other (sym here ∙ ap (slice_get items) same ∙ stands) in
         let P : Dep → Type 0 = λ d. conflict kind d.kind ≡ true → maximum_at map d.var kind ≤ new in
         subst P its
-            (λ clash.
-                let low = awaited.bound kind clash in let read = reads kind in omega (arith, low, read, is))
-            conflicts
+        (λ clash.
+        let low = awaited.bound kind clash in let read = reads kind in omega (arith, low, read, is))
+        conflicts
   ];
   reached = elim (max_cases old waits) [
     | inl kept ↦ elim (are.reached) [

@@ -28,7 +28,7 @@ pub no_slot : (n k : ℕ) (slots : List (Option ℕ)) → slots ≡ replicate n 
 no_slot n k slots are below =
     let long = ap length are ∙ length-replicate n None in
     slice_get-get_or slots k None (omega (arith, below, long))
-        ∙ ap Some (ap (λ l. get_or l k None) are ∙ get_or-replicate n k None None below)
+    ∙ ap Some (ap (λ l. get_or l k None) are ∙ get_or-replicate n k None None below)
 
 pub slots_long : (n : ℕ) (slots : List (Option ℕ)) → slots ≡ replicate n None → length slots ≡ n
 slots_long n slots are = ap length are ∙ length-replicate n None
@@ -88,16 +88,16 @@ last_more rs i own last runs low are = record {
   each = λ thread a below. elim (cases_eq thread own) [
     | inl same ↦
         let P : ℕ → Type 0 =
-            λ t. (slice_get (set last own (Some i)) t ≡ Some (Some a)) ↔ IsLast rs (i + 1) t a in
+        λ t. (slice_get (set last own (Some i)) t ≡ Some (Some a)) ↔ IsLast rs (i + 1) t a in
         subst P (sym same) (here a)
     | inr apart ↦
         let other : thread_at rs i ≢ Some thread = λ e. apart (same_Some thread own (sym e ∙ runs)) in (
           λ stands.
               last_stays rs i thread a other
-                  ((are.each thread a below).0 (sym (get_set_other last own thread (Some i) apart) ∙ stands)),
+              ((are.each thread a below).0 (sym (get_set_other last own thread (Some i) apart) ∙ stands)),
           λ is.
               get_set_other last own thread (Some i) apart
-                  ∙ (are.each thread a below).1 (last_back rs i thread a other is),
+              ∙ (are.each thread a below).1 (last_back rs i thread a other is),
         )
   ];
 }
@@ -109,7 +109,7 @@ last_more rs i own last runs low are = record {
     here a = (
       λ stands. let same : i ≡ a =
           same_Some i a (same_Some (Some i) (Some a) (sym stood ∙ stands)) in let P : ℕ → Type 0 =
-              IsLast rs (i + 1) own in subst P same (last_here rs i own runs),
+          IsLast rs (i + 1) own in subst P same (last_here rs i own runs),
       λ is. stood ∙ ap (λ b. Some (Some b)) (last_same rs i own a runs is),
     )
 
@@ -158,9 +158,9 @@ marked_none rs marks are = record {
         let within = slice_get_within (replicate (length rs) false) i true stands in
         let inside : i < length rs = rw (length-replicate (length rs) false) at within in
         false≢true
-            (sym (get_or-replicate (length rs) i false false inside)
-                ∙ same_Some (get_or (replicate (length rs) false) i false) true
-                    (sym (slice_get-get_or (replicate (length rs) false) i false within) ∙ stands))
+        (sym (get_or-replicate (length rs) i false false inside)
+        ∙ same_Some (get_or (replicate (length rs) false) i false) true
+        (sym (slice_get-get_or (replicate (length rs) false) i false within) ∙ stands))
 
 -- a record before which its thread has none that belongs to it
 pub marked_other : (rs : List Record) (i : ℕ) (marks : List Bool) → ((a : ℕ) → AreFollowed rs a i → ⊥)
@@ -196,7 +196,7 @@ pub marked_unlisted : (rs : List Record) (i : ℕ) (marks : List Bool) (listed :
     → AreMarked rs (i + 1) marks
 marked_unlisted rs i marks listed tells not_listed are =
     marked_other rs i marks (λ a followed. false≢true (sym not_listed ∙ tells.1 (ap is_some followed.listed)))
-        are
+    are
 
 -- one that follows the creation of its task
 pub marked_more : (rs : List Record) (i before : ℕ) (marks : List Bool)
@@ -233,7 +233,7 @@ marked_more rs i before marks one here are = record {
     create : IsMarked (set (set marks before true) i true) before
     create =
         mark_stays (set marks before true) i before
-            (get_set_same marks before true (let later = here.next.later in omega (arith, later, within)))
+        (get_set_same marks before true (let later = here.next.later in omega (arith, later, within)))
 
 -- what the two records say
 pub followed_together : (rs : List Record) (a b : ℕ) → AreFollowed rs a b → BelongTogether rs a b
@@ -339,7 +339,7 @@ pub unmark_here : (marks : List Bool) (i : ℕ) → slice_index_or marks i false
 unmark_here marks i read stands =
     let within = slice_get_within marks i true stands in
     let is : slice_index_or marks i false ≡ true =
-        same_Some (get_or marks i false) true (sym (slice_get-get_or marks i false within) ∙ stands) in
+    same_Some (get_or marks i false) true (sym (slice_get-get_or marks i false within) ∙ stands) in
     false≢true (sym read ∙ is)
 
 pub mark_here : (rs : List Record) (marks : List Bool) (i : ℕ) → i < length rs → length marks ≡ length rs
@@ -387,16 +387,16 @@ pub together_is : (run : RunView) (create list task listed : ℕ) (items : List 
 together_is run create list task listed items is creates lists = (
   λ same.
       let one : id.0 ≡ lists.task =
-          same_Some id.0 lists.task
-              (sym id.2 ∙ ap (slice_get run.family.tasks) (eqb-true task listed same) ∙ lists.indexed) in
+      same_Some id.0 lists.task
+      (sym id.2 ∙ ap (slice_get run.family.tasks) (eqb-true task listed same) ∙ lists.indexed) in
       (id.0, items, id.1, lists.says ∙ ap (λ t. Some (t, items)) (sym one)),
   λ (own, its, created, listed_there).
       let one : id.0 ≡ own = same_Some id.0 own (sym id.1 ∙ created) in
       let two : lists.task ≡ own =
-          ap (λ (p : ℕ × List Dep). p.0)
-              (same_Some (lists.task, items) (own, its) (sym lists.says ∙ listed_there)) in
+      ap (λ (p : ℕ × List Dep). p.0)
+      (same_Some (lists.task, items) (own, its) (sym lists.says ∙ listed_there)) in
       eq-eqb task listed
-          (is.family.makers.apart task listed own (id.2 ∙ ap Some one) (lists.indexed ∙ ap Some two)),
+      (is.family.makers.apart task listed own (id.2 ∙ ap Some one) (lists.indexed ∙ ap Some two)),
 )
   where
     id : (t : ℕ) × (at created_with_deps run.records create ≡ Some t)

@@ -81,7 +81,7 @@ selected_more rs items siblings found n own here clashes are = record {
         get_contains (found ++ own ∷ []) task at.0 (get_pushed found own task at.0 at.1)
     | inr new ↦
         get_contains (found ++ own ∷ []) task (length found)
-            (get_last found own (length found) refl ∙ ap Some new.0)
+        (get_last found own (length found) refl ∙ ap Some new.0)
   ];
   only = λ a task is. elim (pushed_cases found own task a is) [
     | inl before ↦
@@ -93,7 +93,7 @@ selected_more rs items siblings found n own here clashes are = record {
   rising = λ a b before behind less first second. elim (pushed_cases found own behind b second) [
     | inl old ↦
         are.rising a b before behind less
-            (first_old a b before behind less first (slice_get_within found b behind old)) old
+        (first_old a b before behind less first (slice_get_within found b behind old)) old
     | inr last ↦
         let old = are.only a before (first_old_last a b before less first last.0) in
         let below = old.1.below in
@@ -131,9 +131,13 @@ selected_predecessors rs task parent number items found once child are selected 
       selected.all other is.earlier (record {
         below = let smaller = is.smaller in let same_number = same.1 in omega (arith, smaller, same_number);
         stands = subst P same.0 is.sibling;
-        clashes =
-            (is.item, is.other, (are is.item).1 is.depends, is.other_depends,
-                (is.same_location, is.conflicting));
+        clashes = (
+          is.item,
+          is.other,
+          (are is.item).1 is.depends,
+          is.other_depends,
+          (is.same_location, is.conflicting),
+        );
       });
   only = λ other has.
       let place = contains_get found other has in
@@ -169,12 +173,12 @@ no_predecessors rs task found none empty = record {
   all = λ other is. absurd (none is.parent is.number is.is_child);
   only =
       λ other has.
-          absurd
-              (let place = contains_get found other has in
-               none-some other (sym (ap (λ l. slice_get l place.0) empty) ∙ place.1));
+      absurd
+      (let place = contains_get found other has in
+      none-some other (sym (ap (λ l. slice_get l place.0) empty) ∙ place.1));
   rising =
       λ a b before behind up lower greater less first.
-          absurd (none-some before (sym (ap (λ l. slice_get l a) empty) ∙ first));
+      absurd (none-some before (sym (ap (λ l. slice_get l a) empty) ∙ first));
 }
 
 pub child_parent : (rs : List Record) (parent number task : ℕ) → IsChild rs parent number task
@@ -191,9 +195,9 @@ pub child_up : (run : RunView) (index parent number task : ℕ) → IsRun run
 child_up run index parent number task is here child =
     let by = child_parent run.records parent number task child in
     let up =
-        contains_get run.family.tasks parent
-            (parent_noted run.records run.family.tasks by.0 parent task is.family.noted is.family.rooted
-                by.1) in
+    contains_get run.family.tasks parent
+    (parent_noted run.records run.family.tasks by.0 parent task is.family.noted is.family.rooted
+    by.1) in
     (up.0, parent_at_is run.records run.family index task up.0 is.family here (parent, up.1, by), up.1)
 
 -- a task has no predecessors where it has no index, or its parent has none
@@ -202,16 +206,16 @@ pub unmade_predecessors : (run : RunView) (task : ℕ) (found : List ℕ) → Is
     → ArePredecessors run.records task found
 unmade_predecessors run task found is none =
     no_predecessors run.records task found
-        (λ parent number child.
-            let at = child_index run.records run.family parent number task is.family child in none at.0 at.1)
+    (λ parent number child.
+    let at = child_index run.records run.family parent number task is.family child in none at.0 at.1)
 
 pub root_predecessors : (run : RunView) (index task : ℕ) (found : List ℕ) → IsRun run
     → slice_get run.family.tasks index ≡ Some task → parent_index run.family index ≡ None → found ≡ []
     → ArePredecessors run.records task found
 root_predecessors run index task found is here none =
     no_predecessors run.records task found
-        (λ parent number child.
-            let up = child_up run index parent number task is here child in none-some up.0 (sym none ∙ up.1))
+    (λ parent number child.
+    let up = child_up run index parent number task is here child in none-some up.0 (sym none ∙ up.1))
 
 -- the children of the task at the index of its parent are its siblings
 pub siblings_at : (run : RunView) (index up parent number task : ℕ) (siblings : List ℕ) → IsRun run

@@ -48,7 +48,7 @@ same_turn (Some (task, turn)) (Some (other, later)) = elim (cases_eq task other)
 
 started_below : (rs : List Record) (task n : ℕ)
     → ((k : ℕ) → k < n → at begun_turn rs k ≢ Some (task, 0))
-        ⊎ ((k : ℕ) × (k < n) × (at begun_turn rs k ≡ Some (task, 0)))
+    ⊎ ((k : ℕ) × (k < n) × (at begun_turn rs k ≡ Some (task, 0)))
 started_below rs task zero = inl (λ k below. absurd (omega arith))
 started_below rs task (suc n) = elim (started_below rs task n) [
   | inr (k, below, starts) ↦ inr (k, omega arith, starts)
@@ -73,9 +73,9 @@ is_start rs i task = elim (same_turn (at begun_turn rs i) (Some (task, 0))) [
 -- a record that creates a task comes before what the task does
 by_creation : (rs : List Record) (a b task : ℕ) → at created rs a ≡ Some task
     → IsProgramStep rs a b
-        ⊎ ((other : ℕ) → at created rs a ≡ Some other
-              → (IsStart rs b other ⊎ ((at discarded rs b ≡ Some other) ⊎ (at fulfilled rs b ≡ Some other)))
-              → ⊥)
+    ⊎ ((other : ℕ) → at created rs a ≡ Some other
+    → (IsStart rs b other ⊎ ((at discarded rs b ≡ Some other) ⊎ (at fulfilled rs b ≡ Some other)))
+    → ⊥)
 by_creation rs a b task creates = elim (is_start rs b task) [
   | inl starts ↦ inl (creation task creates starts)
   | inr no_start ↦ elim (same_option (at discarded rs b) (Some task)) [
@@ -84,9 +84,9 @@ by_creation rs a b task creates = elim (is_start rs b task) [
       | inl done ↦ inl (fulfilment task creates done)
       | inr not_done ↦
           inr
-              (λ other creates_other.
-                  none other (same_Some task other (sym creates ∙ creates_other)) no_start no_discard
-                      not_done)
+          (λ other creates_other.
+          none other (same_Some task other (sym creates ∙ creates_other)) no_start no_discard
+          not_done)
     ]
   ]
 ]
@@ -101,17 +101,17 @@ by_creation rs a b task creates = elim (is_start rs b task) [
 
 by_any_creation : (rs : List Record) (a b : ℕ)
     → IsProgramStep rs a b
-        ⊎ ((other : ℕ) → at created rs a ≡ Some other
-              → (IsStart rs b other ⊎ ((at discarded rs b ≡ Some other) ⊎ (at fulfilled rs b ≡ Some other)))
-              → ⊥)
+    ⊎ ((other : ℕ) → at created rs a ≡ Some other
+    → (IsStart rs b other ⊎ ((at discarded rs b ≡ Some other) ⊎ (at fulfilled rs b ≡ Some other)))
+    → ⊥)
 by_any_creation rs a b = there (at created rs a) refl
   where
     there : (o : Option ℕ) → at created rs a ≡ o
         → IsProgramStep rs a b
-            ⊎ ((other : ℕ) → at created rs a ≡ Some other
-                  → (IsStart rs b other
-                        ⊎ ((at discarded rs b ≡ Some other) ⊎ (at fulfilled rs b ≡ Some other)))
-                  → ⊥)
+        ⊎ ((other : ℕ) → at created rs a ≡ Some other
+        → (IsStart rs b other
+        ⊎ ((at discarded rs b ≡ Some other) ⊎ (at fulfilled rs b ≡ Some other)))
+        → ⊥)
     there None e = inr (λ other creates. absurd (none-some other (sym e ∙ creates)))
     there (Some task) e = by_creation rs a b task e
 
@@ -125,7 +125,7 @@ by_resumption rs a b = there (at suspended_turn rs a) refl
     there (Some (task, turn)) e = elim (same_turn (at begun_turn rs b) (Some (task, turn + 1))) [
       | inr other ↦ inr (λ again.
           let same : (task, turn) ≡ (again.task, again.turn) =
-              same_Some (task, turn) (again.task, again.turn) (sym e ∙ again.suspends) in
+          same_Some (task, turn) (again.task, again.turn) (sym e ∙ again.suspends) in
           other (again.resumes ∙ ap (λ (t : ℕ × ℕ). Some (t.0, t.1 + 1)) (sym same)))
       | inl resumes ↦ elim (cases_eq a b) [
         | inl same ↦ inr (λ again. again.another same)
@@ -175,8 +175,8 @@ is_step rs a b = elim (by_thread rs a b) [
   where
     none : (a < b → b < length rs → thread_at rs a ≡ thread_at rs b → ⊥)
         → ((other : ℕ) → at created rs a ≡ Some other
-              → (IsStart rs b other ⊎ ((at discarded rs b ≡ Some other) ⊎ (at fulfilled rs b ≡ Some other)))
-              → ⊥)
+        → (IsStart rs b other ⊎ ((at discarded rs b ≡ Some other) ⊎ (at fulfilled rs b ≡ Some other)))
+        → ⊥)
         → (IsResumption rs a b → ⊥) → (is_some (at finish rs a) ≡ true → seen_at rs a < seen_at rs b → ⊥)
         → IsStep rs a b → ⊥
     none no_thread no_creation no_resumption no_ledger (program (thread_order below within same)) =
@@ -196,7 +196,7 @@ closed_grounded : (rs : List Record) (order : List ℕ) → IsGrounded rs order 
 closed_grounded rs order grounded b stands a before =
     let earlier = grounded_rising rs order grounded a b before stands in
     let within : earlier.first < length order =
-        let low = earlier.apart in let high = earlier.within in omega arith in
+    let low = earlier.apart in let high = earlier.within in omega arith in
     (earlier.first, within, get_or_default order earlier.first a 0 within ∙ earlier.a_stands)
 
 grounded_push : (rs : List Record) (order : List ℕ) (place : ℕ) → IsGrounded rs order → IsDue rs order place
@@ -205,7 +205,7 @@ grounded_push rs order place grounded due k below = elim (cases_lt k (length ord
   | inl old ↦
       let old_too : k ≤ length order = omega arith in
       rw (take-append-le k order (place ∷ []) old_too, get_or_append_left order (place ∷ []) 0 k old)
-          (grounded k old)
+      (grounded k old)
   | inr new ↦
       let is_last : k ≡ length order = let b = below in omega (arith, length_push order place) in
       rw (is_last, take_whole, get_or_push order place 0 (length order) refl) due
@@ -214,7 +214,7 @@ grounded_push rs order place grounded due k below = elim (cases_lt k (length ord
     take_whole : take (length order) (order ++ place ∷ []) ≡ order
     take_whole =
         take-append-le (length order) order (place ∷ []) (omega arith)
-            ∙ take_all (length order) order (omega arith)
+        ∙ take_all (length order) order (omega arith)
 
 -- ---- a circle, found by going back from a record
 
@@ -342,9 +342,9 @@ reach rs old x all = record {
   order = all.order ++ x ∷ [];
   grounded =
       grounded_push rs all.order x all.grounded
-          (λ a before.
-              due_from_steps rs all.order (closed_grounded rs all.order all.grounded) a x before
-                  (λ c is. all.steps c (step_from rs c x is) is));
+      (λ a before.
+      due_from_steps rs all.order (closed_grounded rs all.order all.grounded) a x before
+      (λ c is. all.steps c (step_from rs c x is) is));
   keeps = λ a stands. Contains-append_left all.order (x ∷ []) a (all.keeps a stands);
   stands = Contains-push all.order x;
 }
@@ -354,20 +354,20 @@ go_back : (rs : List Record) (i fuel x : ℕ) (path : List ℕ) → IsTrail rs i
     → length rs ≤ length path + fuel → (old : List ℕ) → IsGrounded rs old → Circle rs i ⊎ Reaches rs old x
 go_back rs i zero x path trail enough old grounded =
     let few : length (x ∷ path) ≤ length rs =
-        length-le_from_distinct_below (x ∷ path) (length rs) trail.distinct trail.below in
+    length-le_from_distinct_below (x ∷ path) (length rs) trail.distinct trail.below in
     absurd (omega (arith, few))
 go_back rs i (suc fuel) x path trail enough old grounded =
     elim
-        (steps_before rs i x
-            (visit (λ y longer_trail. go_back rs i fuel y (x ∷ path) longer_trail (omega arith))) old grounded
-            (length rs)) [
-  | inl circle ↦ inl circle
-  | inr all ↦ inr (reach rs old x all)
-]
+    (steps_before rs i x
+    (visit (λ y longer_trail. go_back rs i fuel y (x ∷ path) longer_trail (omega arith))) old grounded
+    (length rs)) [
+      | inl circle ↦ inl circle
+      | inr all ↦ inr (reach rs old x all)
+    ]
   where
     visit :
         ((y : ℕ) → IsTrail rs i y (x ∷ path) → (order : List ℕ) → IsGrounded rs order
-            → Circle rs i ⊎ Reaches rs order y)
+        → Circle rs i ⊎ Reaches rs order y)
         → (y : ℕ) → IsStep rs y x → (order : List ℕ) → IsGrounded rs order → Circle rs i ⊎ Reaches rs order y
     visit further y leads order is_grounded = elim (cases_Bool (list_any (eqb y) (x ∷ path))) [
       | inl passed ↦ inl (closes rs i x y path trail leads passed)
@@ -377,9 +377,9 @@ go_back rs i (suc fuel) x path trail enough old grounded =
 pub circle_from : (rs : List Record) (i : ℕ) → HasNoOrder rs i → Circle rs i
 circle_from rs i none =
     elim (go_back rs i (length rs) i [] trail (omega arith) [] (λ k below. absurd (omega arith))) [
-  | inl circle ↦ circle
-  | inr found ↦ absurd (none.never found.order found.grounded found.stands)
-]
+      | inl circle ↦ circle
+      | inr found ↦ absurd (none.never found.order found.grounded found.stands)
+    ]
   where
     within : (q : ℕ) → (eqb q i || false) ≡ true → q < length rs
     within q found = elim (first_or_later q i [] found) [
@@ -405,8 +405,8 @@ never_earlier rs order a grounded circle (suc fuel) q low within is =
     let earlier = grounded q within a (subst P (sym is) circle) in
     let below : earlier.0 < q = let e = earlier.1 in let t = length-take q order in omega (arith, e, t) in
     never_earlier rs order a grounded circle fuel earlier.0 (omega arith) (omega arith)
-        (get_or_default order earlier.0 0 a (omega arith) ∙ sym (get_or-take q order earlier.0 a below)
-            ∙ earlier.2)
+    (get_or_default order earlier.0 0 a (omega arith) ∙ sym (get_or-take q order earlier.0 a below)
+    ∙ earlier.2)
 
 pub no_order_from : (rs : List Record) (i : ℕ) → i < length rs → Circle rs i → HasNoOrder rs i
 no_order_from rs i inside (a, circle, leads) = record {
@@ -423,4 +423,4 @@ no_order_from rs i inside (a, circle, leads) = record {
     never : (order : List ℕ) → IsGrounded rs order → Contains order a → ⊥
     never order grounded (q, within, is) =
         never_earlier rs order a grounded circle (q + 1) q (omega arith) within
-            (get_or_default order q 0 a within ∙ is)
+        (get_or_default order q 0 a within ∙ is)

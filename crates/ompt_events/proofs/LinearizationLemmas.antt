@@ -36,6 +36,6 @@ grounded_rising rs order grounded a b before (q, inside, is) =
       within = inside;
       a_stands =
           get_or_default order earlier.0 0 a (omega arith) ∙ sym (get_or-take q order earlier.0 a low)
-              ∙ earlier.2;
+          ∙ earlier.2;
       b_stands = b_stands;
     }

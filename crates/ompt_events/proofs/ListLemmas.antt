@@ -14,7 +14,7 @@ get_pushed xs y x i is =
     let within = slice_get_within xs i x is in
     let longer = length_push xs y in
     slice_get-get_or (xs ++ y ∷ []) i x (omega arith) ∙ ap Some (get_or_append_left xs (y ∷ []) x i within)
-        ∙ sym (slice_get-get_or xs i x within) ∙ is
+    ∙ sym (slice_get-get_or xs i x within) ∙ is
 
 pub get_last : {X : Type 0} (xs : List X) (y : X) (i : ℕ) → i ≡ length xs
     → slice_get (xs ++ y ∷ []) i ≡ Some y
@@ -28,8 +28,8 @@ pub pushed_cases : {X : Type 0} (xs : List X) (y x : X) (i : ℕ) → slice_get 
 pushed_cases xs y x i is = elim (cases_lt i (length xs)) [
   | inl old ↦
       inl
-          (slice_get-get_or xs i x old ∙ ap Some (sym (get_or_append_left xs (y ∷ []) x i old))
-              ∙ sym (slice_get-get_or (xs ++ y ∷ []) i x (slice_get_within (xs ++ y ∷ []) i x is)) ∙ is)
+      (slice_get-get_or xs i x old ∙ ap Some (sym (get_or_append_left xs (y ∷ []) x i old))
+      ∙ sym (slice_get-get_or (xs ++ y ∷ []) i x (slice_get_within (xs ++ y ∷ []) i x is)) ∙ is)
   | inr new ↦
       let within = slice_get_within (xs ++ y ∷ []) i x is in
       let longer = length_push xs y in
@@ -79,7 +79,7 @@ pub range_get : (n i : ℕ) → i < n → slice_get (range_with_len 0 n) i ≡ S
 range_get n i below =
     let is : 0 + i ≡ i = omega arith in
     slice_get-get_or (range_with_len 0 n) i 0 (rw (length-range_with_len 0 n) below)
-        ∙ ap Some (get_or-range_with_len 0 n i 0 below ∙ is)
+    ∙ ap Some (get_or-range_with_len 0 n i 0 below ∙ is)
 
 pub contains_first : (x : ℕ) (xs : List ℕ) → Contains (x ∷ xs) x
 contains_first x xs = (0, omega arith, refl)

@@ -83,13 +83,15 @@ seen_within rs i n less = seen_there (slice_get rs i) refl less
 pub range_more : (n : ℕ) → range_with_len 0 (n + 1) ≡ range_with_len 0 n ++ n ∷ []
 range_more n =
     sym (map-id (range_with_len 0 (n + 1))) ∙ map-range_with_len_more (λ (x : ℕ). x) 0 n n (omega arith)
-        ∙ ap (λ l. l ++ n ∷ []) (map-id (range_with_len 0 n))
+    ∙ ap (λ l. l ++ n ∷ []) (map-id (range_with_len 0 n))
 
 -- each place is among the places, and they are below the end
 pub contains_place : (rs : List Record) (i : ℕ) → i < length rs → Contains (places rs) i
-contains_place rs i within =
-    (i, rw (length-range_with_len 0 (length rs)) within,
-        get_or-range_with_len 0 (length rs) i i within ∙ omega arith)
+contains_place rs i within = (
+  i,
+  rw (length-range_with_len 0 (length rs)) within,
+  get_or-range_with_len 0 (length rs) i i within ∙ omega arith,
+)
 
 pub place_below : (rs : List Record) (i : ℕ) → Contains (places rs) i → i < length rs
 place_below rs i (k, below, is) =
@@ -105,16 +107,16 @@ occ_sum : (i : ℕ) (xs : List ℕ) → sum_by (λ x. cond {A = ℕ} (x == i) 1 
 unfolding occ
 occ_sum i [] = refl
 occ_sum i (x ∷ xs) =
-    sum_by-cons (λ y. cond { A = ℕ } (y == i) 1 0) x xs
-        ∙ ap (λ n. cond { A = ℕ } (x == i) 1 0 + n) (occ_sum i xs)
+    sum_by-cons (λ y. cond {A = ℕ} (y == i) 1 0) x xs
+    ∙ ap (λ n. cond {A = ℕ} (x == i) 1 0 + n) (occ_sum i xs)
 
 -- a number does not occur among greater ones
 occurs_not : (a n i : ℕ) → i < a → occ i (range_with_len a n) ≡ 0
 unfolding occ
 occurs_not a zero i below = refl
 occurs_not a (suc n) i below =
-    let none : cond { A = ℕ } (eqb a i) 1 0 ≡ 0 =
-        ap (λ b. cond { A = ℕ } b 1 0) (ne_eqb a i (λ e. absurd (omega arith))) in
+    let none : cond {A = ℕ} (eqb a i) 1 0 ≡ 0 =
+    ap (λ b. cond {A = ℕ} b 1 0) (ne_eqb a i (λ e. absurd (omega arith))) in
     let rest = occurs_not (a + 1) n i (omega arith) in
     omega (arith, none, rest)
 
@@ -138,7 +140,7 @@ occurs : (xs : List ℕ) (i : ℕ) → Contains xs i → 1 ≤ occ i xs
 unfolding occ
 occurs [] i (k, below, is) = absurd (omega arith)
 occurs (x ∷ xs) i (zero, below, is) =
-    let one : cond { A = ℕ } (eqb x i) 1 0 ≡ 1 = ap (λ b. cond { A = ℕ } b 1 0) (eq-eqb x i is) in
+    let one : cond {A = ℕ} (eqb x i) 1 0 ≡ 1 = ap (λ b. cond {A = ℕ} b 1 0) (eq-eqb x i is) in
     omega (arith, one)
 occurs (x ∷ xs) i (suc k, below, is) = let rest = occurs xs i (k, omega arith, is) in omega (arith, rest)
 
@@ -148,17 +150,17 @@ pub nothing_left : (rs : List Record) (order left : List ℕ) → IsPermutation 
 nothing_left rs order [] permutation all = refl
 nothing_left rs order (i ∷ rest) permutation all =
     let inside =
-        place_below rs i
-            (Contains-permutation (order ++ i ∷ rest) (places rs) i
-                (IsPermutation-sym (places rs) (order ++ i ∷ rest) permutation)
-                (Contains-append_right order (i ∷ rest) i (0, omega arith, refl))) in
+    place_below rs i
+    (Contains-permutation (order ++ i ∷ rest) (places rs) i
+    (IsPermutation-sym (places rs) (order ++ i ∷ rest) permutation)
+    (Contains-append_right order (i ∷ rest) i (0, omega arith, refl))) in
     let f : ℕ → ℕ = λ x. cond {A = ℕ} (x == i) 1 0 in
     let once : occ i (places rs) ≤ 1 = occurs_once 0 (length rs) i in
     let total : sum_by f (places rs) ≡ occ i (places rs) = occ_sum i (places rs) in
     let same : sum_by f (order ++ i ∷ rest) ≡ sum_by f (places rs) =
-        sum_by-IsPermutation f (places rs) (order ++ i ∷ rest) permutation in
+    sum_by-IsPermutation f (places rs) (order ++ i ∷ rest) permutation in
     let parts : sum_by f (order ++ i ∷ rest) ≡ sum_by f order + sum_by f (i ∷ rest) =
-        sum_by-append f order (i ∷ rest) in
+    sum_by-append f order (i ∷ rest) in
     let front : 1 ≤ occ i order = occurs order i (all i inside) in
     let front_sum : sum_by f order ≡ occ i order = occ_sum i order in
     let back : 1 ≤ occ i (i ∷ rest) = occurs (i ∷ rest) i (0, omega arith, refl) in
@@ -189,7 +191,7 @@ own_more rs task n =
 pub own_below : (rs : List Record) (task n c : ℕ) → Contains (own_before rs task n) c → c < n
 own_below rs task n c own =
     All-contains (λ k. k < n) (own_before rs task n) c
-        (All-filter (is_own rs task) (λ k. k < n) (range_with_len 0 n) below) own
+    (All-filter (is_own rs task) (λ k. k < n) (range_with_len 0 n) below) own
   where
     below : All (λ k. k < n) (range_with_len 0 n)
     below k d within =

@@ -115,14 +115,14 @@ member_made m (ImplicitTask Begin actual index flags parallel task) says =
   where
     begins : (b : Bool)
         → cond b None (Some (record { parallel = parallel; actual = actual; index = index; member = task }))
-            ≡ Some m
+        ≡ Some m
         → Some task ≡ Some m.member
     begins true is = absurd (none-some m is)
     begins false is =
         ap Some
-            (ap (λ (x : Membership). x.member)
-                (same_Some (record { parallel = parallel; actual = actual; index = index; member = task }) m
-                    is))
+        (ap (λ (x : Membership). x.member)
+        (same_Some (record { parallel = parallel; actual = actual; index = index; member = task }) m
+        is))
 member_made m _ says = absurd (none-some m says)
 
 pub initial_made : (task : ℕ) (b : Body) → begun_initial b ≡ Some task → made b ≡ Some task

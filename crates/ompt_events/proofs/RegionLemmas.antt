@@ -31,32 +31,32 @@ region_starts_none rs i task kind endpoint says (next, explicit, start) =
         → option_and_then (λ (r : Record). begun_turn r.body) o ≡ None
     there None says' = refl
     there (Some r) says' =
-        ap (option_map { U = ℕ × ℕ } (λ next. (next, next_turn r.body)))
-            (region_starts task kind endpoint r.body says')
+        ap (option_map {U = ℕ × ℕ} (λ next. (next, next_turn r.body)))
+        (region_starts task kind endpoint r.body says')
 
 -- what the open regions become by one more place of the task
 open_more : (rs : List Record) (task n : ℕ) (own : Bool) → is_own rs task n ≡ own
     → open_regions rs task (n + 1)
-        ≡ cond own (after_region (open_regions rs task n) n (at region rs n)) (open_regions rs task n)
+    ≡ cond own (after_region (open_regions rs task n) n (at region rs n)) (open_regions rs task n)
 open_more rs task n true own =
     ap (fold (λ opened k. after_region opened k (at region rs k)) [])
-        (own_more rs task n ∙ ap (λ b. own_before rs task n ++ cond b (n ∷ []) []) own)
+    (own_more rs task n ∙ ap (λ b. own_before rs task n ++ cond b (n ∷ []) []) own)
     ∙ fold_push (λ opened k. after_region opened k (at region rs k)) [] (own_before rs task n) n
 open_more rs task n false own =
     ap (fold (λ opened k. after_region opened k (at region rs k)) [])
-        (own_more rs task n ∙ ap (λ b. own_before rs task n ++ cond b (n ∷ []) []) own
-            ∙ append-nil (own_before rs task n))
+    (own_more rs task n ∙ ap (λ b. own_before rs task n ++ cond b (n ∷ []) []) own
+    ∙ append-nil (own_before rs task n))
 
 -- a record of no region changes nothing
 pub open_none : (rs : List Record) (task n : ℕ) → at region rs n ≡ None
     → open_regions rs task (n + 1) ≡ open_regions rs task n
 open_none rs task n none =
     open_more rs task n (is_own rs task n) refl
-        ∙ ap
-            (λ r.
-                cond (is_own rs task n) (after_region (open_regions rs task n) n r) (open_regions rs task n))
-            none
-        ∙ same (is_own rs task n) (open_regions rs task n)
+    ∙ ap
+    (λ r.
+    cond (is_own rs task n) (after_region (open_regions rs task n) n r) (open_regions rs task n))
+    none
+    ∙ same (is_own rs task n) (open_regions rs task n)
   where
     same : (b : Bool) (xs : List ℕ) → cond b xs xs ≡ xs
     same true xs = refl
@@ -68,9 +68,9 @@ pub open_other : (rs : List Record) (task own n : ℕ) (kind : SyncKind) (endpoi
     → open_regions rs task (n + 1) ≡ open_regions rs task n
 open_other rs task own n kind endpoint says apart =
     let runs =
-        at_through region running (own, kind, endpoint) own rs n (region_running own kind endpoint) says in
+    at_through region running (own, kind, endpoint) own rs n (region_running own kind endpoint) says in
     open_more rs task n false
-        (ap (λ o. option_map_or (λ t. t == task) o false) runs ∙ ne_eqb own task (λ e. apart (sym e)))
+    (ap (λ o. option_map_or (λ t. t == task) o false) runs ∙ ne_eqb own task (λ e. apart (sym e)))
 
 -- one of the task itself does
 pub open_own : (rs : List Record) (own n : ℕ) (kind : SyncKind) (endpoint : Endpoint)
@@ -78,9 +78,9 @@ pub open_own : (rs : List Record) (own n : ℕ) (kind : SyncKind) (endpoint : En
     → open_regions rs own (n + 1) ≡ after_region (open_regions rs own n) n (Some (own, kind, endpoint))
 open_own rs own n kind endpoint says =
     let runs =
-        at_through region running (own, kind, endpoint) own rs n (region_running own kind endpoint) says in
+    at_through region running (own, kind, endpoint) own rs n (region_running own kind endpoint) says in
     open_more rs own n true (ap (λ o. option_map_or (λ t. t == own) o false) runs ∙ eq-eqb own own refl)
-        ∙ ap (after_region (open_regions rs own n) n) says
+    ∙ ap (after_region (open_regions rs own n) n) says
 
 -- a region of the task begins there, before n
 pub record IsOwnBegin (rs : List Record) (task n begin : ℕ) : Type 0 where
@@ -103,14 +103,14 @@ own_begins_more rs task n all = more (at region rs n) refl
     so_far : All (IsOwnBegin rs task (n + 1)) (open_regions rs task n)
     so_far =
         All-weaker (IsOwnBegin rs task n) (IsOwnBegin rs task (n + 1)) (later rs task n)
-            (open_regions rs task n) all
+        (open_regions rs task n) all
 
     after : (kind : SyncKind) (endpoint : Endpoint) → at region rs n ≡ Some (task, kind, endpoint)
         → All (IsOwnBegin rs task (n + 1))
-            (after_region (open_regions rs task n) n (Some (task, kind, endpoint)))
+        (after_region (open_regions rs task n) n (Some (task, kind, endpoint)))
     after kind Begin says =
         All-cons (IsOwnBegin rs task (n + 1)) n (open_regions rs task n)
-            (record { before = omega arith; kind = kind; begins = says }) so_far
+        (record { before = omega arith; kind = kind; begins = says }) so_far
     after kind BeginEnd says = so_far
     after kind End says = All-drop (IsOwnBegin rs task (n + 1)) 1 (open_regions rs task n) so_far
 
@@ -118,17 +118,17 @@ own_begins_more rs task n all = more (at region rs n) refl
         → All (IsOwnBegin rs task (n + 1)) (open_regions rs task (n + 1))
     more None e =
         All-same (IsOwnBegin rs task (n + 1)) (open_regions rs task (n + 1)) (open_regions rs task n)
-            (open_none rs task n e) so_far
+        (open_none rs task n e) so_far
     more (Some (own, kind, endpoint)) e = elim (cases_eq task own) [
       | inl same ↦
           let says : at region rs n ≡ Some (task, kind, endpoint) =
-              e ∙ ap (λ t. Some (t, kind, endpoint)) (sym same) in
+          e ∙ ap (λ t. Some (t, kind, endpoint)) (sym same) in
           All-same (IsOwnBegin rs task (n + 1)) (open_regions rs task (n + 1))
-              (after_region (open_regions rs task n) n (Some (task, kind, endpoint)))
-              (open_own rs task n kind endpoint says) (after kind endpoint says)
+          (after_region (open_regions rs task n) n (Some (task, kind, endpoint)))
+          (open_own rs task n kind endpoint says) (after kind endpoint says)
       | inr apart ↦
           All-same (IsOwnBegin rs task (n + 1)) (open_regions rs task (n + 1)) (open_regions rs task n)
-              (open_other rs task own n kind endpoint e apart) so_far
+          (open_other rs task own n kind endpoint e apart) so_far
     ]
 
 open_own_begins : (rs : List Record) (task n : ℕ) → All (IsOwnBegin rs task n) (open_regions rs task n)
@@ -144,8 +144,8 @@ own_begin rs i task begin kind is_end =
     let stack = open_regions rs task i in
     let within = slice_get_within stack 0 begin is_end.innermost in
     let is : get_or stack 0 begin ≡ begin =
-        same_Some (get_or stack 0 begin) begin
-            (sym (slice_get-get_or stack 0 begin within) ∙ is_end.innermost) in
+    same_Some (get_or stack 0 begin) begin
+    (sym (slice_get-get_or stack 0 begin within) ∙ is_end.innermost) in
     let P : ℕ → Type 0 = λ b. IsOwnBegin rs task i b in
     subst P is (All-get_or (IsOwnBegin rs task i) stack 0 begin within (open_own_begins rs task i))
 
@@ -158,6 +158,8 @@ pub same_says : (rs : List Record) (i own task : ℕ) (kind other : SyncKind) (f
     → (own ≡ task) × (kind ≡ other) × (first ≡ second)
 same_says rs i own task kind other first second says there =
     let same : (own, kind, first) ≡ (task, other, second) =
-        same_Some (own, kind, first) (task, other, second) (sym says ∙ there) in
-    (ap (λ (r : ℕ × SyncKind × Endpoint). r.0) same, ap (λ (r : ℕ × SyncKind × Endpoint). r.1) same,
-        ap (λ (r : ℕ × SyncKind × Endpoint). r.2) same)
+    same_Some (own, kind, first) (task, other, second) (sym says ∙ there) in (
+      ap (λ (r : ℕ × SyncKind × Endpoint). r.0) same,
+      ap (λ (r : ℕ × SyncKind × Endpoint). r.1) same,
+      ap (λ (r : ℕ × SyncKind × Endpoint). r.2) same,
+    )

@@ -18,44 +18,44 @@ use Rattle.ompt_events.proofs.PlaceLemmas.{range_more}
 -- the moves at a place are those of one place
 labelled : (k i : ℕ) (moves : List Move)
     → filter (λ (step : ℕ × Move). step.0 == i) (map (λ move. (k, move)) moves)
-        ≡ cond (k == i) (map (λ move. (k, move)) moves) []
+    ≡ cond (k == i) (map (λ move. (k, move)) moves) []
 labelled k i [] = none (k == i)
   where
     none : (b : Bool) → [] ≡ cond {A = List (ℕ × Move)} b [] []
     none true = refl
     none false = refl
 labelled k i (move ∷ moves) =
-    ap (λ (rest : List (ℕ × Move)). cond { A = List (ℕ × Move) } (k == i) ((k, move) ∷ rest) rest)
-        (labelled k i moves)
-        ∙ both (k == i)
+    ap (λ (rest : List (ℕ × Move)). cond {A = List (ℕ × Move)} (k == i) ((k, move) ∷ rest) rest)
+    (labelled k i moves)
+    ∙ both (k == i)
   where
     both : (b : Bool)
-        → cond { A = List (ℕ × Move) } b ((k, move) ∷ cond b (map (λ m. (k, m)) moves) [])
-            (cond b (map (λ m. (k, m)) moves) [])
-            ≡ cond { A = List (ℕ × Move) } b ((k, move) ∷ map (λ m. (k, m)) moves) []
+        → cond {A = List (ℕ × Move)} b ((k, move) ∷ cond b (map (λ m. (k, m)) moves) [])
+        (cond b (map (λ m. (k, m)) moves) [])
+        ≡ cond {A = List (ℕ × Move)} b ((k, move) ∷ map (λ m. (k, m)) moves) []
     both true = refl
     both false = refl
 
 -- so those at i come from the places that are i
 of_places : (rs : List Record) (task i : ℕ) (xs : List ℕ)
     → filter (λ (step : ℕ × Move). step.0 == i) (flat_map (moves_at rs task) xs)
-        ≡ flat_map (moves_at rs task) (filter (λ k. k == i) xs)
+    ≡ flat_map (moves_at rs task) (filter (λ k. k == i) xs)
 of_places rs task i [] = refl
 of_places rs task i (k ∷ ks) =
     filter-append (λ (step : ℕ × Move). step.0 == i) (moves_at rs task k) (flat_map (moves_at rs task) ks)
     ∙ ap (λ front. front ++ filter (λ (step : ℕ × Move). step.0 == i) (flat_map (moves_at rs task) ks))
-        (here k)
+    (here k)
     ∙ ap (λ rest. cond (k == i) (moves_at rs task k) [] ++ rest) (of_places rs task i ks)
     ∙ both (k == i)
   where
     here : (j : ℕ)
         → filter (λ (step : ℕ × Move). step.0 == i) (moves_at rs task j)
-            ≡ cond (j == i) (moves_at rs task j) []
+        ≡ cond (j == i) (moves_at rs task j) []
     here j = labelled j i _
 
     both : (b : Bool)
         → cond b (moves_at rs task k) [] ++ flat_map (moves_at rs task) (filter (λ j. j == i) ks)
-            ≡ flat_map (moves_at rs task) (cond b (k ∷ filter (λ j. j == i) ks) (filter (λ j. j == i) ks))
+        ≡ flat_map (moves_at rs task) (cond b (k ∷ filter (λ j. j == i) ks) (filter (λ j. j == i) ks))
     both true = refl
     both false = refl
 
@@ -72,9 +72,9 @@ passing p i (x ∷ xs) =
   where
     kept : (b : Bool)
         → filter (λ k. k == i) (cond b (x ∷ filter p xs) (filter p xs))
-            ≡ cond b
-                (cond (x == i) (x ∷ filter (λ k. k == i) (filter p xs)) (filter (λ k. k == i) (filter p xs)))
-                (filter (λ k. k == i) (filter p xs))
+        ≡ cond b
+        (cond (x == i) (x ∷ filter (λ k. k == i) (filter p xs)) (filter (λ k. k == i) (filter p xs)))
+        (filter (λ k. k == i) (filter p xs))
     kept true = refl
     kept false = refl
 
@@ -104,14 +104,14 @@ place_once i (suc n) =
     more before = elim (cases_eq n i) [
       | inl same ↦
           last
-              ∙ ap (λ l. l ++ cond (n == i) (n ∷ []) [])
-                  (before ∙ ap (λ b. cond b (i ∷ []) []) (le-ltb i n (omega arith)))
-              ∙ ap (λ b. cond b (n ∷ []) []) (eq-eqb n i same) ∙ ap (λ k. k ∷ []) same
-              ∙ sym (ap (λ b. cond b (i ∷ []) []) (lt-ltb i (n + 1) (omega arith)))
+          ∙ ap (λ l. l ++ cond (n == i) (n ∷ []) [])
+          (before ∙ ap (λ b. cond b (i ∷ []) []) (le-ltb i n (omega arith)))
+          ∙ ap (λ b. cond b (n ∷ []) []) (eq-eqb n i same) ∙ ap (λ k. k ∷ []) same
+          ∙ sym (ap (λ b. cond b (i ∷ []) []) (lt-ltb i (n + 1) (omega arith)))
       | inr apart ↦
           last ∙ ap (λ b. filter (λ k. k == i) (range_with_len 0 n) ++ cond b (n ∷ []) []) (ne_eqb n i apart)
-              ∙ append-nil (filter (λ k. k == i) (range_with_len 0 n)) ∙ before
-              ∙ ap (λ b. cond b (i ∷ []) []) (same_test apart (cases_lt i n))
+          ∙ append-nil (filter (λ k. k == i) (range_with_len 0 n)) ∙ before
+          ∙ ap (λ b. cond b (i ∷ []) []) (same_test apart (cases_lt i n))
     ]
       where
         same_test : n ≢ i → (i < n) ⊎ (n ≤ i) → ltb i n ≡ ltb i (n + 1)
@@ -128,17 +128,17 @@ one_of_three all false false = refl
 
 in_three : (e h : ℕ → Bool) (i : ℕ) (xs : List ℕ)
     → filter (λ k. k == i)
-        ((filter (λ k. e k && not (h k)) xs ++ filter h xs) ++ filter (λ k. not (e k) && not (h k)) xs)
-        ≡ filter (λ k. k == i) xs
+    ((filter (λ k. e k && not (h k)) xs ++ filter h xs) ++ filter (λ k. not (e k) && not (h k)) xs)
+    ≡ filter (λ k. k == i) xs
 in_three e h i xs =
     let first : ℕ → Bool = λ k. e k && not (h k) in
     let rest : ℕ → Bool = λ k. not (e k) && not (h k) in
     let all : List ℕ = filter (λ k. k == i) xs in
     filter-append (λ k. k == i) (filter first xs ++ filter h xs) (filter rest xs)
     ∙ ap (λ l. l ++ filter (λ k. k == i) (filter rest xs))
-        (filter-append (λ k. k == i) (filter first xs) (filter h xs))
+    (filter-append (λ k. k == i) (filter first xs) (filter h xs))
     ∙ ap (λ l. (l ++ filter (λ k. k == i) (filter h xs)) ++ filter (λ k. k == i) (filter rest xs))
-        (passing first i xs)
+    (passing first i xs)
     ∙ ap (λ l. (cond (first i) all [] ++ l) ++ filter (λ k. k == i) (filter rest xs)) (passing h i xs)
     ∙ ap (λ l. (cond (first i) all [] ++ cond (h i) all []) ++ l) (passing rest i xs)
     ∙ one_of_three all (e i) (h i)
@@ -149,20 +149,20 @@ pub moves_at_place : (rs : List Record) (task i : ℕ)
 moves_at_place rs task i =
     of_places rs task i (places_of rs task)
     ∙ ap (flat_map (moves_at rs task))
-        (in_three (is_early rs task) (is_on rs (home_of rs task)) i (places rs))
+    (in_three (is_early rs task) (is_on rs (home_of rs task)) i (places rs))
     ∙ whole (cases_lt i (length rs))
   where
     whole : (i < length rs) ⊎ (length rs ≤ i)
         → flat_map (moves_at rs task) (filter (λ k. k == i) (places rs)) ≡ moves_at rs task i
     whole (inl within) =
         ap (flat_map (moves_at rs task))
-            (place_once i (length rs) ∙ ap (λ b. cond b (i ∷ []) []) (lt-ltb i (length rs) within))
-            ∙ append-nil (moves_at rs task i)
+        (place_once i (length rs) ∙ ap (λ b. cond b (i ∷ []) []) (lt-ltb i (length rs) within))
+        ∙ append-nil (moves_at rs task i)
     whole (inr past) =
         ap (flat_map (moves_at rs task))
-            (place_once i (length rs) ∙ ap (λ b. cond b (i ∷ []) []) (le-ltb i (length rs) past))
-            ∙ sym
-                (ap
-                    (λ (o : Option Record).
-                        map (λ move. (i, move)) (option_map_or (λ (r : Record). moves_by task r.body) o []))
-                    (slice_get_past rs i past))
+        (place_once i (length rs) ∙ ap (λ b. cond b (i ∷ []) []) (le-ltb i (length rs) past))
+        ∙ sym
+        (ap
+        (λ (o : Option Record).
+        map (λ move. (i, move)) (option_map_or (λ (r : Record). moves_by task r.body) o []))
+        (slice_get_past rs i past))

@@ -27,25 +27,25 @@ walk_own : (rs : List Record) (i : ℕ) (r : Record) → i < length rs → r ≡
     → walk_of r.thread (take (i + 1) rs) ≡ after_body (walk_of r.thread (take i rs)) r.body
 walk_own rs i r within read =
     ap (fold after_record at_start)
-        (filter_more (λ q. q.thread == r.thread) rs i r within
-            ∙ ap
-                (λ q.
-                    filter (λ p. p.thread == r.thread) (take i rs) ++ cond (q.thread == r.thread) (q ∷ []) [])
-                (sym read)
-            ∙ ap (λ b. filter (λ p. p.thread == r.thread) (take i rs) ++ cond b (r ∷ []) [])
-                (eq-eqb r.thread r.thread refl))
+    (filter_more (λ q. q.thread == r.thread) rs i r within
+    ∙ ap
+    (λ q.
+    filter (λ p. p.thread == r.thread) (take i rs) ++ cond (q.thread == r.thread) (q ∷ []) [])
+    (sym read)
+    ∙ ap (λ b. filter (λ p. p.thread == r.thread) (take i rs) ++ cond b (r ∷ []) [])
+    (eq-eqb r.thread r.thread refl))
     ∙ fold_push after_record at_start (filter (λ p. p.thread == r.thread) (take i rs)) r
 
 walk_other : (rs : List Record) (i : ℕ) (r : Record) (thread : ℕ) → i < length rs → r ≡ get_or rs i r
     → thread ≢ r.thread → walk_of thread (take (i + 1) rs) ≡ walk_of thread (take i rs)
 walk_other rs i r thread within read apart =
     ap (fold after_record at_start)
-        (filter_more (λ q. q.thread == thread) rs i r within
-            ∙ ap (λ q. filter (λ p. p.thread == thread) (take i rs) ++ cond (q.thread == thread) (q ∷ []) [])
-                (sym read)
-            ∙ ap (λ b. filter (λ p. p.thread == thread) (take i rs) ++ cond b (r ∷ []) [])
-                (ne_eqb r.thread thread (λ e. apart (sym e)))
-            ∙ append-nil (filter (λ p. p.thread == thread) (take i rs)))
+    (filter_more (λ q. q.thread == thread) rs i r within
+    ∙ ap (λ q. filter (λ p. p.thread == thread) (take i rs) ++ cond (q.thread == thread) (q ∷ []) [])
+    (sym read)
+    ∙ ap (λ b. filter (λ p. p.thread == thread) (take i rs) ++ cond b (r ∷ []) [])
+    (ne_eqb r.thread thread (λ e. apart (sym e)))
+    ∙ append-nil (filter (λ p. p.thread == thread) (take i rs)))
 
 -- the record's thread goes on by it, and the others stay
 pub walks_more : (rs : List Record) (i : ℕ) (r : Record) (old new : List Walk) → i < length rs
@@ -56,17 +56,17 @@ walks_more rs i r old new within read low walks is = record {
   each = λ thread below. elim (cases_eq thread r.thread) [
     | inl same ↦
         ap (λ ws. get_or ws thread at_start) is
-            ∙ ap
-                (λ t. get_or (set old r.thread (after_body (get_or old r.thread at_start) r.body)) t at_start)
-                same
+        ∙ ap
+        (λ t. get_or (set old r.thread (after_body (get_or old r.thread at_start) r.body)) t at_start)
+        same
         ∙ get_or-set_same old r.thread (after_body (get_or old r.thread at_start) r.body) at_start
-            (rw walks.all low)
+        (rw walks.all low)
         ∙ ap (λ w. after_body w r.body) (walks.each r.thread low)
         ∙ sym (walk_own rs i r within read) ∙ ap (λ t. walk_of t (take (i + 1) rs)) (sym same)
     | inr apart ↦
         ap (λ ws. get_or ws thread at_start) is
-            ∙ get_or-set_other old r.thread thread (after_body (get_or old r.thread at_start) r.body) at_start
-                apart
+        ∙ get_or-set_other old r.thread thread (after_body (get_or old r.thread at_start) r.body) at_start
+        apart
         ∙ walks.each thread below ∙ sym (walk_other rs i r thread within read apart)
   ];
 }

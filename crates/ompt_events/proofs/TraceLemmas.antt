@@ -51,12 +51,13 @@ IsTraceOf-more version rs i r within read before room sound in_range few = recor
 pub IsTraceOf-unsound : (version : ℕ) (rs : List Record) (i : ℕ) (r : Record) → i < length rs
     → r ≡ get_or rs i r → (IsSoundIn version r.body → ⊥) → IsTraceOf version (take (i + 1) rs) → ⊥
 IsTraceOf-unsound version rs i r within read unsound trace =
-    let last : IsSoundIn version (get_or (take (i + 1) rs) i r).body =
-    (trace.is_trace.sound i r (omega (arith, length-take (i + 1) rs)),
-        trace.turns i r (omega (arith, length-take (i + 1) rs))) in
+    let last : IsSoundIn version (get_or (take (i + 1) rs) i r).body = (
+      trace.is_trace.sound i r (omega (arith, length-take (i + 1) rs)),
+      trace.turns i r (omega (arith, length-take (i + 1) rs)),
+    ) in
     unsound
-        (subst (λ (x : Record). IsSoundIn version x.body)
-            (get_or-take (i + 1) rs i r (omega arith) ∙ sym read) last)
+    (subst (λ (x : Record). IsSoundIn version x.body)
+    (get_or-take (i + 1) rs i r (omega arith) ∙ sym read) last)
 
 -- the first records of a trace are a trace
 pub IsTraceOf-take : (version n : ℕ) (rs : List Record) → IsTraceOf version rs → IsTraceOf version (take n rs)
@@ -74,4 +75,4 @@ IsTraceOf-take version n rs trace = record {
     both : tasks_in (take n rs) + tasks_in (drop n rs) ≡ tasks_in rs
     both =
         sym (sum_by-append (λ (r : Record). cond (is_some (made r.body)) 1 0) (take n rs) (drop n rs))
-            ∙ ap (λ (l : List Record). tasks_in l) (take-append-drop n rs)
+        ∙ ap (λ (l : List Record). tasks_in l) (take-append-drop n rs)

@@ -23,15 +23,15 @@ creation_own : (rs : List Record) (parent child c : ℕ) → at creation rs c �
     → is_own rs parent c ≡ true
 creation_own rs parent child c creates =
     ap (λ (o : Option ℕ). option_map_or (λ t. t == parent) o false)
-        (creation_at_running parent child rs c creates)
-        ∙ eq-eqb parent parent refl
+    (creation_at_running parent child rs c creates)
+    ∙ eq-eqb parent parent refl
 
 pub own_creation : (rs : List Record) (parent child n c : ℕ) → c < n → at creation rs c ≡ Some (parent, child)
     → Contains (own_before rs parent n) c
 own_creation rs parent child n c below creates =
     Contains-filter (is_own rs parent) (range_with_len 0 n) c
-        (c, rw (length-range_with_len 0 n) below, get_or-range_with_len 0 n c c below ∙ omega arith)
-        (creation_own rs parent child c creates)
+    (c, rw (length-range_with_len 0 n) below, get_or-range_with_len 0 n c c below ∙ omega arith)
+    (creation_own rs parent child c creates)
 
 -- what is read of an element is among what is read
 Contains-filter_map : {X : Type 0} (h : ℕ → Option X) (xs : List ℕ) (x : ℕ) (y : X) → Contains xs x
@@ -66,7 +66,7 @@ pub child_at_creation : (rs : List Record) (parent child c : ℕ) → at creatio
     → child_at rs parent c ≡ Some child
 child_at_creation rs parent child c creates =
     ap (option_and_then (λ (p : ℕ × ℕ). if p.0 == parent then Some p.1 else None)) creates
-        ∙ ap (λ b. if b then Some child else None) (eq-eqb parent parent refl)
+    ∙ ap (λ b. if b then Some child else None) (eq-eqb parent parent refl)
 
 pub creation_of_child : (rs : List Record) (parent child c : ℕ) → child_at rs parent c ≡ Some child
     → at creation rs c ≡ Some (parent, child)
@@ -90,7 +90,7 @@ pub child_before : (rs : List Record) (parent child n c : ℕ) → c < n → at 
     → Contains (children_before rs parent n) child
 child_before rs parent child n c below creates =
     Contains-filter_map (child_at rs parent) (own_before rs parent n) c child
-        (own_creation rs parent child n c below creates) (child_at_creation rs parent child c creates)
+    (own_creation rs parent child n c below creates) (child_at_creation rs parent child c creates)
 
 -- and each of them is created before it
 pub before_child : (rs : List Record) (parent child n : ℕ) → Contains (children_before rs parent n) child
@@ -103,19 +103,19 @@ before_child rs parent child n found =
 
 children_step : (rs : List Record) (parent n : ℕ)
     → children_before rs parent (n + 1)
-        ≡ children_before rs parent n
-            ++ filter_map (child_at rs parent) (cond (is_own rs parent n) (n ∷ []) [])
+    ≡ children_before rs parent n
+    ++ filter_map (child_at rs parent) (cond (is_own rs parent n) (n ∷ []) [])
 children_step rs parent n =
     ap (filter_map (child_at rs parent)) (own_more rs parent n)
-        ∙ filter_map-append (child_at rs parent) (own_before rs parent n)
-            (cond (is_own rs parent n) (n ∷ []) [])
+    ∙ filter_map-append (child_at rs parent) (own_before rs parent n)
+    (cond (is_own rs parent n) (n ∷ []) [])
 
 -- a record that creates no child of the task leaves its children
 pub children_same : (rs : List Record) (parent n : ℕ) → child_at rs parent n ≡ None
     → children_before rs parent (n + 1) ≡ children_before rs parent n
 children_same rs parent n none =
     children_step rs parent n ∙ ap (λ l. children_before rs parent n ++ l) (nothing (is_own rs parent n))
-        ∙ append-nil (children_before rs parent n)
+    ∙ append-nil (children_before rs parent n)
   where
     nothing : (b : Bool) → filter_map (child_at rs parent) (cond b (n ∷ []) []) ≡ []
     nothing false = refl
@@ -127,7 +127,7 @@ pub children_more : (rs : List Record) (parent child n : ℕ) → at creation rs
 children_more rs parent child n creates =
     children_step rs parent n
     ∙ ap (λ b. children_before rs parent n ++ filter_map (child_at rs parent) (cond b (n ∷ []) []))
-        (creation_own rs parent child n creates)
+    (creation_own rs parent child n creates)
     ∙ ap (λ o. children_before rs parent n ++ cons_option o []) (child_at_creation rs parent child n creates)
 
 -- a record creates no child for another task, and none without a creation
@@ -139,19 +139,19 @@ pub child_at_other : (rs : List Record) (parent own child n : ℕ) → at creati
     → own ≢ parent → child_at rs parent n ≡ None
 child_at_other rs parent own child n creates apart =
     ap (option_and_then (λ (p : ℕ × ℕ). if p.0 == parent then Some p.1 else None)) creates
-        ∙ ap (λ b. cond b (Some child) None) (ne_eqb own parent apart)
+    ∙ ap (λ b. cond b (Some child) None) (ne_eqb own parent apart)
 
 -- what the children become by one record
 pub children_cases : (rs : List Record) (parent n : ℕ)
     → (children_before rs parent (n + 1) ≡ children_before rs parent n)
-        ⊎ ((child : ℕ) × (at creation rs n ≡ Some (parent, child))
-              × (children_before rs parent (n + 1) ≡ children_before rs parent n ++ child ∷ []))
+    ⊎ ((child : ℕ) × (at creation rs n ≡ Some (parent, child))
+    × (children_before rs parent (n + 1) ≡ children_before rs parent n ++ child ∷ []))
 children_cases rs parent n = there (child_at rs parent n) refl
   where
     there : (o : Option ℕ) → child_at rs parent n ≡ o
         → (children_before rs parent (n + 1) ≡ children_before rs parent n)
-            ⊎ ((child : ℕ) × (at creation rs n ≡ Some (parent, child))
-                  × (children_before rs parent (n + 1) ≡ children_before rs parent n ++ child ∷ []))
+        ⊎ ((child : ℕ) × (at creation rs n ≡ Some (parent, child))
+        × (children_before rs parent (n + 1) ≡ children_before rs parent n ++ child ∷ []))
     there None e = inl (children_same rs parent n e)
     there (Some child) e =
         let creates = creation_of_child rs parent child n e in
@@ -166,8 +166,8 @@ children_few rs parent (suc n) =
   where
     more : length (children_before rs parent n) ≤ n
         → (children_before rs parent (n + 1) ≡ children_before rs parent n)
-            ⊎ ((child : ℕ) × (at creation rs n ≡ Some (parent, child))
-                  × (children_before rs parent (n + 1) ≡ children_before rs parent n ++ child ∷ []))
+        ⊎ ((child : ℕ) × (at creation rs n ≡ Some (parent, child))
+        × (children_before rs parent (n + 1) ≡ children_before rs parent n ++ child ∷ []))
         → length (children_before rs parent (n + 1)) ≤ n + 1
     more few (inl same) = let is = ap length same in omega arith
     more few (inr (child, creates, is)) =
@@ -194,21 +194,21 @@ child_place rs parent (suc n) number child is =
   where
     from :
         (slice_get (children_before rs parent n) number ≡ Some child
-            → (i : ℕ) × (i < n) × (at creation rs i ≡ Some (parent, child))
-                × (child_number rs parent i ≡ number))
+        → (i : ℕ) × (i < n) × (at creation rs i ≡ Some (parent, child))
+        × (child_number rs parent i ≡ number))
         → (children_before rs parent (n + 1) ≡ children_before rs parent n)
-            ⊎ ((other : ℕ) × (at creation rs n ≡ Some (parent, other))
-                  × (children_before rs parent (n + 1) ≡ children_before rs parent n ++ other ∷ []))
+        ⊎ ((other : ℕ) × (at creation rs n ≡ Some (parent, other))
+        × (children_before rs parent (n + 1) ≡ children_before rs parent n ++ other ∷ []))
         → slice_get (children_before rs parent (n + 1)) number ≡ Some child
         → (i : ℕ) × (i < suc n) × (at creation rs i ≡ Some (parent, child))
-            × (child_number rs parent i ≡ number)
+        × (child_number rs parent i ≡ number)
     from before (inl same) found =
         let old = before (ap (λ l. slice_get l number) (sym same) ∙ found) in
         (old.0, omega (arith, old.1), old.2, old.3)
     from before (inr (other, creates, more)) found =
         elim
-            (pushed_cases (children_before rs parent n) other child number
-                (ap (λ l. slice_get l number) (sym more) ∙ found)) [
-      | inl there ↦ let old = before there in (old.0, omega (arith, old.1), old.2, old.3)
-      | inr last ↦ (n, omega arith, creates ∙ ap (λ c. Some (parent, c)) last.1, sym last.0)
-    ]
+        (pushed_cases (children_before rs parent n) other child number
+        (ap (λ l. slice_get l number) (sym more) ∙ found)) [
+          | inl there ↦ let old = before there in (old.0, omega (arith, old.1), old.2, old.3)
+          | inr last ↦ (n, omega arith, creates ∙ ap (λ c. Some (parent, c)) last.1, sym last.0)
+        ]

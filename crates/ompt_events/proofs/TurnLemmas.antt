@@ -27,7 +27,7 @@ begun_there None task turn begins = absurd (none-some (task, turn) begins)
 begun_there (Some r) task turn begins = by (started r.body) refl begins
   where
     by : (s : Option ℕ) → started r.body ≡ s
-        → option_map { U = ℕ × ℕ } (λ t. (t, next_turn r.body)) s ≡ Some (task, turn)
+        → option_map {U = ℕ × ℕ} (λ t. (t, next_turn r.body)) s ≡ Some (task, turn)
         → started r.body ≡ Some task
     by None e is = absurd (none-some (task, turn) is)
     by (Some t) e is = e ∙ ap (λ (p : ℕ × ℕ). Some p.0) (same_Some (t, next_turn r.body) (task, turn) is)
@@ -76,8 +76,8 @@ turn_most rs most i each = by (slice_get rs i)
     of_task r None = omega arith
     of_task r (Some task) =
         fold_low task most (filter (λ q. q.thread == r.thread) (take i rs)) 0 (omega arith)
-            (every_filter (λ r'. new_turn r' ≤ most) (λ q. q.thread == r.thread) (take i rs)
-                (every_take (λ r'. new_turn r' ≤ most) i rs each))
+        (every_filter (λ r'. new_turn r' ≤ most) (λ q. q.thread == r.thread) (take i rs)
+        (every_take (λ r'. new_turn r' ≤ most) i rs each))
 
     by : (o : Option Record) → option_map_or (λ (r : Record). turn_of rs r i) o 0 ≤ most
     by None = omega arith
@@ -93,8 +93,8 @@ told_there : (o : Option Record) (task : ℕ) → option_and_then (λ (r : Recor
     → option_and_then (λ (r : Record). begun_turn r.body) o ≡ Some (task, 0)
 told_there None task none starts = absurd (none-some task starts)
 told_there (Some r) task none starts =
-    ap (option_map { U = ℕ × ℕ } (λ t. (t, next_turn r.body))) starts
-        ∙ ap (λ (t : Option Turns). Some (task, option_map_or (λ (u : Turns). u.next) t 0)) none
+    ap (option_map {U = ℕ × ℕ} (λ t. (t, next_turn r.body))) starts
+    ∙ ap (λ (t : Option Turns). Some (task, option_map_or (λ (u : Turns). u.next) t 0)) none
 
 pub starts_begun : (rs : List Record) (i task : ℕ) → TellsNoTurns rs → at started rs i ≡ Some task
     → at begun_turn rs i ≡ Some (task, 0)
@@ -105,8 +105,8 @@ pub begun_zero : (rs : List Record) (i task turn : ℕ) → TellsNoTurns rs
     → at begun_turn rs i ≡ Some (task, turn) → turn ≡ 0
 begun_zero rs i task turn none begins =
     ap (λ (p : ℕ × ℕ). p.1)
-        (same_Some (task, turn) (task, 0)
-            (sym begins ∙ starts_begun rs i task none (begun_started rs i task turn begins)))
+    (same_Some (task, turn) (task, 0)
+    (sym begins ∙ starts_begun rs i task none (begun_started rs i task turn begins)))
 
 -- the start of a task is the first record after which it runs
 pub start_first : (rs : List Record) (i task : ℕ) → TellsNoTurns rs → IsStart rs i task → (k : ℕ) → k < i
@@ -150,7 +150,7 @@ first_version_tells_none rs trace i = there (slice_get rs i) refl
     there (Some r) e =
         let within : i < length rs = slice_get_within rs i r e in
         let same : get_or rs i r ≡ r =
-            same_Some (get_or rs i r) r (sym (slice_get-get_or rs i r within) ∙ e) in
+        same_Some (get_or rs i r) r (sym (slice_get-get_or rs i r within) ∙ e) in
         let P : Record → Type 0 = λ q. HasItsTurns 1 q.body in
         none_of (told_turns r.body) (subst P same (trace.turns i r within))
 
@@ -165,8 +165,8 @@ ended_low rs i r free here = by (told_turns r.body) refl
       | inl same ↦ let low = turn_low rs i in omega (arith, same, low)
       | inr apart ↦
           absurd
-              (free i
-                  (turn_gap
-                      (other_turn told (ap (option_and_then (λ (q : Record). told_turns q.body)) here ∙ e)
-                          apart)))
+          (free i
+          (turn_gap
+          (other_turn told (ap (option_and_then (λ (q : Record). told_turns q.body)) here ∙ e)
+          apart)))
     ]

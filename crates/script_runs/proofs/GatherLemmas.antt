@@ -48,7 +48,7 @@ AreOwn buffers = (i : ℕ) (b : BufferView) → slice_get buffers i ≡ Some b �
 
 records_more : (b : BufferView) (buffers : List BufferView) (thread : ℕ)
     → records_of (gathered (b ∷ buffers)) thread
-        ≡ records_of b.records thread ++ records_of (gathered buffers) thread
+    ≡ records_of b.records thread ++ records_of (gathered buffers) thread
 records_more b buffers thread =
     ap (λ rs. records_of rs thread) (flat_map-cons (λ (it : BufferView). it.records) b buffers)
     ∙ filter-append (λ (r : Record). r.thread == thread) b.records (gathered buffers)
@@ -73,7 +73,7 @@ of_nowhere [] thread own nowhere = refl
 of_nowhere (b ∷ buffers) thread own nowhere =
     records_more b buffers thread
     ∙ ap (λ l. l ++ records_of (gathered buffers) thread)
-        (of_another b thread (own 0 b refl) (nowhere 0 b refl))
+    (of_another b thread (own 0 b refl) (nowhere 0 b refl))
     ∙ of_nowhere buffers thread (λ i it is. own (suc i) it is) (λ i it is. nowhere (suc i) it is)
 
 -- one buffer is of the thread, and has its records; or none is, and there are none

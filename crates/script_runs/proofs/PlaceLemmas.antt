@@ -58,7 +58,7 @@ places_next steps n s before after is are added thread = elim (eqb_tells s.threa
       ∙ map-append (call_at steps) (row_at before thread) (n ∷ [])
       ∙ ap (λ l. l ++ call_at steps n ∷ []) (are thread)
       ∙ ap (λ c. map Some (calls_of (take n steps) thread) ++ c ∷ [])
-          (ap (option_map (λ (q : Step). called q.body)) is)
+      (ap (option_map (λ (q : Step). called q.body)) is)
       ∙ sym (map-append Some (calls_of (take n steps) thread) (called s.body ∷ []))
       ∙ ap (map Some) (sym calls)
   | inr apart ↦
@@ -101,5 +101,5 @@ taken_here steps at s old met after new is same same_thread by left left_thread 
       ∙ map-append Some (recorded_calls met.records) (called s.body ∷ [])
       ∙ ap (λ rs. map Some (recorded_calls rs) ++ Some (called s.body) ∷ []) same
       ∙ ap (λ c. map Some (recorded_calls old.records) ++ c ∷ [])
-          (sym (ap (option_map (λ (q : Step). called q.body)) is));
+      (sym (ap (option_map (λ (q : Step). called q.body)) is));
 }

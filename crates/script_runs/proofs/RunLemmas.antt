@@ -39,7 +39,7 @@ pub one_more : (steps : List Step) (first : ℕ) (recorders : List RecorderView)
 one_more steps first recorders r own of run = record {
   each =
       All-append (HasRun steps) recorders (r ∷ []) run.each
-          (All-cons (HasRun steps) r [] own (All-nil (HasRun steps)));
+      (All-cons (HasRun steps) r [] own (All-nil (HasRun steps)));
   all = λ thread from. elim (from_here first thread from) [
     | inl same ↦ inr (r, Contains-append_right recorders (r ∷ []) r (0, omega arith, refl), of ∙ same)
     | inr above ↦ further thread (run.all thread above)

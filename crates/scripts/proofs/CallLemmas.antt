@@ -60,10 +60,10 @@ apart_from_test [] is = λ i j d less within. absurd (omega arith)
 apart_from_test (x ∷ xs) is =
     let both = or_parts (list_any (λ y. y == x) xs) (has_twice xs) is in
     AllPairs-cons (λ a b. a ≢ b) x xs
-        (λ k d within same.
-            absurd
-                (true≢false (sym (list_any_at (λ y. y == x) xs k d within (eq-eqb _ x (sym same))) ∙ both.0)))
-        (apart_from_test xs both.1)
+    (λ k d within same.
+    absurd
+    (true≢false (sym (list_any_at (λ y. y == x) xs k d within (eq-eqb _ x (sym same))) ∙ both.0)))
+    (apart_from_test xs both.1)
   where
     or_parts : (a b : Bool) → (a || b) ≡ false → (a ≡ false) × (b ≡ false)
     or_parts false b e = (refl, e)
@@ -73,10 +73,10 @@ pub apart_to_test : (xs : List ℕ) → AllPairs (λ x y. x ≢ y) xs → has_tw
 apart_to_test [] are = refl
 apart_to_test (x ∷ xs) are =
     let none : list_any (λ y. y == x) xs ≡ false =
-        list_any_none (λ y. y == x) xs
-            (λ k d within.
-                ne_eqb (get_or xs k d) x
-                    (λ same. are 0 (suc k) d (omega arith) (omega (arith, within)) (sym same))) in
+    list_any_none (λ y. y == x) xs
+    (λ k d within.
+    ne_eqb (get_or xs k d) x
+    (λ same. are 0 (suc k) d (omega arith) (omega (arith, within)) (sym same))) in
     ap (λ (b : Bool). b || has_twice xs) none
-        ∙ apart_to_test xs
-            (λ i j d less within. are (suc i) (suc j) d (omega (arith, less)) (omega (arith, within)))
+    ∙ apart_to_test xs
+    (λ i j d less within. are (suc i) (suc j) d (omega (arith, less)) (omega (arith, within)))

@@ -14,6 +14,6 @@ pub named_next : (lives : BTreeMap ℕ Life) (made : Option ℕ) (tasks : List �
     → all_may_be_named lives made (drop i tasks) ≡ (may && all_may_be_named lives made (drop (i + 1) tasks))
 named_next lives made tasks i makes may within made_is may_is =
     let is : may ≡ may_be_named (is_made made (get_or tasks i 0)) (get nat_cmp lives (get_or tasks i 0)) =
-        may_is ∙ ap (λ (b : Bool). may_be_named b (get nat_cmp lives (get_or tasks i 0))) made_is in
+    may_is ∙ ap (λ (b : Bool). may_be_named b (get nat_cmp lives (get_or tasks i 0))) made_is in
     ap (all_may_be_named lives made) (drop_more tasks i 0 within)
     ∙ ap (λ (b : Bool). b && all_may_be_named lives made (drop (i + 1) tasks)) (sym is)

@@ -69,11 +69,11 @@ may_name : (steps : List Step) (after : Option (ℕ × ℕ)) (body : Body) (task
     → may_be_named (is_made (made body) task) (life steps task) ≡ true
 may_name steps after body task follows has =
     let all =
-        and_parts (is_call body && is_earlier steps after && not (has_twice (named body)))
-            (list_all (λ t. may_be_named (is_made (made body) t) (life steps t)) (named body)) follows in
+    and_parts (is_call body && is_earlier steps after && not (has_twice (named body)))
+    (list_all (λ t. may_be_named (is_made (made body) t) (life steps t)) (named body)) follows in
     All-contains (λ t. may_be_named (is_made (made body) t) (life steps t) ≡ true) (named body) task
-        (AllPass-from_list_all (λ t. may_be_named (is_made (made body) t) (life steps t)) (named body) all.1)
-        has
+    (AllPass-from_list_all (λ t. may_be_named (is_made (made body) t) (life steps t)) (named body) all.1)
+    has
 
 new_by_test : (o : Option Life) → may_be_named true o ≡ true → o ≡ None
 new_by_test None is = refl
@@ -103,8 +103,8 @@ life_more : (steps : List Step) (s : Step) (task : ℕ) → may_follow steps s.a
     → ((t : ℕ) → IsLife steps t (life steps t)) → IsLife (steps ++ s ∷ []) task (life (steps ++ s ∷ []) task)
 life_more steps s task follows are =
     subst (IsLife (steps ++ s ∷ []) task)
-        (sym (fold_push (λ (before : Option Life) (x : Step). life_after before x.body task) None steps s))
-        (by_fate (made s.body) (ended s.body) refl refl)
+    (sym (fold_push (λ (before : Option Life) (x : Step). life_after before x.body task) None steps s))
+    (by_fate (made s.body) (ended s.body) refl refl)
   where
     by_fate : (m e : Option ℕ) → made s.body ≡ m → ended s.body ≡ e
         → IsLife (steps ++ s ∷ []) task (life_by_call (life steps task) m e task)
@@ -112,47 +112,48 @@ life_more steps s task follows are =
       | inl same ↦
           let name : made s.body ≡ Some task = makes ∙ ap Some same in
           let new : (life steps task) ≡ None =
-              new_by_test (life steps task)
-                  (ap (λ (b : Bool). may_be_named b (life steps task))
-                      (sym (is_made_yes (made s.body) task name))
-                      ∙ may_name steps s.after s.body task follows (made_is_named task s.body name)) in
+          new_by_test (life steps task)
+          (ap (λ (b : Bool). may_be_named b (life steps task))
+          (sym (is_made_yes (made s.body) task name))
+          ∙ may_name steps s.after s.body task follows (made_is_named task s.body name)) in
           let none : IsLife steps task None = subst (IsLife steps task) new (are task) in
           let live : life_by_call (life steps task) (Some t) e task ≡ Some Live =
-              ap (λ (b : Bool). cond b (Some Live) (life steps task)) (eq-eqb t task same) in
-          subst (IsLife (steps ++ s ∷ []) task) (sym live)
-              ((s, Contains-push steps s, name),
-                  ended_before steps s task
-                      (λ over. none-some task (sym (making_ends_none task s.body name) ∙ over)) none.1)
+          ap (λ (b : Bool). cond b (Some Live) (life steps task)) (eq-eqb t task same) in
+          subst (IsLife (steps ++ s ∷ []) task) (sym live) (
+            (s, Contains-push steps s, name),
+            ended_before steps s task
+                (λ over. none-some task (sym (making_ends_none task s.body name) ∙ over)) none.1,
+          )
       | inr other ↦
           let kept : life_by_call (life steps task) (Some t) e task ≡ (life steps task) =
-              ap (λ (b : Bool). cond b (Some Live) (life steps task)) (ne_eqb t task other) in
+          ap (λ (b : Bool). cond b (Some Live) (life steps task)) (ne_eqb t task other) in
           subst (IsLife (steps ++ s ∷ []) task) (sym kept)
-              (life_same steps s task (life steps task) (λ name. other (same_Some t task (sym makes ∙ name)))
-                  (λ over. none-some task (sym (making_ends_none t s.body makes) ∙ over)) (are task))
+          (life_same steps s task (life steps task) (λ name. other (same_Some t task (sym makes ∙ name)))
+          (λ over. none-some task (sym (making_ends_none t s.body makes) ∙ over)) (are task))
     ]
     by_fate None (Some t) makes ends = elim (cases_eq t task) [
       | inl same ↦
           let over : ended s.body ≡ Some task = ends ∙ ap Some same in
           let test : may_be_named false (life steps task) ≡ true =
-              ap (λ (b : Bool). may_be_named b (life steps task))
-                  (sym (is_made_no (made s.body) task (λ name. none-some task (sym makes ∙ name))))
-                  ∙ may_name steps s.after s.body task follows (ended_is_named task s.body over) in
+          ap (λ (b : Bool). may_be_named b (life steps task))
+          (sym (is_made_no (made s.body) task (λ name. none-some task (sym makes ∙ name))))
+          ∙ may_name steps s.after s.body task follows (ended_is_named task s.body over) in
           let live : IsLife steps task (Some Live) =
-              subst (IsLife steps task) (live_by_test (life steps task) test) (are task) in
+          subst (IsLife steps task) (live_by_test (life steps task) test) (are task) in
           let gone : life_by_call (life steps task) None (Some t) task ≡ Some Over =
-              ap (λ (b : Bool). cond b (Some Over) (life steps task)) (eq-eqb t task same) in
+          ap (λ (b : Bool). cond b (Some Over) (life steps task)) (eq-eqb t task same) in
           subst (IsLife (steps ++ s ∷ []) task) (sym gone)
-              (made_stays steps s task live.0, (s, Contains-push steps s, over))
+          (made_stays steps s task live.0, (s, Contains-push steps s, over))
       | inr other ↦
           let kept : life_by_call (life steps task) None (Some t) task ≡ (life steps task) =
-              ap (λ (b : Bool). cond b (Some Over) (life steps task)) (ne_eqb t task other) in
+          ap (λ (b : Bool). cond b (Some Over) (life steps task)) (ne_eqb t task other) in
           subst (IsLife (steps ++ s ∷ []) task) (sym kept)
-              (life_same steps s task (life steps task) (λ name. none-some task (sym makes ∙ name))
-                  (λ over. other (same_Some t task (sym ends ∙ over))) (are task))
+          (life_same steps s task (life steps task) (λ name. none-some task (sym makes ∙ name))
+          (λ over. other (same_Some t task (sym ends ∙ over))) (are task))
     ]
     by_fate None None makes ends =
         life_same steps s task (life steps task) (λ name. none-some task (sym makes ∙ name))
-            (λ over. none-some task (sym ends ∙ over)) (are task)
+        (λ over. none-some task (sym ends ∙ over)) (are task)
 
 -- by all steps of a script
 abbrev no_step : Step
@@ -170,13 +171,13 @@ life_by steps script (suc n) low task =
     let follows = script.follows n s (slice_get-get_or steps n no_step within) in
     let one : suc n ≡ n + 1 = omega arith in
     subst (λ (xs : List Step). IsLife xs task (life xs task))
-        (sym (ap (λ m. take m steps) one ∙ take_more steps n no_step within))
-        (life_more (take n steps) s task follows (life_by steps script n (omega arith)))
+    (sym (ap (λ m. take m steps) one ∙ take_more steps n no_step within))
+    (life_more (take n steps) s task follows (life_by steps script n (omega arith)))
 
 life_is : (steps : List Step) → IsScript steps → (task : ℕ) → IsLife steps task (life steps task)
 life_is steps script task =
     subst (λ (xs : List Step). IsLife xs task (life xs task)) (take_all (length steps) steps (omega arith))
-        (life_by steps script (length steps) (omega arith) task)
+    (life_by steps script (length steps) (omega arith) task)
 
 -- ---- the rules of a call
 
@@ -198,8 +199,8 @@ pub rules_from : (steps : List Step) (after : Option (ℕ × ℕ)) (body : Body)
     → may_follow steps after body ≡ true → MayFollow steps after body
 rules_from steps after body script follows =
     let names =
-        and_parts (is_call body && is_earlier steps after && not (has_twice (named body)))
-            (list_all (λ t. may_be_named (is_made (made body) t) (life steps t)) (named body)) follows in
+    and_parts (is_call body && is_earlier steps after && not (has_twice (named body)))
+    (list_all (λ t. may_be_named (is_made (made body) t) (life steps t)) (named body)) follows in
     let twice = and_parts (is_call body && is_earlier steps after) (not (has_twice (named body))) names.0 in
     let earlier = and_parts (is_call body) (is_earlier steps after) twice.0 in
     let call = and_parts (not (is_some (claim body))) (not (is_some (told_turns body))) earlier.0 in
@@ -210,15 +211,15 @@ rules_from steps after body script follows =
       apart = apart_from_test (named body) (not_true (has_twice (named body)) twice.1);
       live = λ task has other.
           let test : may_be_named false (life steps task) ≡ true =
-              ap (λ (b : Bool). may_be_named b (life steps task)) (sym (is_made_no (made body) task other))
-                  ∙ may_name steps after body task follows has in
+          ap (λ (b : Bool). may_be_named b (life steps task)) (sym (is_made_no (made body) task other))
+          ∙ may_name steps after body task follows has in
           subst (IsLife steps task) (live_by_test (life steps task) test) (life_is steps script task);
       new = λ task makes.
           let test : may_be_named true (life steps task) ≡ true =
-              ap (λ (b : Bool). may_be_named b (life steps task)) (sym (is_made_yes (made body) task makes))
-                  ∙ may_name steps after body task follows (made_is_named task body makes) in
+          ap (λ (b : Bool). may_be_named b (life steps task)) (sym (is_made_yes (made body) task makes))
+          ∙ may_name steps after body task follows (made_is_named task body makes) in
           let none : IsLife steps task None =
-              subst (IsLife steps task) (new_by_test (life steps task) test) (life_is steps script task) in
+          subst (IsLife steps task) (new_by_test (life steps task) test) (life_is steps script task) in
           none.0;
     }
   where
@@ -230,14 +231,14 @@ pub rules_to : (steps : List Step) (after : Option (ℕ × ℕ)) (body : Body) �
     → MayFollow steps after body → may_follow steps after body ≡ true
 rules_to steps after body script rules =
     and_from _ _
-        (and_from _ _
-            (and_from _ _
-                (and_from _ _ (ap (λ o. not (is_some o)) rules.no_claim)
-                    (ap (λ o. not (is_some o)) rules.no_turns))
-                (earlier_to steps after rules.earlier))
-            (ap not (apart_to_test (named body) rules.apart)))
+    (and_from _ _
+    (and_from _ _
+    (and_from _ _ (ap (λ o. not (is_some o)) rules.no_claim)
+    (ap (λ o. not (is_some o)) rules.no_turns))
+    (earlier_to steps after rules.earlier))
+    (ap not (apart_to_test (named body) rules.apart)))
     (list_all-from_AllPass (λ t. may_be_named (is_made (made body) t) (life steps t)) (named body)
-        (λ k d within. may (get_or (named body) k d) (Contains-get_or (named body) k d within)))
+    (λ k d within. may (get_or (named body) k d) (Contains-get_or (named body) k d within)))
   where
     none_made : (task : ℕ) (o : Option Life) → (IsMade steps task → ⊥) → IsLife steps task o
         → may_be_named true o ≡ true
@@ -259,12 +260,12 @@ rules_to steps after body script rules =
     by_made task has (Some t) makes = elim (cases_eq t task) [
       | inl same ↦
           ap (λ (b : Bool). may_be_named b (life steps task)) (eq-eqb t task same)
-              ∙ none_made task (life steps task) (rules.new task (makes ∙ ap Some same))
-                  (life_is steps script task)
+          ∙ none_made task (life steps task) (rules.new task (makes ∙ ap Some same))
+          (life_is steps script task)
       | inr other ↦
           let live = rules.live task has (λ name. other (same_Some t task (sym makes ∙ name))) in
           ap (λ (b : Bool). may_be_named b (life steps task)) (ne_eqb t task other)
-              ∙ is_live task (life steps task) live.0 live.1 (life_is steps script task)
+          ∙ is_live task (life steps task) live.0 live.1 (life_is steps script task)
     ]
 
     may : (task : ℕ) → Contains (named body) task
@@ -278,16 +279,17 @@ take_stands : (steps : List Step) (n i : ℕ) (s : Step) → n ≤ length steps
 take_stands steps n i s low is =
     let within = slice_get_within (take n steps) i s is in
     let short = length-take-le n steps low in
-    let before : i < n = omega (arith, within, short) in
-    (before,
-        slice_get-get_or steps i s (omega arith) ∙ ap Some (sym (get_or-take n steps i s before))
-            ∙ sym (slice_get-get_or (take n steps) i s within) ∙ is)
+    let before : i < n = omega (arith, within, short) in (
+      before,
+      slice_get-get_or steps i s (omega arith) ∙ ap Some (sym (get_or-take n steps i s before))
+          ∙ sym (slice_get-get_or (take n steps) i s within) ∙ is,
+    )
 
 IsScript-take : (steps : List Step) (n : ℕ) → n ≤ length steps → IsScript steps → IsScript (take n steps)
 IsScript-take steps n low script =
     let both : tasks_of (take n steps) + tasks_of (drop n steps) ≡ tasks_of steps =
-        sym (sum_by-append (λ (x : Step). cond (is_some (made x.body)) 1 0) (take n steps) (drop n steps))
-            ∙ ap (λ (xs : List Step). tasks_of xs) (take-append-drop n steps) in
+    sym (sum_by-append (λ (x : Step). cond (is_some (made x.body)) 1 0) (take n steps) (drop n steps))
+    ∙ ap (λ (xs : List Step). tasks_of xs) (take-append-drop n steps) in
     record {
       few_steps = omega (arith, length-take-le n steps low, script.few_steps);
       few_tasks = omega (arith, both, script.few_tasks);
@@ -295,8 +297,8 @@ IsScript-take steps n low script =
       follows = λ i s is.
           let stands = take_stands steps n i s low is in
           ap (λ (before : List Step). may_follow before s.after s.body)
-              (take-take i n steps (omega (arith, stands.0)))
-              ∙ script.follows i s stands.1;
+          (take-take i n steps (omega (arith, stands.0)))
+          ∙ script.follows i s stands.1;
     }
 
 pub step_rules : (steps : List Step) (i : ℕ) (s : Step) → IsScript steps → slice_get steps i ≡ Some s
@@ -304,4 +306,4 @@ pub step_rules : (steps : List Step) (i : ℕ) (s : Step) → IsScript steps →
 step_rules steps i s script is =
     let within = slice_get_within steps i s is in
     rules_from (take i steps) s.after s.body (IsScript-take steps i (omega arith) script)
-        (script.follows i s is)
+    (script.follows i s is)

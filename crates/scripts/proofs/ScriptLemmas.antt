@@ -22,8 +22,8 @@ use Rattle.scripts.specs.Keeping.{AreLives}
 has_room : (steps : List Step) (body : Body) → is_full steps body ≡ false → length steps < max_records
 has_room steps body room =
     leb-false max_records (length steps)
-        (left (nat_le max_records (length steps)) (is_some (made body) && nat_le max_tasks (tasks_of steps))
-            room)
+    (left (nat_le max_records (length steps)) (is_some (made body) && nat_le max_tasks (tasks_of steps))
+    room)
   where
     left : (a b : Bool) → (a || b) ≡ false → a ≡ false
     left false b e = refl
@@ -52,7 +52,7 @@ IsScript-more steps s script room line follows = record {
   few_steps = omega (arith, length_push steps s, has_room steps s.body room);
   few_tasks =
       let more : tasks_of (steps ++ s ∷ []) ≡ tasks_of steps + cond (is_some (made s.body)) 1 0 =
-          sum_by_push (λ (x : Step). cond (is_some (made x.body)) 1 0) steps s in
+      sum_by_push (λ (x : Step). cond (is_some (made x.body)) 1 0) steps s in
       omega (arith, more, has_task_room steps s.body room script.few_tasks);
   lines = λ i x is. elim (pushed_cases steps s x i is) [
     | inl old ↦ script.lines i x old
@@ -61,12 +61,12 @@ IsScript-more steps s script room line follows = record {
   follows = λ i x is. elim (pushed_cases steps s x i is) [
     | inl old ↦
         ap (λ (before : List Step). may_follow before x.after x.body)
-            (before_stays steps s i (omega (arith, slice_get_within steps i x old)))
-            ∙ script.follows i x old
+        (before_stays steps s i (omega (arith, slice_get_within steps i x old)))
+        ∙ script.follows i x old
     | inr (last, same) ↦
         let before : take i (steps ++ s ∷ []) ≡ steps = take_at steps (s ∷ []) i (sym last) in
         subst (λ (y : Step). may_follow (take i (steps ++ s ∷ [])) y.after y.body ≡ true) same
-            (ap (λ (b : List Step). may_follow b s.after s.body) before ∙ follows)
+        (ap (λ (b : List Step). may_follow b s.after s.body) before ∙ follows)
   ];
 }
 

@@ -15,13 +15,13 @@ use Rattle.scripts.specs.Keeping.{IsFound}
 
 pub earlier-has : (steps : List Step) (named : Option (ℕ × ℕ)) (thread number count : ℕ)
     → named ≡ Some (thread, number) → count ≡ steps_of steps thread → number < count
-        → is_earlier steps named ≡ true
+    → is_earlier steps named ≡ true
 earlier-has steps named thread number count is counted less =
     rw is (rw (← counted) (grind (arith, nat_tests)))
 
 pub earlier-lacks : (steps : List Step) (named : Option (ℕ × ℕ)) (thread number count : ℕ)
     → named ≡ Some (thread, number) → count ≡ steps_of steps thread → count ≤ number
-        → is_earlier steps named ≡ false
+    → is_earlier steps named ≡ false
 earlier-lacks steps named thread number count is counted past =
     rw is (rw (← counted) (grind (arith, nat_tests)))
 
@@ -65,13 +65,13 @@ counted-more counts steps s thread at is within counted =
       | inl same ↦
           let own : (s.thread == thread) ≡ true = grind (arith, nat_tests) in
           let held : get_or counts at 0 ≡ steps_of steps thread =
-              ap (λ (k : ℕ). get_or counts k 0) same ∙ counted in
+          ap (λ (k : ℕ). get_or counts k 0) same ∙ counted in
           get_or-set_at counts at thread (get_or counts at 0 + 1) 0 (sym same) within
-              ∙ (ap (λ n. n + 1) held ∙ sym (more ∙ rw own refl))
+          ∙ (ap (λ n. n + 1) held ∙ sym (more ∙ rw own refl))
       | inr other ↦
           let foreign : (s.thread == thread) ≡ false = grind (arith, nat_tests) in
           get_or-set_other counts at thread (get_or counts at 0 + 1) 0 (λ e. other (sym e))
-              ∙ (counted ∙ sym (more ∙ rw foreign (omega arith)))
+          ∙ (counted ∙ sym (more ∙ rw foreign (omega arith)))
     ]
 
 pub tasks-more : (steps : List Step) (s : Step)

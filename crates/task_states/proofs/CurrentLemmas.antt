@@ -44,7 +44,7 @@ schedule_runs : (b : Body) (status : Status) (task : ℕ) (next : Option ℕ)
     → schedule b ≡ Some (status, task, next) → running b ≡ (if demands_next status then Some task else None)
 schedule_runs (TaskSchedule s turns p n share) status task next is =
     ap (λ (t : Status × ℕ × Option ℕ). if demands_next t.0 then Some t.1 else None)
-        (same_Some (s, p, n) (status, task, next) is)
+    (same_Some (s, p, n) (status, task, next) is)
 schedule_runs _ status task next is = absurd (none-some (status, task, next) is)
 
 schedule_starts : (b : Body) (status : Status) (task : ℕ) (next : Option ℕ)
@@ -63,8 +63,8 @@ schedule_waits : (b : Body) (status : Status) (task : ℕ) (next : Option ℕ)
 schedule_waits (TaskSchedule s turns p n share) status task next is completes =
     let same : (s, p, n) ≡ (status, task, next) = same_Some (s, p, n) (status, task, next) is in
     ap (λ (t : Status). wait_completed (TaskSchedule t turns p n share))
-        (ap (λ (t : Status × ℕ × Option ℕ). t.0) same ∙ completes)
-        ∙ ap (λ (t : Status × ℕ × Option ℕ). Some t.1) same
+    (ap (λ (t : Status × ℕ × Option ℕ). t.0) same ∙ completes)
+    ∙ ap (λ (t : Status × ℕ × Option ℕ). Some t.1) same
 schedule_waits _ status task next is completes = absurd (none-some (status, task, next) is)
 
 waits_schedule : (b : Body) (status : Status) (task : ℕ) (next : Option ℕ) (own : ℕ)
@@ -72,9 +72,10 @@ waits_schedule : (b : Body) (status : Status) (task : ℕ) (next : Option ℕ) (
     → (status ≡ TaskwaitComplete) × (own ≡ task)
 waits_schedule (TaskSchedule TaskwaitComplete turns p n share) status task next own is waits =
     let same : (TaskwaitComplete, p, n) ≡ (status, task, next) =
-        same_Some (TaskwaitComplete, p, n) (status, task, next) is in
-    (sym (ap (λ (t : Status × ℕ × Option ℕ). t.0) same),
-        sym (same_Some p own waits) ∙ ap (λ (t : Status × ℕ × Option ℕ). t.1) same)
+    same_Some (TaskwaitComplete, p, n) (status, task, next) is in (
+      sym (ap (λ (t : Status × ℕ × Option ℕ). t.0) same),
+      sym (same_Some p own waits) ∙ ap (λ (t : Status × ℕ × Option ℕ). t.1) same,
+    )
 waits_schedule _ status task next own is waits = absurd (none-some own waits)
 
 other_says : (b : Body) → schedule b ≡ None → (started b ≡ None) × (wait_completed b ≡ None)
@@ -109,8 +110,8 @@ not_created : (run : RunView) (index task : ℕ) → IsRun run → slice_get run
     → IsNotCreated run index → IsRoot run.records task
 not_created run index task is stands never =
     (root_is run.records run.family index task false is.family stands
-        (λ yes. absurd (false≢true yes), λ explicit. absurd (never task stands explicit))).0
-        refl
+    (λ yes. absurd (false≢true yes), λ explicit. absurd (never task stands explicit))).0
+    refl
 
 -- an event that misfits is one of a body that does
 event_misfits : (run : RunView) (walk w : Walk) (event : ThreadEvent) (b : Body) → IsRun run
@@ -119,68 +120,69 @@ event_misfits : (run : RunView) (walk w : Walk) (event : ThreadEvent) (b : Body)
 event_misfits run walk w (Scheduled event) b is (task, follower, says, indexed, next) at_w
     (inl (demands, other)) =
     not_running task
-        (schedule_runs b event.status task follower says ∙ ap (λ d. if d then Some task else None) demands)
-        (differs_to run.family.tasks event.prior task walk.current w.current is.family.makers.apart indexed
-            at_w.current other)
+    (schedule_runs b event.status task follower says ∙ ap (λ d. if d then Some task else None) demands)
+    (differs_to run.family.tasks event.prior task walk.current w.current is.family.makers.apart indexed
+    at_w.current other)
 event_misfits run walk w (Scheduled event) b is (task, follower, says, indexed, next) at_w (inr (inl h)) =
     let (index, starts, (never, other)) =
-        some_and event.next (λ n. IsNotCreated run n × (slice_get walk.roots 0 ≢ Some n)) h in
+    some_and event.next (λ n. IsNotCreated run n × (slice_get walk.roots 0 ≢ Some n)) h in
     let (root, named, stands) = call_task run.family.tasks follower event.next index next starts in
     other_root root (schedule_starts b event.status task follower says ∙ named)
-        (not_created run index root is stands never)
+    (not_created run index root is stands never)
     (differs_to run.family.tasks index root (slice_get walk.roots 0) (slice_get w.roots 0)
-        is.family.makers.apart stands (at_w.roots 0) other)
+    is.family.makers.apart stands (at_w.roots 0) other)
 event_misfits run walk w (Scheduled event) b is (task, follower, says, indexed, next) at_w
     (inr (inr (completes, h))) =
     let (up, there, other) = some_and (parent_index run.family event.prior) (λ p. walk.current ≢ Some p) h in
     let (parent, stands, (i, creates)) =
-        parent_is_at run.records run.family event.prior task up is.family indexed there in
+    parent_is_at run.records run.family event.prior task up is.family indexed there in
     other_parent task i parent (schedule_waits b event.status task follower says completes) creates
     (differs_to run.family.tasks up parent walk.current w.current is.family.makers.apart stands at_w.current
-        other)
+    other)
 event_misfits run walk w (RootBegin index) b is tells at_w h = absurd h
 event_misfits run walk w (RootEnd index) b is (task, says, stands) at_w (inl other) =
     not_running task (end_says b task says).1
-        (differs_to run.family.tasks index task walk.current w.current is.family.makers.apart stands
-            at_w.current other)
+    (differs_to run.family.tasks index task walk.current w.current is.family.makers.apart stands
+    at_w.current other)
 event_misfits run walk w (RootEnd index) b is (task, says, stands) at_w (inr other) =
     not_innermost task says
-        (differs_to run.family.tasks index task (slice_get walk.roots 0) (slice_get w.roots 0)
-            is.family.makers.apart stands (at_w.roots 0) other)
+    (differs_to run.family.tasks index task (slice_get walk.roots 0) (slice_get w.roots 0)
+    is.family.makers.apart stands (at_w.roots 0) other)
 event_misfits run walk w (Running index) b is (none, no_begin, no_end, (task, runs, stands)) at_w other =
     not_running task runs
-        (differs_to run.family.tasks index task walk.current w.current is.family.makers.apart stands
-            at_w.current other)
+    (differs_to run.family.tasks index task walk.current w.current is.family.makers.apart stands
+    at_w.current other)
 
 -- and back
 misfits_event : (run : RunView) (walk w : Walk) (event : ThreadEvent) (b : Body) → IsRun run
     → Tells run.family.tasks b event → IsIndexed run.family.tasks walk w → Misfits run.records w b
     → EventMisfits run walk event
 misfits_event run walk w (Scheduled event) b is (task, follower, says, indexed, next) at_w
-        (not_running own runs other) =
+    (not_running own runs other) =
     by (demands_next event.status) refl (sym (schedule_runs b event.status task follower says) ∙ runs)
   where
     by : (d : Bool) → demands_next event.status ≡ d → (if d then Some task else None) ≡ Some own
         → EventMisfits run walk (Scheduled event)
     by true e same =
-        inl
-            (e,
-                differs_from run.family.tasks event.prior task walk.current w.current indexed at_w.current
-                    (λ here. other (here ∙ same)))
+        inl (
+          e,
+          differs_from run.family.tasks event.prior task walk.current w.current indexed at_w.current
+              (λ here. other (here ∙ same)),
+        )
     by false e same = absurd (none-some own same)
 misfits_event run walk w (Scheduled event) b is (task, follower, says, indexed, next) at_w
-        (not_innermost own ends other) =
+    (not_innermost own ends other) =
     absurd (none-some own (sym (schedule_no_end b event.status task follower says) ∙ ends))
 misfits_event run walk w (Scheduled event) b is (task, follower, says, indexed, next) at_w
     (other_root own starts root other) =
     let (index, there, stands) =
-        call_index run.family.tasks follower event.next own next
-            (sym (schedule_starts b event.status task follower says) ∙ starts) in
+    call_index run.family.tasks follower event.next own next
+    (sym (schedule_starts b event.status task follower says) ∙ starts) in
     let P : ℕ → Type 0 = IsExplicit run.records in
     inr (inl (and_some event.next (λ n. IsNotCreated run n × (slice_get walk.roots 0 ≢ Some n)) index there (
       λ t stands_t explicit.
           root_or_explicit run.records own is.family.once root
-              (subst P (same_Some t own (sym stands_t ∙ stands)) explicit),
+          (subst P (same_Some t own (sym stands_t ∙ stands)) explicit),
       differs_from run.family.tasks index own (slice_get walk.roots 0) (slice_get w.roots 0) stands
           (at_w.roots 0) other,
     )))
@@ -189,14 +191,14 @@ misfits_event run walk w (Scheduled event) b is (task, follower, says, indexed, 
     let (completed, same) = waits_schedule b event.status task follower own says completes in
     let creates_task = creates ∙ ap (λ (t : ℕ). Some (parent, t)) same in
     let (up, stands) =
-        contains_get run.family.tasks parent
-            (parent_noted run.records run.family.tasks i parent task is.family.noted is.family.rooted
-                creates_task) in
+    contains_get run.family.tasks parent
+    (parent_noted run.records run.family.tasks i parent task is.family.noted is.family.rooted
+    creates_task) in
     inr (inr (
       completed,
       and_some (parent_index run.family event.prior) (λ p. walk.current ≢ Some p) up
           (parent_at_is run.records run.family event.prior task up is.family indexed
-              (parent, stands, (i, creates_task)))
+          (parent, stands, (i, creates_task)))
           (differs_from run.family.tasks up parent walk.current w.current stands at_w.current other),
     ))
 misfits_event run walk w (RootBegin index) b is (task, says, stands) at_w misfit = never misfit
@@ -210,29 +212,29 @@ misfits_event run walk w (RootBegin index) b is (task, says, stands) at_w misfit
         none-some own (sym (other_says b (begin_says b task says).0).1 ∙ completes)
 misfits_event run walk w (RootEnd index) b is (task, says, stands) at_w (not_running own runs other) =
     inl
-        (differs_from run.family.tasks index task walk.current w.current stands at_w.current
-            (λ here. other (here ∙ sym (end_says b task says).1 ∙ runs)))
+    (differs_from run.family.tasks index task walk.current w.current stands at_w.current
+    (λ here. other (here ∙ sym (end_says b task says).1 ∙ runs)))
 misfits_event run walk w (RootEnd index) b is (task, says, stands) at_w (not_innermost own ends other) =
     inr
-        (differs_from run.family.tasks index task (slice_get walk.roots 0) (slice_get w.roots 0) stands
-            (at_w.roots 0) (λ here. other (here ∙ sym says ∙ ends)))
+    (differs_from run.family.tasks index task (slice_get walk.roots 0) (slice_get w.roots 0) stands
+    (at_w.roots 0) (λ here. other (here ∙ sym says ∙ ends)))
 misfits_event run walk w (RootEnd index) b is (task, says, stands) at_w (other_root own starts root other) =
     absurd (none-some own (sym (other_says b (end_says b task says).0).0 ∙ starts))
 misfits_event run walk w (RootEnd index) b is (task, says, stands) at_w
-        (other_parent own i parent completes creates other) =
+    (other_parent own i parent completes creates other) =
     absurd (none-some own (sym (other_says b (end_says b task says).0).1 ∙ completes))
 misfits_event run walk w (Running index) b is (none, no_begin, no_end, (task, runs, stands)) at_w
     (not_running own runs_own other) =
     differs_from run.family.tasks index task walk.current w.current stands at_w.current
-        (λ here. other (here ∙ sym runs ∙ runs_own))
+    (λ here. other (here ∙ sym runs ∙ runs_own))
 misfits_event run walk w (Running index) b is (none, no_begin, no_end, (task, runs, stands)) at_w
-        (not_innermost own ends other) =
+    (not_innermost own ends other) =
     absurd (none-some own (sym no_end ∙ ends))
 misfits_event run walk w (Running index) b is (none, no_begin, no_end, (task, runs, stands)) at_w
-        (other_root own starts root other) =
+    (other_root own starts root other) =
     absurd (none-some own (sym (other_says b none).0 ∙ starts))
 misfits_event run walk w (Running index) b is (none, no_begin, no_end, (task, runs, stands)) at_w
-        (other_parent own i parent completes creates other) =
+    (other_parent own i parent completes creates other) =
     absurd (none-some own (sym (other_says b none).1 ∙ completes))
 
 nothing_misfits : (rs : List Record) (w : Walk) (b : Body) → TellsNothing b → Misfits rs w b → ⊥
@@ -260,17 +262,17 @@ misfits_here run i thread walk event is within runs tells at_w free h =
     let (r, stands) = get_within rs i within in
     let P : ℕ → Type 0 = λ t. IsIndexed run.family.tasks walk (walk_of t (take i rs)) in
     let misfit : Misfits rs (walk_of r.thread (take i rs)) r.body =
-        event_misfits run walk (walk_of r.thread (take i rs)) event r.body is
-            (told_there run i r event stands tells)
-            (subst P (sym (thread_there run i thread r stands runs)) at_w) h in
+    event_misfits run walk (walk_of r.thread (take i rs)) event r.body is
+    (told_there run i r event stands tells)
+    (subst P (sym (thread_there run i thread r stands runs)) at_w) h in
     record {
       within = within;
       has =
           not_current
-              (record {
-                misfits = record { the_record = r; stands = stands; misfits = misfit };
-                first = λ k below same. free k below;
-              });
+          (record {
+            misfits = record { the_record = r; stands = stands; misfits = misfit };
+            first = λ k below same. free k below;
+          });
       first = λ k below has. free k below (misplaced rs k has);
     }
 
@@ -283,14 +285,14 @@ fits_here run i thread walk event is runs tells at_w fits h =
     let r = h.the_record in
     let P : ℕ → Type 0 = λ t. IsIndexed run.family.tasks walk (walk_of t (take i rs)) in
     fits
-        (misfits_event run walk (walk_of r.thread (take i rs)) event r.body is
-            (told_there run i r event h.stands tells)
-            (subst P (sym (thread_there run i thread r h.stands runs)) at_w) h.misfits)
+    (misfits_event run walk (walk_of r.thread (take i rs)) event r.body is
+    (told_there run i r event h.stands tells)
+    (subst P (sym (thread_there run i thread r h.stands runs)) at_w) h.misfits)
 
 pub nothing_fits : (run : RunView) (i : ℕ) → IsNoThreadEvent run i → MisfitsAt run.records i → ⊥
 nothing_fits run i nothing h =
     nothing_misfits run.records (walk_of h.the_record.thread (take i run.records)) h.the_record.body
-        (nothing_there run i h.the_record h.stands nothing) h.misfits
+    (nothing_there run i h.the_record h.stands nothing) h.misfits
 
 pub free_of_misfits : (rs : List Record) (n : ℕ) → ((k : ℕ) → k < n → MisfitsAt rs k → ⊥) → length rs ≤ n
     → IsFreeOf rs NotCurrent

@@ -93,8 +93,8 @@ explicit_start_is run i index found is calls same explicit k =
       },
       λ start.
           ap Some
-              (is.family.makers.apart index k task stands
-                  (start.indexed ∙ ap Some (same_Some start.task task (sym start.starts ∙ starts)))),
+          (is.family.makers.apart index k task stands
+          (start.indexed ∙ ap Some (same_Some start.task task (sym start.starts ∙ starts)))),
     )
 
 -- ---- the tests
@@ -109,7 +109,7 @@ find_first p a (suc n) i low within passes before = elim (cases_eq a i) [
   | inr apart ↦
       ap (λ b. cond b (Some a) (find p (range_with_len (a + 1) n))) (before a (omega arith) (omega arith))
       ∙ find_first p (a + 1) n i (omega arith) (omega (arith, within)) passes
-          (λ k from below. before k (omega arith) below)
+      (λ k from below. before k (omega arith) below)
 ]
 
 -- where the turns let the task move, they are told
@@ -177,10 +177,10 @@ first_home : (rs : List Record) (i task thread : ℕ) → IsFreeOf rs CreatedTwi
 first_home rs i task thread once explicit starts runs first =
     explicit_home rs task (explicit_not_root rs task once explicit)
     ∙ ap (option_and_then (thread_at rs))
-        (find_first (λ k. is_task task (at started rs k)) 0 (length rs) i (omega arith)
-            (let inside = at_within started rs i task starts in omega arith)
-            (the_task task (at started rs i) starts)
-            (λ k from below. not_before k below (is_task task (at started rs k)) refl))
+    (find_first (λ k. is_task task (at started rs k)) 0 (length rs) i (omega arith)
+    (let inside = at_within started rs i task starts in omega arith)
+    (the_task task (at started rs i) starts)
+    (λ k from below. not_before k below (is_task task (at started rs k)) refl))
     ∙ runs
   where
     not_before : (k : ℕ) → k < i → (b : Bool) → is_task task (at started rs k) ≡ b
@@ -206,39 +206,39 @@ ran_more rs i task thread told Nowhere new once explicit starts runs tells ran g
     })
 ran_more rs i task thread told (On before) new once explicit starts runs tells ran goes =
     elim (cases_eq before thread) [
-  | inl same ↦
-      let is : Some (On before) ≡ Some new =
+      | inl same ↦
+          let is : Some (On before) ≡ Some new =
           sym (ap (λ b. cond b (Some (On before)) (told_move told)) (eq-eqb before thread same)) ∙ goes in
-      subst (HasRun rs (i + 1) task) (same_Some (On before) new is) (record {
-        place = ran.place;
-        below = let less = ran.below in omega arith;
-        starts = ran.starts;
-        home = ran.home;
-        all = λ k below starts_there. elim (cases_eq k i) [
-          | inl here ↦ ap (thread_at rs) here ∙ runs ∙ ap Some (sym same)
-          | inr apart ↦ ran.all k (omega arith) starts_there
-        ];
-      })
-  | inr apart ↦
-      let is : told_move told ≡ Some new =
+          subst (HasRun rs (i + 1) task) (same_Some (On before) new is) (record {
+            place = ran.place;
+            below = let less = ran.below in omega arith;
+            starts = ran.starts;
+            home = ran.home;
+            all = λ k below starts_there. elim (cases_eq k i) [
+              | inl here ↦ ap (thread_at rs) here ∙ runs ∙ ap Some (sym same)
+              | inr apart ↦ ran.all k (omega arith) starts_there
+            ];
+          })
+      | inr apart ↦
+          let is : told_move told ≡ Some new =
           sym (ap (λ b. cond b (Some (On before)) (told_move told)) (ne_eqb before thread apart)) ∙ goes in
-      let (tell, many) = told_moves told new is in
-      subst (HasRun rs (i + 1) task) many (record {
-        thread = before;
-        home = ran.home;
-        first = ran.place;
-        first_below = let less = ran.below in omega arith;
-        first_starts = ran.starts;
-        first_on = ran.all ran.place ran.below ran.starts;
-        place = i;
-        below = omega arith;
-        starts = starts;
-        told = sym tells ∙ tell;
-        other = thread;
-        on = runs;
-        apart = λ same. apart (sym same);
-      })
-]
+          let (tell, many) = told_moves told new is in
+          subst (HasRun rs (i + 1) task) many (record {
+            thread = before;
+            home = ran.home;
+            first = ran.place;
+            first_below = let less = ran.below in omega arith;
+            first_starts = ran.starts;
+            first_on = ran.all ran.place ran.below ran.starts;
+            place = i;
+            below = omega arith;
+            starts = starts;
+            told = sym tells ∙ tell;
+            other = thread;
+            on = runs;
+            apart = λ same. apart (sym same);
+          })
+    ]
 ran_more rs i task thread told Many new once explicit starts runs tells ran goes =
     subst (HasRun rs (i + 1) task) (told_moves told new goes).1 (off_longer rs i task ran)
 
@@ -252,23 +252,22 @@ homes_more rs i index thread told home new tasks homes once apart_all are start 
   each = λ other task stands explicit. elim (cases_eq other index) [
     | inl same ↦
         let is : start.task ≡ task =
-            same_Some start.task task (sym start.indexed ∙ ap (slice_get tasks) (sym same) ∙ stands) in
+        same_Some start.task task (sym start.indexed ∙ ap (slice_get tasks) (sym same) ∙ stands) in
         let (before, there, ran) = are.each index start.task start.indexed start.explicit in
         let ran_here : HasRun rs i start.task home =
-            subst (HasRun rs i start.task) (same_Some before home (sym there ∙ old)) ran in
+        subst (HasRun rs i start.task) (same_Some before home (sym there ∙ old)) ran in
         let P : ℕ → Type 0 = λ t. HasRun rs (i + 1) t new in (
           new,
           ap (slice_get (set homes index new)) same
               ∙ get_set_same homes index new (slice_get_within homes index home old),
           subst P is
               (ran_more rs i start.task thread told home new once start.explicit start.starts runs tells
-                  ran_here goes),
+              ran_here goes),
         )
     | inr apart ↦
         let (before, there, ran) = are.each other task stands explicit in
         let differs : start.task ≢ task =
-            λ same. apart (apart_all other index task stands (start.indexed ∙ ap Some same)) in
-        (
+        λ same. apart (apart_all other index task stands (start.indexed ∙ ap Some same)) in (
           before,
           get_set_other homes index other new apart ∙ there,
           ran_still rs i task before
@@ -295,32 +294,52 @@ moves_from rs i task thread told Nowhere explicit starts runs tells ran stops =
     absurd (none-some (On thread) (sym stops))
 moves_from rs i task thread told (On before) explicit starts runs tells ran stops =
     elim (cases_eq before thread) [
-  | inl same ↦
-      absurd
+      | inl same ↦
+          absurd
           (none-some (On before)
-              (sym
-                  (sym (ap (λ b. cond b (Some (On before)) (told_move told)) (eq-eqb before thread same))
-                      ∙ stops)))
-  | inr apart ↦
-      let untold : told ≡ false =
+          (sym
+          (sym (ap (λ b. cond b (Some (On before)) (told_move told)) (eq-eqb before thread same))
+          ∙ stops)))
+      | inr apart ↦
+          let untold : told ≡ false =
           told_stops told
-              (sym (ap (λ b. cond b (Some (On before)) (told_move told)) (ne_eqb before thread apart))
-                  ∙ stops) in
-      let there = ran.all ran.place ran.below ran.starts in
-      (task, ran.place, explicit, starts, ran.below, ran.starts,
-          λ one. apart (same_Some before thread (sym there ∙ one ∙ runs)),
-          none_from_test (at told_turns rs i) (sym tells ∙ untold))
-]
+          (sym (ap (λ b. cond b (Some (On before)) (told_move told)) (ne_eqb before thread apart))
+          ∙ stops) in
+          let there = ran.all ran.place ran.below ran.starts in (
+            task,
+            ran.place,
+            explicit,
+            starts,
+            ran.below,
+            ran.starts,
+            λ one. apart (same_Some before thread (sym there ∙ one ∙ runs)),
+            none_from_test (at told_turns rs i) (sym tells ∙ untold),
+          )
+    ]
 moves_from rs i task thread told Many explicit starts runs tells ran stops =
     let silent : at told_turns rs i ≡ None =
-        none_from_test (at told_turns rs i) (sym tells ∙ told_stops told stops) in
+    none_from_test (at told_turns rs i) (sym tells ∙ told_stops told stops) in
     elim (cases_eq ran.thread thread) [
-      | inl same ↦
-          (task, ran.place, explicit, starts, ran.below, ran.starts,
-              λ one. ran.apart (same_Some ran.other thread (sym ran.on ∙ one ∙ runs) ∙ sym same), silent)
-      | inr apart ↦
-          (task, ran.first, explicit, starts, ran.first_below, ran.first_starts,
-              λ one. apart (same_Some ran.thread thread (sym ran.first_on ∙ one ∙ runs)), silent)
+      | inl same ↦ (
+        task,
+        ran.place,
+        explicit,
+        starts,
+        ran.below,
+        ran.starts,
+        λ one. ran.apart (same_Some ran.other thread (sym ran.on ∙ one ∙ runs) ∙ sym same),
+        silent,
+      )
+      | inr apart ↦ (
+        task,
+        ran.first,
+        explicit,
+        starts,
+        ran.first_below,
+        ran.first_starts,
+        λ one. apart (same_Some ran.thread thread (sym ran.first_on ∙ one ∙ runs)),
+        silent,
+      )
     ]
 
 pub moves_here : (rs : List Record) (i index thread : ℕ) (told : Bool) (home : Home) (tasks : List ℕ)
@@ -332,8 +351,8 @@ moves_here rs i index thread told home tasks homes free are start runs tells old
   within = at_within started rs i start.task start.starts;
   has =
       moved
-          (moves_from rs i start.task thread told home start.explicit start.starts runs tells
-              (ran_there rs i index home tasks homes are start old) stops);
+      (moves_from rs i start.task thread told home start.explicit start.starts runs tells
+      (ran_there rs i index home tasks homes are start old) stops);
   first = λ k below has. free k below (is_moved rs k has);
 }
 
@@ -346,14 +365,14 @@ stays rs i task k thread told Nowhere new below starts elsewhere silent runs tel
     ran k below starts
 stays rs i task k thread told (On before) new below starts elsewhere silent runs tells ran goes =
     elim (cases_eq before thread) [
-  | inl same ↦ elsewhere (ran.all k below starts ∙ ap Some same ∙ sym runs)
-  | inr apart ↦
-      false≢true
+      | inl same ↦ elsewhere (ran.all k below starts ∙ ap Some same ∙ sym runs)
+      | inr apart ↦
+          false≢true
           (ap is_some (sym silent) ∙ sym tells
-              ∙ (told_moves told new
-                    (sym (ap (λ b. cond b (Some (On before)) (told_move told)) (ne_eqb before thread apart))
-                        ∙ goes)).0)
-]
+          ∙ (told_moves told new
+          (sym (ap (λ b. cond b (Some (On before)) (told_move told)) (ne_eqb before thread apart))
+          ∙ goes)).0)
+    ]
 stays rs i task k thread told Many new below starts elsewhere silent runs tells ran goes =
     false≢true (ap is_some (sym silent) ∙ sym tells ∙ (told_moves told new goes).0)
 
@@ -366,7 +385,7 @@ moves_not rs i index thread told home new tasks homes are start runs tells old g
     (other, k, explicit, starts_here, below, starts_there, elsewhere, silent) =
     let is : start.task ≡ other = same_Some start.task other (sym start.starts ∙ starts_here) in
     stays rs i start.task k thread told home new below (starts_there ∙ ap Some (sym is)) elsewhere silent runs
-        tells (ran_there rs i index home tasks homes are start old) goes
+    tells (ran_there rs i index home tasks homes are start old) goes
 
 -- a record that starts no explicit task is none either
 pub stays_put : (rs : List Record) (i : ℕ)
@@ -391,22 +410,22 @@ has_moved_at : (rs : List Record) (i task : ℕ) → at started rs i ≡ Some ta
     → is_some (at told_turns rs i) ≡ true → is_on rs (home_of rs task) i ≡ false → has_moved rs task ≡ true
 has_moved_at rs i task starts tells away =
     found_some (is_away rs task) (places rs) i (contains_place rs i (at_within started rs i task starts))
-    ( ap (λ b. b && is_some (at told_turns rs i) && not (is_on rs (home_of rs task) i))
-        (the_task task (at started rs i) starts)
+    (ap (λ b. b && is_some (at told_turns rs i) && not (is_on rs (home_of rs task) i))
+    (the_task task (at started rs i) starts)
     ∙ ap (λ b. b && not (is_on rs (home_of rs task) i)) tells ∙ ap not away)
 
 -- a task that runs next at its home alone has not
 pub has_not_moved : (rs : List Record) (task : ℕ)
     → ((i : ℕ) → at started rs i ≡ Some task → is_some (at told_turns rs i) ≡ true
-          → is_on rs (home_of rs task) i ≡ true)
+    → is_on rs (home_of rs task) i ≡ true)
     → has_moved rs task ≡ false
 has_not_moved rs task stays_there = ap is_some (found_none (is_away rs task) (places rs) none)
   where
     none : (i : ℕ) → is_away rs task i ≡ true → ⊥
     none i away =
         let (starts, off) =
-            and_parts (is_task task (at started rs i) && is_some (at told_turns rs i))
-                (not (is_on rs (home_of rs task) i)) away in
+        and_parts (is_task task (at started rs i) && is_some (at told_turns rs i))
+        (not (is_on rs (home_of rs task) i)) away in
         let (is, tells) = and_parts (is_task task (at started rs i)) (is_some (at told_turns rs i)) starts in
         false≢true (sym (ap not (stays_there i (is_the_task task (at started rs i) is) tells)) ∙ off)
 
@@ -424,22 +443,22 @@ ran_all rs n task Nowhere once explicit all ran =
     ran i (let inside = at_within started rs i task starts in omega (arith, inside, all)) starts in
     let none : home_of rs task ≡ None = explicit_home rs task (explicit_not_root rs task once explicit)
     ∙ ap (option_and_then (thread_at rs))
-        (found_none (λ i. is_task task (at started rs i)) (places rs)
-            (λ i passes. never i (is_the_task task (at started rs i) passes))) in
+    (found_none (λ i. is_task task (at started rs i)) (places rs)
+    (λ i passes. never i (is_the_task task (at started rs i) passes))) in
     let still : has_moved rs task ≡ false =
-        has_not_moved rs task (λ i starts tells. absurd (never i starts)) in
+    has_not_moved rs task (λ i starts tells. absurd (never i starts)) in
     sym (ap (λ b. home_told b (home_of rs task)) still ∙ ap (home_told false) none)
 ran_all rs n task (On thread) once explicit all ran =
     let still : has_moved rs task ≡ false = has_not_moved rs task (λ i starts tells.
     let there =
-        ran.all i (let inside = at_within started rs i task starts in omega (arith, inside, all)) starts in
+    ran.all i (let inside = at_within started rs i task starts in omega (arith, inside, all)) starts in
     on_thread rs (home_of rs task) i thread thread ran.home there ∙ eq-eqb thread thread refl) in
     sym (ap (λ b. home_told b (home_of rs task)) still ∙ ap (home_told false) ran.home)
 ran_all rs n task Many once explicit all ran =
     let moves : has_moved rs task ≡ true =
-        has_moved_at rs ran.place task ran.starts ran.told
-            (on_thread rs (home_of rs task) ran.place ran.other ran.thread ran.home ran.on
-                ∙ ne_eqb ran.other ran.thread ran.apart) in
+    has_moved_at rs ran.place task ran.starts ran.told
+    (on_thread rs (home_of rs task) ran.place ran.other ran.thread ran.home ran.on
+    ∙ ne_eqb ran.other ran.thread ran.apart) in
     sym (ap (λ b. home_told b (home_of rs task)) moves)
 
 pub homes_end : (rs : List Record) (n : ℕ) (tasks : List ℕ) (homes : List Home) → IsFreeOf rs CreatedTwice

@@ -35,7 +35,7 @@ filter_same : {X : Type 0} (p q : X → Bool) → ((x : X) → p x ≡ q x) → 
 filter_same p q same [] = refl
 filter_same p q same (x ∷ xs) =
     ap (λ b. cond b (x ∷ filter p xs) (filter p xs)) (same x)
-        ∙ ap (λ l. cond (q x) (x ∷ l) l) (filter_same p q same xs)
+    ∙ ap (λ l. cond (q x) (x ∷ l) l) (filter_same p q same xs)
 
 filter_none : {X : Type 0} (p : X → Bool) → ((x : X) → p x ≡ false) → (xs : List X) → filter p xs ≡ []
 filter_none p never [] = refl
@@ -49,7 +49,7 @@ by_parts : {S : Type 0} (f : ℕ → List S) (q : ℕ → Bool) (p : S → Bool)
 by_parts f q p same [] = refl
 by_parts f q p same (k ∷ ks) =
     part (q k) ∙ ap (λ l. l ++ flat_map f (filter q ks)) (sym (same k))
-        ∙ ap (λ l. filter p (f k) ++ l) (by_parts f q p same ks)
+    ∙ ap (λ l. filter p (f k) ++ l) (by_parts f q p same ks)
     ∙ sym (filter-append p (f k) (flat_map f ks))
   where
     part : (b : Bool)
@@ -69,14 +69,14 @@ passing p moves = filter (λ (step : ℕ × Move). p step.1) moves
 -- a stop and a start of which neither passes
 neither : (p : Move → Bool) (i : ℕ) (s : Status) → p (Stopped s) ≡ false → p Started ≡ false → (a b : Bool)
     → passing p (map (λ move. (i, move)) ((cond a (Stopped s ∷ []) [] ++ cond b (Started ∷ []) []) ++ []))
-        ≡ []
+    ≡ []
 neither p i s stop start true true =
     ap
-        (λ c.
-            cond c ((i, Stopped s) ∷ cond (p Started) ((i, Started) ∷ []) [])
-                (cond (p Started) ((i, Started) ∷ []) []))
-        stop
-        ∙ ap (λ c. cond c ((i, Started) ∷ []) []) start
+    (λ c.
+    cond c ((i, Stopped s) ∷ cond (p Started) ((i, Started) ∷ []) [])
+    (cond (p Started) ((i, Started) ∷ []) []))
+    stop
+    ∙ ap (λ c. cond c ((i, Started) ∷ []) []) start
 neither p i s stop start true false = ap (λ c. cond c ((i, Stopped s) ∷ []) []) stop
 neither p i s stop start false true = ap (λ c. cond c ((i, Started) ∷ []) []) start
 neither p i s stop start false false = refl
@@ -84,7 +84,7 @@ neither p i s stop start false false = refl
 -- a stop alone, which passes
 alone : (p : Move → Bool) (i : ℕ) (s : Status) → p (Stopped s) ≡ true → (a : Bool)
     → passing p (map (λ move. (i, move)) ((cond a (Stopped s ∷ []) [] ++ []) ++ []))
-        ≡ map (λ move. (i, move)) ((cond a (Stopped s ∷ []) [] ++ []) ++ [])
+    ≡ map (λ move. (i, move)) ((cond a (Stopped s ∷ []) [] ++ []) ++ [])
 alone p i s stop true = ap (λ c. cond c ((i, Stopped s) ∷ []) []) stop
 alone p i s stop false = refl
 
@@ -95,8 +95,8 @@ early_by task i (TaskSchedule status.EarlyFulfill turns prior None share) sound 
   where
     of : (a : Bool)
         → passing is_early_move
-            (map (λ move. (i, move)) ((cond a (Stopped status.EarlyFulfill ∷ []) [] ++ []) ++ []))
-            ≡ cond a (map (λ move. (i, move)) ((cond a (Stopped status.EarlyFulfill ∷ []) [] ++ []) ++ [])) []
+        (map (λ move. (i, move)) ((cond a (Stopped status.EarlyFulfill ∷ []) [] ++ []) ++ []))
+        ≡ cond a (map (λ move. (i, move)) ((cond a (Stopped status.EarlyFulfill ∷ []) [] ++ []) ++ [])) []
     of true = refl
     of false = refl
 early_by task i (TaskSchedule status.EarlyFulfill turns prior (Some next) share) sound =
@@ -130,14 +130,14 @@ switches b = option_map_or demands_next (says_status b) false
 -- what is neither an early fulfilment nor begins or ends a turn
 apart_by : (task i : ℕ) (b : Body) → HasItsNext b
     → passing is_apart (made_by task i b)
-        ≡ cond (not (early_for task b) && not (switches b)) (made_by task i b) []
+    ≡ cond (not (early_for task b) && not (switches b)) (made_by task i b) []
 apart_by task i (TaskSchedule status.EarlyFulfill turns prior None share) sound = of (prior == task)
   where
     of : (a : Bool)
         → passing is_apart
-            (map (λ move. (i, move)) ((cond a (Stopped status.EarlyFulfill ∷ []) [] ++ []) ++ []))
-            ≡ cond (not a && true)
-                (map (λ move. (i, move)) ((cond a (Stopped status.EarlyFulfill ∷ []) [] ++ []) ++ [])) []
+        (map (λ move. (i, move)) ((cond a (Stopped status.EarlyFulfill ∷ []) [] ++ []) ++ []))
+        ≡ cond (not a && true)
+        (map (λ move. (i, move)) ((cond a (Stopped status.EarlyFulfill ∷ []) [] ++ []) ++ [])) []
     of true = refl
     of false = refl
 apart_by task i (TaskSchedule status.EarlyFulfill turns prior (Some next) share) sound =
@@ -165,7 +165,7 @@ apart_by task i (Cancel flags other share) sound =
   where
     of : (a : Bool)
         → passing is_apart (map (λ move. (i, move)) (cond a (Discarded ∷ []) []))
-            ≡ map (λ move. (i, move)) (cond a (Discarded ∷ []) [])
+        ≡ map (λ move. (i, move)) (cond a (Discarded ∷ []) [])
     of true = refl
     of false = refl
 apart_by task i _ sound = refl
@@ -186,8 +186,8 @@ moves_there : (rs : List Record) (task i : ℕ) (o : Option Record) → slice_ge
     → moves_at rs task i ≡ map (λ move. (i, move)) (option_map_or (λ (r : Record). moves_by task r.body) o [])
 moves_there rs task i o e =
     ap
-        (λ (q : Option Record).
-            map (λ move. (i, move)) (option_map_or (λ (r : Record). moves_by task r.body) q [])) e
+    (λ (q : Option Record).
+    map (λ move. (i, move)) (option_map_or (λ (r : Record). moves_by task r.body) q [])) e
 
 -- of a task that moved no record is at home
 away : (rs : List Record) (task i : ℕ) → has_moved rs task ≡ true → is_home rs task i ≡ false
@@ -197,7 +197,7 @@ early_at : (rs : List Record) (task : ℕ) → IsTrace rs → has_moved rs task 
     → passing is_early_move (moves_at rs task i) ≡ cond (is_read Early rs task i) (moves_at rs task i) []
 early_at rs task is_trace moves i =
     ap (λ l. passing is_early_move l) here ∙ there (slice_get rs i) refl
-        ∙ ap (λ l. cond (is_read Early rs task i) l []) (sym here)
+    ∙ ap (λ l. cond (is_read Early rs task i) l []) (sym here)
   where
     and_true : (b : Bool) → b ≡ b && true
     and_true true = refl
@@ -209,21 +209,21 @@ early_at rs task is_trace moves i =
 
     there : (o : Option Record) → slice_get rs i ≡ o
         → passing is_early_move
-            (map (λ move. (i, move))
-                (option_map_or (λ (r : Record). moves_by task r.body) (slice_get rs i) []))
-            ≡ cond (is_read Early rs task i)
-                (map (λ move. (i, move))
-                    (option_map_or (λ (r : Record). moves_by task r.body) (slice_get rs i) [])) []
+        (map (λ move. (i, move))
+        (option_map_or (λ (r : Record). moves_by task r.body) (slice_get rs i) []))
+        ≡ cond (is_read Early rs task i)
+        (map (λ move. (i, move))
+        (option_map_or (λ (r : Record). moves_by task r.body) (slice_get rs i) [])) []
     there None e =
         ap (λ l. passing is_early_move l) (moves_there rs task i None e)
-            ∙ sym (nothing_of (is_read Early rs task i))
+        ∙ sym (nothing_of (is_read Early rs task i))
         ∙ ap (λ l. cond (is_read Early rs task i) l []) (sym (moves_there rs task i None e))
     there (Some r) e =
         ap (λ l. passing is_early_move l) (moves_there rs task i (Some r) e)
-            ∙ early_by task i r.body (next_there rs i r is_trace e)
+        ∙ early_by task i r.body (next_there rs i r is_trace e)
         ∙ ap (λ b. cond b (made_by task i r.body) [])
-            (sym (early_there rs i task r e) ∙ and_true (is_early rs task i)
-                ∙ ap (λ b. is_early rs task i && not b) (sym (away rs task i moves)))
+        (sym (early_there rs i task r e) ∙ and_true (is_early rs task i)
+        ∙ ap (λ b. is_early rs task i && not b) (sym (away rs task i moves)))
         ∙ ap (λ l. cond (is_read Early rs task i) l []) (sym (moves_there rs task i (Some r) e))
 
 apart_at : (rs : List Record) (task : ℕ) → IsTrace rs → has_moved rs task ≡ true → (i : ℕ)
@@ -238,19 +238,19 @@ apart_at rs task is_trace moves i = there (slice_get rs i) refl
         → passing is_apart (moves_at rs task i) ≡ cond (is_read Rest rs task i) (moves_at rs task i) []
     there None e =
         ap (λ l. passing is_apart l) (moves_there rs task i None e)
-            ∙ sym (nothing_of (is_read Rest rs task i))
+        ∙ sym (nothing_of (is_read Rest rs task i))
         ∙ ap (λ l. cond (is_read Rest rs task i) l []) (sym (moves_there rs task i None e))
     there (Some r) e =
         ap (λ l. passing is_apart l) (moves_there rs task i (Some r) e)
-            ∙ apart_by task i r.body (next_there rs i r is_trace e)
+        ∙ apart_by task i r.body (next_there rs i r is_trace e)
         ∙ ap (λ b. cond b (made_by task i r.body) []) (
         ap (λ b. not b && not (switches r.body)) (sym (early_there rs i task r e))
-            ∙ ap (λ b. not (is_early rs task i) && not b) (sym (switch_there rs i r e))
+        ∙ ap (λ b. not (is_early rs task i) && not b) (sym (switch_there rs i r e))
         ∙ rest (is_early rs task i) (is_switch rs i)
         ∙ ap (λ b. not (is_early rs task i) && not b && not (true && is_switch rs i))
-            (sym (away rs task i moves))
+        (sym (away rs task i moves))
         ∙ ap (λ b. not (is_early rs task i) && not (is_home rs task i) && not (b && is_switch rs i))
-            (sym moves))
+        (sym moves))
         ∙ ap (λ l. cond (is_read Rest rs task i) l []) (sym (moves_there rs task i (Some r) e))
 
 -- ---- all moves
@@ -262,7 +262,7 @@ four : (a b c d a' b' c' d' : List (ℕ × Move)) → a ≡ a' → b ≡ b' → 
     → (a ++ b ++ c) ++ d ≡ (a' ++ b' ++ c') ++ d'
 four a b c d a' b' c' d' p q r s =
     ap (λ l. (l ++ b ++ c) ++ d) p ∙ ap (λ l. (a' ++ l ++ c) ++ d) q ∙ ap (λ l. (a' ++ b' ++ l) ++ d) r
-        ∙ ap (λ l. (a' ++ b' ++ c') ++ l) s
+    ∙ ap (λ l. (a' ++ b' ++ c') ++ l) s
 
 -- of a task that moved
 moved_read : (rs : List Record) (task : ℕ) → IsTrace rs → has_moved rs task ≡ true
@@ -271,38 +271,38 @@ moved_read rs task is_trace moves =
     let turns = flat_map (turn_moves rs task) (range_with_len 0 (turns_in rs)) in
     let f = moves_at rs task in
     four (moves_in Early rs (places rs) task) (moves_in Home rs (places rs) task)
-        (turned rs (turns_in rs) task) (moves_in Rest rs (places rs) task)
+    (turned rs (turns_in rs) task) (moves_in Rest rs (places rs) task)
     (moves_by_file rs task is_early_move) [] turns (moves_by_file rs task is_apart)
     (by_parts f (is_read Early rs task) (λ (step : ℕ × Move). is_early_move step.1)
-        (early_at rs task is_trace moves) (places rs))
+    (early_at rs task is_trace moves) (places rs))
     (ap (flat_map f) (filter_none (is_read Home rs task) (λ i. away rs task i moves) (places rs)))
     (ap (λ b. cond b turns []) moves)
     (by_parts f (is_read Rest rs task) (λ (step : ℕ × Move). is_apart step.1)
-        (apart_at rs task is_trace moves) (places rs))
+    (apart_at rs task is_trace moves) (places rs))
     ∙ ap (λ l. (l ++ turns) ++ moves_by_file rs task is_apart)
-        (append-nil (moves_by_file rs task is_early_move))
+    (append-nil (moves_by_file rs task is_early_move))
 
 -- of any other
 home_read : (rs : List Record) (task : ℕ) → has_moved rs task ≡ false → all_read rs task ≡ moves_of rs task
 home_read rs task stays =
     four (moves_in Early rs (places rs) task) (moves_in Home rs (places rs) task)
-        (turned rs (turns_in rs) task) (moves_in Rest rs (places rs) task)
+    (turned rs (turns_in rs) task) (moves_in Rest rs (places rs) task)
     (flat_map f (filter early (places rs))) (flat_map f (filter on (places rs))) []
-        (flat_map f (filter rest (places rs)))
+    (flat_map f (filter rest (places rs)))
     (ap (flat_map f)
-        (filter_same (is_read Early rs task) early
-            (λ i. ap (λ b. is_early rs task i && not (not b && on i)) stays) (places rs)))
+    (filter_same (is_read Early rs task) early
+    (λ i. ap (λ b. is_early rs task i && not (not b && on i)) stays) (places rs)))
     (ap (flat_map f) (filter_same (is_read Home rs task) on (λ i. ap (λ b. not b && on i) stays) (places rs)))
     (ap (λ b. cond b (flat_map (turn_moves rs task) (range_with_len 0 (turns_in rs))) []) stays)
     (ap (flat_map f)
-        (filter_same (is_read Rest rs task) rest
-            (λ i.
-                ap (λ b. not (is_early rs task i) && not (not b && on i) && not (b && is_switch rs i)) stays
-                    ∙ and_true (not (is_early rs task i) && not (on i)))
-            (places rs)))
+    (filter_same (is_read Rest rs task) rest
+    (λ i.
+    ap (λ b. not (is_early rs task i) && not (not b && on i) && not (b && is_switch rs i)) stays
+    ∙ and_true (not (is_early rs task i) && not (on i)))
+    (places rs)))
     ∙ ap (λ l. l ++ flat_map f (filter rest (places rs)))
-        (append-nil (flat_map f (filter early (places rs)) ++ flat_map f (filter on (places rs)))
-            ∙ sym (flat_map-append f (filter early (places rs)) (filter on (places rs))))
+    (append-nil (flat_map f (filter early (places rs)) ++ flat_map f (filter on (places rs)))
+    ∙ sym (flat_map-append f (filter early (places rs)) (filter on (places rs))))
     ∙ sym (flat_map-append f (filter early (places rs) ++ filter on (places rs)) (filter rest (places rs)))
   where
     f : ℕ → List (ℕ × Move)
@@ -328,6 +328,6 @@ rest_end rs task is_trace = by (has_moved rs task) refl
     by : (b : Bool) → has_moved rs task ≡ b → all_moves_of rs task ≡ all_read rs task
     by true moves =
         ap (λ b. cond b (moved_moves rs task) (moves_of rs task)) moves
-            ∙ sym (moved_read rs task is_trace moves)
+        ∙ sym (moved_read rs task is_trace moves)
     by false stays =
         ap (λ b. cond b (moved_moves rs task) (moves_of rs task)) stays ∙ sym (home_read rs task stays)

@@ -53,27 +53,30 @@ initial_by rs task r (makes, only, (place, stands)) = (
       (place, ap (option_and_then (λ (q : Record). begun_initial q.body)) stands ∙ root.1 ∙ ap Some same),
   λ (i, begins).
       ap is_some
-          (sym
-              (ap (option_and_then (λ (q : Record). begun_initial q.body))
-                  (only i (at_through begun_initial made task task rs i (initial_made task) begins)))
-              ∙ begins),
+      (sym
+      (ap (option_and_then (λ (q : Record). begun_initial q.body))
+      (only i (at_through begun_initial made task task rs i (initial_made task) begins)))
+      ∙ begins),
 )
 
 member_by : (rs : List Record) (task : ℕ) (r : Record) → IsMaker rs task r
     → (is_some (joined r.body) ≡ true) ↔ IsMember rs task
 member_by rs task r (makes, only, (place, stands)) = (
   λ joins.
-      let m = some_of (joined r.body) joins in
-      (place, m.0, ap (option_and_then (λ (q : Record). joined q.body)) stands ∙ m.1,
-          same_Some m.0.member task (sym (member_made m.0 r.body m.1) ∙ makes)),
+      let m = some_of (joined r.body) joins in (
+        place,
+        m.0,
+        ap (option_and_then (λ (q : Record). joined q.body)) stands ∙ m.1,
+        same_Some m.0.member task (sym (member_made m.0 r.body m.1) ∙ makes),
+      ),
   λ (i, m, joins, is).
       ap is_some
-          (sym
-              (ap (option_and_then (λ (q : Record). joined q.body))
-                  (only i
-                      (at_through joined made m task rs i (λ b says. member_made m b says ∙ ap Some is)
-                          joins)))
-              ∙ joins),
+      (sym
+      (ap (option_and_then (λ (q : Record). joined q.body))
+      (only i
+      (at_through joined made m task rs i (λ b says. member_made m b says ∙ ap Some is)
+      joins)))
+      ∙ joins),
 )
 
 -- a task has an index where it is named
@@ -90,12 +93,16 @@ made_here : (run : RunView) (index task place : ℕ) → IsRun run
 made_here run index task place is is_made stands =
     let rs = run.records in
     let makes : at made rs place ≡ Some task = is_made ∙ stands in
-    let (r, there, says) = get_at made rs place task makes in
-    (r, there,
-        (says,
-            λ i makes_too.
-                ap (slice_get rs) (made_once rs task i place is.family.once makes_too makes) ∙ there,
-            (place, there)))
+    let (r, there, says) = get_at made rs place task makes in (
+      r,
+      there,
+      (
+        says,
+        λ i makes_too.
+            ap (slice_get rs) (made_once rs task i place is.family.once makes_too makes) ∙ there,
+        (place, there),
+      ),
+    )
 
 pub initial_at : (run : RunView) (index task place : ℕ) (found : Option ℕ) → IsRun run
     → at made run.records place ≡ slice_get run.family.tasks index
@@ -104,8 +111,8 @@ pub initial_at : (run : RunView) (index task place : ℕ) (found : Option ℕ) �
 initial_at run index task place found is is_made stands calls =
     let (r, there, maker) = made_here run index task place is is_made stands in
     let same : is_some found ≡ is_some (begun_initial r.body) =
-        found_same run.family.tasks (at begun_initial run.records place) found calls
-            ∙ ap is_some (at_get begun_initial run.records place r there) in
+    found_same run.family.tasks (at begun_initial run.records place) found calls
+    ∙ ap is_some (at_get begun_initial run.records place r there) in
     let both = initial_by run.records task r maker in
     (λ yes. both.0 (sym same ∙ yes), λ initial. same ∙ both.1 initial)
 
@@ -117,7 +124,7 @@ member_at run index place found is within is_made joins =
     let stands = slice_get-get_or run.family.tasks index 0 within in
     let (r, there, maker) = made_here run index task place is is_made stands in
     let same : is_some found ≡ is_some (joined r.body) =
-        ap is_some (joins ∙ at_get joined run.records place r there) in
+    ap is_some (joins ∙ at_get joined run.records place r there) in
     let both = member_by run.records task r maker in (
       λ yes. (task, stands, both.0 (sym same ∙ yes)),
       λ (own, stands_own, member).
@@ -155,7 +162,7 @@ roots_after run i walk w (RootBegin index) r stands is are =
     let (task, says, there) = called_there begun_root run i index r stands is in
     let P : Walk → Type 0 = λ v. AreCalled run.family.tasks (index ∷ walk.roots) v.roots in
     subst P (sym (begin_after w r.body task says))
-        (called_push run.family.tasks index task walk.roots w.roots there are)
+    (called_push run.family.tasks index task walk.roots w.roots there are)
 roots_after run i walk w (RootEnd index) r stands is are =
     let (task, says, there) = called_there ended_root run i index r stands is in
     let P : Walk → Type 0 = λ v. AreCalled run.family.tasks (drop 1 walk.roots) v.roots in
@@ -193,32 +200,32 @@ roots_more run i thread event old new is_run within runs tells are is = more (ge
       whole = set are.whole r.thread after;
       walked =
           walks_more run.records i r are.whole (set are.whole r.thread after) within
-              (sym (get_or_from_slice_get run.records i r r stands)) low are.walked refl;
+          (sym (get_or_from_slice_get run.records i r r stands)) low are.walked refl;
       each = λ other below. elim (cases_eq other r.thread) [
         | inl own ↦
             let mine : get_or new other at_start ≡ next =
-                ap (λ ws. get_or ws other at_start) is
-                    ∙ ap (λ t. get_or (set old thread next) t at_start) (own ∙ same)
-                    ∙ get_or-set_same old thread next at_start (rw are.all low_own) in
+            ap (λ ws. get_or ws other at_start) is
+            ∙ ap (λ t. get_or (set old thread next) t at_start) (own ∙ same)
+            ∙ get_or-set_same old thread next at_start (rw are.all low_own) in
             let theirs : get_or (set are.whole r.thread after) other at_start ≡ after =
-                ap (λ t. get_or (set are.whole r.thread after) t at_start) own
-                    ∙ get_or-set_same are.whole r.thread after at_start (rw are.walked.all low) in
+            ap (λ t. get_or (set are.whole r.thread after) t at_start) own
+            ∙ get_or-set_same are.whole r.thread after at_start (rw are.walked.all low) in
             let here : P (get_or old thread at_start) (get_or are.whole r.thread at_start) =
-                subst (λ t. P (get_or old thread at_start) (get_or are.whole t at_start)) (sym same)
-                    (are.each thread low_own) in
+            subst (λ t. P (get_or old thread at_start) (get_or are.whole t at_start)) (sym same)
+            (are.each thread low_own) in
             subst (λ w. P w (get_or (set are.whole r.thread after) other at_start)) (sym mine)
-                (subst (P next) (sym theirs)
-                    (roots_after run i (get_or old thread at_start) (get_or are.whole r.thread at_start) event
-                        r stands tells here))
+            (subst (P next) (sym theirs)
+            (roots_after run i (get_or old thread at_start) (get_or are.whole r.thread at_start) event
+            r stands tells here))
         | inr apart ↦
             let mine : get_or new other at_start ≡ get_or old other at_start =
-                ap (λ ws. get_or ws other at_start) is
-                    ∙ get_or-set_other old thread other next at_start (λ e. apart (e ∙ sym same)) in
+            ap (λ ws. get_or ws other at_start) is
+            ∙ get_or-set_other old thread other next at_start (λ e. apart (e ∙ sym same)) in
             let theirs : get_or (set are.whole r.thread after) other at_start
-                    ≡ get_or are.whole other at_start =
-                get_or-set_other are.whole r.thread other after at_start apart in
+            ≡ get_or are.whole other at_start =
+            get_or-set_other are.whole r.thread other after at_start apart in
             subst (λ w. P w (get_or (set are.whole r.thread after) other at_start)) (sym mine)
-                (subst (P (get_or old other at_start)) (sym theirs) (are.each other below))
+            (subst (P (get_or old other at_start)) (sym theirs) (are.each other below))
       ];
     }
       where
@@ -248,11 +255,11 @@ roots_same run i walks is_run within (no_begin, no_end) are = still (get_within 
       whole = set are.whole r.thread after;
       walked =
           walks_more run.records i r are.whole (set are.whole r.thread after) within
-              (sym (get_or_from_slice_get run.records i r r stands)) low are.walked refl;
+          (sym (get_or_from_slice_get run.records i r r stands)) low are.walked refl;
       each =
           λ other below.
-              let P : List ℕ → Type 0 = AreCalled run.family.tasks (get_or walks other at_start).roots in
-              subst P (sym (stays other)) (are.each other below);
+          let P : List ℕ → Type 0 = AreCalled run.family.tasks (get_or walks other at_start).roots in
+          subst P (sym (stays other)) (are.each other below);
     }
       where
         after : Walk
@@ -264,18 +271,18 @@ roots_same run i walks is_run within (no_begin, no_end) are = still (get_within 
         quiet : after.roots ≡ (get_or are.whole r.thread at_start).roots
         quiet =
             roots_kept (get_or are.whole r.thread at_start) r.body
-                (uncalled_there begun_root run i r stands no_begin)
-                (uncalled_there ended_root run i r stands no_end)
+            (uncalled_there begun_root run i r stands no_begin)
+            (uncalled_there ended_root run i r stands no_end)
 
         stays : (other : ℕ)
             → (get_or (set are.whole r.thread after) other at_start).roots
-                ≡ (get_or are.whole other at_start).roots
+            ≡ (get_or are.whole other at_start).roots
         stays other = elim (cases_eq other r.thread) [
           | inl own ↦
               ap (λ (w : Walk). w.roots)
-                  (ap (λ t. get_or (set are.whole r.thread after) t at_start) own
-                      ∙ get_or-set_same are.whole r.thread after at_start (rw are.walked.all low))
-                  ∙ quiet ∙ ap (λ t. (get_or are.whole t at_start).roots) (sym own)
+              (ap (λ t. get_or (set are.whole r.thread after) t at_start) own
+              ∙ get_or-set_same are.whole r.thread after at_start (rw are.walked.all low))
+              ∙ quiet ∙ ap (λ t. (get_or are.whole t at_start).roots) (sym own)
           | inr apart ↦
               ap (λ (w : Walk). w.roots) (get_or-set_other are.whole r.thread other after at_start apart)
         ]
@@ -287,8 +294,8 @@ pub roots_read : (run : RunView) (i thread : ℕ) (walks : List Walk) (walk : Wa
 roots_read run i thread walks walk low are read =
     let P : Walk → Walk → Type 0 = λ v w. AreCalled run.family.tasks v.roots w.roots in
     subst (λ v. P v (walk_of thread (take i run.records)))
-        (sym (walk_is walks thread walk (rw are.all low) read))
-        (subst (P (get_or walks thread at_start)) (are.walked.each thread low) (are.each thread low))
+    (sym (walk_is walks thread walk (rw are.all low) read))
+    (subst (P (get_or walks thread at_start)) (are.walked.each thread low) (are.each thread low))
 
 -- the innermost root is a task of the run
 pub first_known : (tasks indices named : List ℕ) → AreCalled tasks indices named
@@ -299,7 +306,7 @@ first_known tasks indices named are = of (slice_get indices 0) refl
     of None e = search rules
     of (Some index) e =
         let (task, says, stands) =
-            call_task tasks (slice_get named 0) (slice_get indices 0) index (are 0) e in
+        call_task tasks (slice_get named 0) (slice_get indices 0) index (are 0) e in
         slice_get_within tasks index task stands
 
 -- ---- a record where its thread stands
@@ -314,7 +321,7 @@ has_first (x ∷ xs) full = refl
 pub forks_nested : (run : RunView) (i : ℕ) → ForksInside run.records i → IsNested run.records i
 forks_nested run i h =
     let ((task, parallel), says, other) =
-        some_and (at forked run.records i) (λ (p : ℕ × ℕ). IsInitial run.records p.0 → ⊥) h in
+    some_and (at forked run.records i) (λ (p : ℕ × ℕ). IsInitial run.records p.0 → ⊥) h in
     forked_inside task parallel says other
 
 -- where the thread stands after its part of the records
@@ -331,20 +338,20 @@ pub begins_nested : (run : RunView) (i thread : ℕ) (walk : Walk) → i < lengt
 begins_nested run i thread walk within runs are (inl h) =
     let w = walk_of thread (take i run.records) in
     let (m, says, opened) =
-        some_and (at joined run.records i)
-            (λ (m : Membership). IsSomeAnd (slice_get walk.roots 0) (IsMemberAt run)) h in
+    some_and (at joined run.records i)
+    (λ (m : Membership). IsSomeAnd (slice_get walk.roots 0) (IsMemberAt run)) h in
     let (index, is_first, (task, stands, member)) =
-        some_and (slice_get walk.roots 0) (IsMemberAt run) opened in
+    some_and (slice_get walk.roots 0) (IsMemberAt run) opened in
     let (own, named, there) =
-        call_task run.family.tasks (slice_get w.roots 0) (slice_get walk.roots 0) index (are 0) is_first in
+    call_task run.family.tasks (slice_get w.roots 0) (slice_get walk.roots 0) index (are 0) is_first in
     let P : ℕ → Type 0 = IsMember run.records in
     joined_inside m w own says (walk_here run i thread within runs) named
-        (subst P (same_Some task own (sym stands ∙ there)) member)
+    (subst P (same_Some task own (sym stands ∙ there)) member)
 begins_nested run i thread walk within runs are (inr (begins, opened)) =
     let w = walk_of thread (take i run.records) in
     let task = some_of (at begun_initial run.records i) begins in
     let full : is_some (slice_get w.roots 0) ≡ true =
-        sym (found_same run.family.tasks (slice_get w.roots 0) (slice_get walk.roots 0) (are 0)) ∙ opened in
+    sym (found_same run.family.tasks (slice_get w.roots 0) (slice_get walk.roots 0) (are 0)) ∙ opened in
     initial_inside task.0 w task.1 (walk_here run i thread within runs) (not_empty w.roots full)
 
 -- and back
@@ -363,26 +370,27 @@ nested_cases run i thread walk runs are nested = cases nested
     cases : IsNested run.records i → ForksInside run.records i ⊎ BeginsInside run walk i
     cases (forked_inside task parallel says other) =
         inl
-            (and_some (at forked run.records i) (λ (p : ℕ × ℕ). IsInitial run.records p.0 → ⊥)
-                (task, parallel) says other)
+        (and_some (at forked run.records i) (λ (p : ℕ × ℕ). IsInitial run.records p.0 → ⊥)
+        (task, parallel) says other)
     cases (joined_inside m other outer says stands is member) =
         let top : slice_get w.roots 0 ≡ Some outer =
-            ap (λ (v : Walk). slice_get v.roots 0) (sym (is_here other stands)) ∙ is in
+        ap (λ (v : Walk). slice_get v.roots 0) (sym (is_here other stands)) ∙ is in
         let (index, there, indexed) =
-            call_index run.family.tasks (slice_get w.roots 0) (slice_get walk.roots 0) outer (are 0) top in
+        call_index run.family.tasks (slice_get w.roots 0) (slice_get walk.roots 0) outer (are 0) top in
         inr
-            (inl
-                (and_some (at joined run.records i)
-                    (λ (x : Membership). IsSomeAnd (slice_get walk.roots 0) (IsMemberAt run)) m says
-                    (and_some (slice_get walk.roots 0) (IsMemberAt run) index there
-                        (outer, indexed, member))))
+        (inl
+        (and_some (at joined run.records i)
+        (λ (x : Membership). IsSomeAnd (slice_get walk.roots 0) (IsMemberAt run)) m says
+        (and_some (slice_get walk.roots 0) (IsMemberAt run) index there
+        (outer, indexed, member))))
     cases (initial_inside task other says stands full) =
         let P : Walk → Type 0 = λ v. is_some (slice_get v.roots 0) ≡ true in
         inr
-            (inr
-                (ap is_some says,
-                    found_same run.family.tasks (slice_get w.roots 0) (slice_get walk.roots 0) (are 0)
-                        ∙ subst P (is_here other stands) (has_first other.roots full)))
+        (inr (
+          ap is_some says,
+          found_same run.family.tasks (slice_get w.roots 0) (slice_get walk.roots 0) (are 0)
+              ∙ subst P (is_here other stands) (has_first other.roots full),
+        ))
 
 -- a record that begins no root
 pub nested_forks : (run : RunView) (i : ℕ) → IsNoRootEvent run i → IsNested run.records i
@@ -395,16 +403,16 @@ nested_forks run i (no_begin, no_end) nested = cases nested
     cases : IsNested run.records i → ForksInside run.records i
     cases (forked_inside task parallel says other) =
         and_some (at forked run.records i) (λ (p : ℕ × ℕ). IsInitial run.records p.0 → ⊥) (task, parallel)
-            says other
+        says other
     cases (joined_inside m other outer says stands is member) =
         absurd
-            (none-some m.member
-                (sym none ∙ at_through joined begun_root m m.member run.records i (member_begun m) says))
+        (none-some m.member
+        (sym none ∙ at_through joined begun_root m m.member run.records i (member_begun m) says))
     cases (initial_inside task other says stands full) =
         absurd
-            (none-some task
-                (sym none
-                    ∙ at_through begun_initial begun_root task task run.records i (initial_begun task) says))
+        (none-some task
+        (sym none
+        ∙ at_through begun_initial begun_root task task run.records i (initial_begun task) says))
 
 -- ---- the search
 

@@ -33,8 +33,8 @@ counted_more rs i r counts within read fits counted t below = elim (cases_eq t r
   | inl same ↦
       let here : (get_or rs i r).thread ≡ t = ap (λ (q : Record). q.thread) (sym read) ∙ sym same in
       let more : earlier rs (i + 1) t ≡ earlier rs i t + 1 =
-          count_by_more_yes (λ (q : Record). q.thread == t) rs i r within
-              (eq-eqb (get_or rs i r).thread t here) in
+      count_by_more_yes (λ (q : Record). q.thread == t) rs i r within
+      (eq-eqb (get_or rs i r).thread t here) in
       ap (λ j. get_or (set counts r.thread (get_or counts r.thread 0 + 1)) j 0) same
       ∙ get_or-set_same counts r.thread (get_or counts r.thread 0 + 1) 0 fits
       ∙ ap (λ j. get_or counts j 0 + 1) (sym same)
@@ -43,8 +43,8 @@ counted_more rs i r counts within read fits counted t below = elim (cases_eq t r
   | inr apart ↦
       let here : (get_or rs i r).thread ≢ t = λ e. apart (sym e ∙ ap (λ (q : Record). q.thread) (sym read)) in
       let same : earlier rs (i + 1) t ≡ earlier rs i t =
-          count_by_more_no (λ (q : Record). q.thread == t) rs i r within
-              (ne_eqb (get_or rs i r).thread t here) in
+      count_by_more_no (λ (q : Record). q.thread == t) rs i r within
+      (ne_eqb (get_or rs i r).thread t here) in
       get_or-set_other counts r.thread t (get_or counts r.thread 0 + 1) 0 apart
       ∙ counted t below
       ∙ sym same

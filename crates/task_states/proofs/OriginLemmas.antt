@@ -75,8 +75,8 @@ same_record : (rs : List Record) (task place i : ℕ) (r q : Record) → IsFreeO
     → made q.body ≡ Some task → r ≡ q
 same_record rs task place i r q once stands stands' makes makes' =
     let same : place ≡ i =
-        made_once rs task place i once (at_get made rs place r stands ∙ makes)
-            (at_get made rs i q stands' ∙ makes') in
+    made_once rs task place i once (at_get made rs place r stands ∙ makes)
+    (at_get made rs i q stands' ∙ makes') in
     same_Some r q (sym stands ∙ ap (slice_get rs) same ∙ stands')
 
 contains_record : (rs : List Record) (i : ℕ) (r : Record) → slice_get rs i ≡ Some r → Contains rs r
@@ -120,27 +120,27 @@ nature_is rs task place r once stands makes = of r.body refl makes
             let root : begun_root q.body ≡ Some task = is_the_task task (begun_root q.body) passes in
             let (i, stands') = contains_get rs q has in
             let same =
-                same_record rs task place i r q once stands stands' makes (begun_made task q.body root) in
+            same_record rs task place i r q once stands stands' makes (begun_made task q.body root) in
             absurd
-                (none-some task
-                    (sym none ∙ ap begun_root (sym e) ∙ ap (λ (p : Record). begun_root p.body) same ∙ root))
+            (none-some task
+            (sym none ∙ ap begun_root (sym e) ∙ ap (λ (p : Record). begun_root p.body) same ∙ root))
 
     of : (b : Body) → r.body ≡ b → made b ≡ Some task → nature_of rs task ≡ nature_made b
     of (ImplicitTask Begin actual index flags parallel root) e is =
         ap (λ c. if c then Root else if is_made_so (creates_wait task) rs then Wait else Plain)
-            (found_some begins rs r (contains_record rs place r stands)
-                (the_task task (begun_root r.body) (ap begun_root e ∙ is)))
+        (found_some begins rs r (contains_record rs place r stands)
+        (the_task task (begun_root r.body) (ap begun_root e ∙ is)))
     of (TaskCreate deps flags parent child) e is =
         ap
-            (λ (o : Option Record).
-                if is_some o then Root else if is_made_so (creates_wait task) rs then Wait else Plain)
-            (no_root (TaskCreate deps flags parent child) e refl)
+        (λ (o : Option Record).
+        if is_some o then Root else if is_made_so (creates_wait task) rs then Wait else Plain)
+        (no_root (TaskCreate deps flags parent child) e refl)
         ∙ ap (λ c. if c then Wait else Plain) (wait (has_flag flags.0 flag.taskwait) refl)
       where
         here : waits r ≡ has_flag flags.0 flag.taskwait
         here =
             ap (creates_wait task) e
-                ∙ ap (λ c. c && has_flag flags.0 flag.taskwait) (eq-eqb child task (same_Some child task is))
+            ∙ ap (λ c. c && has_flag flags.0 flag.taskwait) (eq-eqb child task (same_Some child task is))
 
         wait : (c : Bool) → has_flag flags.0 flag.taskwait ≡ c → is_some (find waits rs) ≡ c
         wait true set = found_some waits rs r (contains_record rs place r stands) (here ∙ set)
@@ -152,8 +152,8 @@ nature_is rs task place r once stands makes = of r.body refl makes
                 let (passes, has) = found_passes waits rs q e' in
                 let (i, stands') = contains_get rs q has in
                 let same =
-                    same_record rs task place i r q once stands stands' makes
-                        (creates_made task q.body passes) in
+                same_record rs task place i r q once stands stands' makes
+                (creates_made task q.body passes) in
                 absurd (false≢true (sym clear ∙ sym here ∙ ap waits same ∙ passes))
     of _ e is = absurd (none-some task is)
 
@@ -171,19 +171,19 @@ root_home rs task place once begins thread is = of (find p (places rs)) refl
     of : (o : Option ℕ) → find p (places rs) ≡ o → home_of rs task ≡ Some thread
     of None e =
         absurd
-            (false≢true
-                (ap is_some (sym e)
-                    ∙ found_some p (places rs) place
-                        (contains_place rs place (at_within begun_root rs place task begins))
-                        (the_task task (at begun_root rs place) begins)))
+        (false≢true
+        (ap is_some (sym e)
+        ∙ found_some p (places rs) place
+        (contains_place rs place (at_within begun_root rs place task begins))
+        (the_task task (at begun_root rs place) begins)))
     of (Some i) e =
         let begins' : at begun_root rs i ≡ Some task =
-            is_the_task task (at begun_root rs i) (found_passes p (places rs) i e).0 in
+        is_the_task task (at begun_root rs i) (found_passes p (places rs) i e).0 in
         let same : i ≡ place =
-            made_once rs task i place once (begun_at_made task rs i begins')
-                (begun_at_made task rs place begins) in
+        made_once rs task i place once (begun_at_made task rs i begins')
+        (begun_at_made task rs place begins) in
         let there : begun_on rs task ≡ Some thread =
-            ap (option_and_then (thread_at rs)) e ∙ ap (thread_at rs) same ∙ is in
+        ap (option_and_then (thread_at rs)) e ∙ ap (thread_at rs) same ∙ is in
         ap (λ o. if is_some o then o else run_on rs task) there
 
 -- an explicit task where it first runs
@@ -191,10 +191,10 @@ pub explicit_home : (rs : List Record) (task : ℕ) → (IsRoot rs task → ⊥)
     → home_of rs task ≡ option_and_then (thread_at rs) (first_start rs (length rs) task)
 explicit_home rs task no_root =
     ap
-        (λ (o : Option ℕ).
-            let begun = option_and_then (thread_at rs) o in if is_some begun then begun else run_on rs task)
+    (λ (o : Option ℕ).
+    let begun = option_and_then (thread_at rs) o in if is_some begun then begun else run_on rs task)
     (found_none (λ i. is_task task (at begun_root rs i)) (places rs)
-        (λ i passes. no_root (i, is_the_task task (at begun_root rs i) passes)))
+    (λ i passes. no_root (i, is_the_task task (at begun_root rs i) passes)))
 
 -- ---- tables that are filled in the order of the indices
 
@@ -215,19 +215,21 @@ filled_more says n table x filled here = record {
 -- the tables of natures and homes, once all indices were gone over
 pub natures_are : (rs : List Record) (tasks : List ℕ) (n : ℕ) (natures : List code.Nature)
     → IsFilled
-        (λ (i : ℕ) (nature : code.Nature).
-            (task : ℕ) → slice_get tasks i ≡ Some task → the_nature nature ≡ nature_of rs task) n
-        natures
+    (λ (i : ℕ) (nature : code.Nature).
+    (task : ℕ) → slice_get tasks i ≡ Some task → the_nature nature ≡ nature_of rs task) n
+    natures
     → length tasks ≤ n → AreNatures rs tasks natures
 natures_are rs tasks n natures filled all index task stands =
     let within = slice_get_within tasks index task stands in
-    let here = slice_get-get_or natures index variants.Plain (omega (arith, within, all, filled.all)) in
-    (get_or natures index variants.Plain, here,
-        filled.each index (get_or natures index variants.Plain) here task stands)
+    let here = slice_get-get_or natures index variants.Plain (omega (arith, within, all, filled.all)) in (
+      get_or natures index variants.Plain,
+      here,
+      filled.each index (get_or natures index variants.Plain) here task stands,
+    )
 
 pub homes_are : (rs : List Record) (tasks : List ℕ) (n : ℕ) (homes : List Home)
     → IsFilled (λ (i : ℕ) (home : Home). (task : ℕ) → slice_get tasks i ≡ Some task → home ≡ home_at rs task)
-        n homes
+    n homes
     → length tasks ≤ n → AreHomes rs tasks homes
 homes_are rs tasks n homes filled all index task stands =
     let within = slice_get_within tasks index task stands in
@@ -247,7 +249,7 @@ begun_nature task _ is = absurd (none-some task is)
 
 created_nature : (task : ℕ) (b : Body) → created b ≡ Some task
     → nature_made b
-        ≡ (if option_map_or (λ bits. has_flag bits flag.taskwait) (says_flags b) false then Wait else Plain)
+    ≡ (if option_map_or (λ bits. has_flag bits flag.taskwait) (says_flags b) false then Wait else Plain)
 created_nature task (TaskCreate deps flags parent child) is = refl
 created_nature task _ is = absurd (none-some task is)
 
@@ -280,10 +282,10 @@ explicit_nature rs tasks index task place wait once is is_task explicit waits =
         nature_is rs task place r once e makes ∙ elim (made_cases task r.body makes) [
           | inl begins ↦
               absurd
-                  (explicit_not_root rs task once explicit (place, at_get begun_root rs place r e ∙ begins))
+              (explicit_not_root rs task once explicit (place, at_get begun_root rs place r e ∙ begins))
           | inr creates ↦ created_nature task r.body creates
               ∙ ap (λ o. if option_map_or (λ bits. has_flag bits flag.taskwait) o false then Wait else Plain)
-                  (sym (at_get says_flags rs place r e))
+              (sym (at_get says_flags rs place r e))
               ∙ ap (λ c. if c then Wait else Plain) waits
         ]
 

@@ -60,8 +60,8 @@ start_early rs i task is_trace says =
     let (r, stands, is) = get_at started rs i task says in
     let P : Record → Type 0 = λ q. HasItsNext q.body in
     let sound : HasItsNext r.body =
-        subst P (get_or_from_slice_get rs i r r stands)
-            (is_trace.sound i r (slice_get_within rs i r stands)).next in
+    subst P (get_or_from_slice_get rs i r r stands)
+    (is_trace.sound i r (slice_get_within rs i r stands)).next in
     early_there rs i task r stands ∙ of r.body sound is
   where
     of : (b : Body) → HasItsNext b → started b ≡ Some task → early_for task b ≡ false
@@ -92,8 +92,8 @@ start_switch rs i task is_trace says =
     let (r, stands, is) = get_at started rs i task says in
     let P : Record → Type 0 = λ q. HasItsNext q.body in
     let sound : HasItsNext r.body =
-        subst P (get_or_from_slice_get rs i r r stands)
-            (is_trace.sound i r (slice_get_within rs i r stands)).next in
+    subst P (get_or_from_slice_get rs i r r stands)
+    (is_trace.sound i r (slice_get_within rs i r stands)).next in
     switch_there rs i r stands ∙ of r.body sound is
   where
     of : (b : Body) → HasItsNext b → started b ≡ Some task
@@ -128,7 +128,7 @@ pub discard_move : (run : RunView) (i index : ℕ) (found : Option ℕ) → IsIn
     → found ≡ Some index → IsMoveOf run i index step.Discarded
 discard_move run i index found calls same =
     let (task, says, stands) =
-        call_task run.family.tasks (at discarded run.records i) found index calls same in
+    call_task run.family.tasks (at discarded run.records i) found index calls same in
     record {
       within = at_within discarded run.records i task says;
       task = task;
@@ -152,7 +152,7 @@ scheduled_next rs i status task next says =
 -- whether a pass reads the record for a task
 home_here : (moved : Bool) (home on : Option ℕ) (thread : ℕ) → on ≡ Some thread
     → is_at (home_told moved home) thread
-        ≡ not moved && option_map_or (λ h. option_map_or (λ t. t == h) on false) home false
+    ≡ not moved && option_map_or (λ h. option_map_or (λ t. t == h) on false) home false
 home_here true home on thread runs = refl
 home_here false None on thread runs = refl
 home_here false (Some own) on thread runs =
@@ -173,12 +173,12 @@ pub read_told : (pass : Pass) (run : RunView) (task i index : ℕ) (move : steps
     → IsMoveOf run i index move → slice_get run.family.tasks index ≡ Some task
     → home ≡ home_at run.records task → thread_at run.records i ≡ Some thread
     → reads pass (is_early_move move) (is_at home thread) (is_many home && is_turn_move move)
-        ≡ is_read pass run.records task i
+    ≡ is_read pass run.records task i
 read_told pass run task i index move home thread is stands same runs =
     ap (λ b. reads pass b (is_at home thread) (is_many home && is_turn_move move)) (sym early)
     ∙ ap (λ b. reads pass (is_early rs task i) b (is_many home && is_turn_move move)) there
     ∙ ap (λ b. reads pass (is_early rs task i) (is_home rs task i) (b && is_turn_move move))
-        (many_is rs task home same)
+    (many_is rs task home same)
     ∙ ap (λ b. reads pass (is_early rs task i) (is_home rs task i) (has_moved rs task && b)) (sym is.switch)
     ∙ of pass
   where
@@ -193,11 +193,11 @@ read_told pass run task i index move home thread is stands same runs =
     there : is_at home thread ≡ is_home rs task i
     there =
         ap (λ h. is_at h thread) same
-            ∙ home_here (has_moved rs task) (home_of rs task) (thread_at rs i) thread runs
+        ∙ home_here (has_moved rs task) (home_of rs task) (thread_at rs i) thread runs
 
     of : (p : Pass)
         → reads p (is_early rs task i) (is_home rs task i) (has_moved rs task && is_switch rs i)
-            ≡ is_read p rs task i
+        ≡ is_read p rs task i
     of Early = refl
     of Home = refl
     of Rest = refl
@@ -208,13 +208,13 @@ moves_there : (rs : List Record) (i task : ℕ) (r : Record) → slice_get rs i 
     → moves_at rs task i ≡ map (λ move. (i, move)) (moves_by task r.body)
 moves_there rs i task r stands =
     ap
-        (λ (o : Option Record).
-            map (λ move. (i, move)) (option_map_or (λ (q : Record). moves_by task q.body) o []))
-        stands
+    (λ (o : Option Record).
+    map (λ move. (i, move)) (option_map_or (λ (q : Record). moves_by task q.body) o []))
+    stands
 
 two : (before : List (ℕ × Move)) (i : ℕ) (u v : Move) (reads a b : Bool)
     → before ++ cond reads (map (λ move. (i, move)) ((cond a (u ∷ []) [] ++ cond b (v ∷ []) []) ++ [])) []
-        ≡ (before ++ cond (reads && a) ((i, u) ∷ []) []) ++ cond (reads && b) ((i, v) ∷ []) []
+    ≡ (before ++ cond (reads && a) ((i, u) ∷ []) []) ++ cond (reads && b) ((i, v) ∷ []) []
 two before i u v true true true = sym (append_assoc before ((i, u) ∷ []) ((i, v) ∷ []))
 two before i u v true true false = sym (append-nil (before ++ (i, u) ∷ []))
 two before i u v true false true = ap (λ l. l ++ (i, v) ∷ []) (sym (append-nil before))
@@ -223,7 +223,7 @@ two before i u v false a b = sym (append-nil (before ++ []))
 
 one : (before : List (ℕ × Move)) (i : ℕ) (u : Move) (reads a : Bool)
     → before ++ cond reads (map (λ move. (i, move)) (cond a (u ∷ []) [])) []
-        ≡ before ++ cond (reads && a) ((i, u) ∷ []) []
+    ≡ before ++ cond (reads && a) ((i, u) ∷ []) []
 one before i u true true = refl
 one before i u true false = refl
 one before i u false a = refl
@@ -237,27 +237,27 @@ schedule_moves : (pass : Pass) (rs : List Record) (i : ℕ) (r : Record) (status
     (next : Option ℕ) (moves : ℕ → List (ℕ × Move))
     → slice_get rs i ≡ Some r → schedule r.body ≡ Some (status, prior, next) → (task : ℕ)
     → and_record pass rs i moves task
-        ≡ and_move pass rs i next step.Started (and_move pass rs i (Some prior) (step.Stopped status) moves)
-            task
+    ≡ and_move pass rs i next step.Started (and_move pass rs i (Some prior) (step.Stopped status) moves)
+    task
 schedule_moves pass rs i r status prior next moves stands says task =
     ap (λ l. moves task ++ cond (is_read pass rs task i) l []) (moves_there rs i task r stands)
-        ∙ of r.body says
+    ∙ of r.body says
   where
     reads : Bool
     reads = is_read pass rs task i
 
     of : (b : Body) → schedule b ≡ Some (status, prior, next)
         → moves task ++ cond reads (map (λ move. (i, move)) (moves_by task b)) []
-            ≡ and_move pass rs i next step.Started
-                (and_move pass rs i (Some prior) (step.Stopped status) moves) task
+        ≡ and_move pass rs i next step.Started
+        (and_move pass rs i (Some prior) (step.Stopped status) moves) task
     of (TaskSchedule s turns p n share) is =
         let same : (s, p, n) ≡ (status, prior, next) = same_Some (s, p, n) (status, prior, next) is in
         two (moves task) i (Stopped s) Started reads (p == task) (is_task task n)
         ∙ ap
-            (λ (t : Status × ℕ × Option ℕ).
-                and_move pass rs i t.2 step.Started (and_move pass rs i (Some t.1) (step.Stopped t.0) moves)
-                    task)
-            same
+        (λ (t : Status × ℕ × Option ℕ).
+        and_move pass rs i t.2 step.Started (and_move pass rs i (Some t.1) (step.Stopped t.0) moves)
+        task)
+        same
     of _ is = absurd (none-some (status, prior, next) is)
 
 -- a cancellation may discard one
@@ -267,20 +267,20 @@ discard_moves : (pass : Pass) (rs : List Record) (i : ℕ) (r : Record) (named :
     → and_record pass rs i moves task ≡ and_move pass rs i (Some named) step.Discarded moves task
 discard_moves pass rs i r named moves stands says task =
     ap (λ l. moves task ++ cond (is_read pass rs task i) l []) (moves_there rs i task r stands)
-        ∙ of r.body says
+    ∙ of r.body says
   where
     reads : Bool
     reads = is_read pass rs task i
 
     of : (b : Body) → discarded b ≡ Some named
         → moves task ++ cond reads (map (λ move. (i, move)) (moves_by task b)) []
-            ≡ and_move pass rs i (Some named) step.Discarded moves task
+        ≡ and_move pass rs i (Some named) step.Discarded moves task
     of (Cancel flags t share) is =
         ap
-            (λ (o : Option ℕ).
-                moves task
-                    ++ cond reads (map (λ move. (i, move)) (cond (is_task task o) (Discarded ∷ []) [])) []) is
-            ∙ one (moves task) i Discarded reads (named == task)
+        (λ (o : Option ℕ).
+        moves task
+        ++ cond reads (map (λ move. (i, move)) (cond (is_task task o) (Discarded ∷ []) [])) []) is
+        ∙ one (moves task) i Discarded reads (named == task)
     of _ is = absurd (none-some named is)
 
 -- all other records move none
@@ -289,7 +289,7 @@ no_moves : (pass : Pass) (rs : List Record) (i : ℕ) (r : Record) (moves : ℕ 
     → and_record pass rs i moves task ≡ moves task
 no_moves pass rs i r moves stands no_schedule no_discard task =
     ap (λ l. moves task ++ cond (is_read pass rs task i) l []) (moves_there rs i task r stands)
-        ∙ of r.body no_schedule no_discard
+    ∙ of r.body no_schedule no_discard
   where
     reads : Bool
     reads = is_read pass rs task i
@@ -299,11 +299,11 @@ no_moves pass rs i r moves stands no_schedule no_discard task =
     of (TaskSchedule s turns p n share) is missing = absurd (none-some (s, p, n) (sym is))
     of (Cancel flags t share) is missing =
         ap
-            (λ (o : Option ℕ).
-                moves task
-                    ++ cond reads (map (λ move. (i, move)) (cond (is_task task o) (Discarded ∷ []) [])) [])
-            missing
-            ∙ none (moves task) reads
+        (λ (o : Option ℕ).
+        moves task
+        ++ cond reads (map (λ move. (i, move)) (cond (is_task task o) (Discarded ∷ []) [])) [])
+        missing
+        ∙ none (moves task) reads
     of _ is missing = none (moves task) reads
 
 -- ---- the records that a pass reads for each of their tasks
@@ -313,16 +313,16 @@ pub schedule_moves_at : (pass : Pass) (rs : List Record) (i : ℕ) (status : Sta
     (next : Option ℕ) (moves : ℕ → List (ℕ × Move))
     → at schedule rs i ≡ Some (status, prior, next) → (task : ℕ)
     → and_record pass rs i moves task
-        ≡ and_move pass rs i (at started rs i) step.Started
-            (and_move pass rs i (Some prior) (step.Stopped status) moves) task
+    ≡ and_move pass rs i (at started rs i) step.Started
+    (and_move pass rs i (Some prior) (step.Stopped status) moves) task
 schedule_moves_at pass rs i status prior next moves says task =
     let (r, stands, is) = get_at schedule rs i (status, prior, next) says in
     schedule_moves pass rs i r status prior next moves stands is task
     ∙ ap
-        (λ o.
-            and_move pass rs i o step.Started (and_move pass rs i (Some prior) (step.Stopped status) moves)
-                task)
-        (sym (scheduled_next rs i status prior next says))
+    (λ o.
+    and_move pass rs i o step.Started (and_move pass rs i (Some prior) (step.Stopped status) moves)
+    task)
+    (sym (scheduled_next rs i status prior next says))
 
 pub discard_moves_at : (pass : Pass) (rs : List Record) (i named : ℕ) (moves : ℕ → List (ℕ × Move))
     → at discarded rs i ≡ Some named → (task : ℕ)
@@ -337,7 +337,7 @@ pub no_moves_at : (pass : Pass) (rs : List Record) (i : ℕ) (moves : ℕ → Li
 no_moves_at pass rs i moves within no_schedule no_discard =
     let (r, stands) = get_within rs i within in
     no_moves pass rs i r moves stands (sym (at_get schedule rs i r stands) ∙ no_schedule)
-        (sym (at_get discarded rs i r stands) ∙ no_discard)
+    (sym (at_get discarded rs i r stands) ∙ no_discard)
 
 -- the last pass reads nothing of a record that the home pass read for each of its tasks
 pub whole_not_left : (rs : List Record) (i : ℕ) (moves : ℕ → List (ℕ × Move)) → IsReadWhole Home rs i
@@ -351,17 +351,17 @@ whole_not_left rs i moves whole task = by (is_read Home rs task i) refl
     by : (b : Bool) → is_read Home rs task i ≡ b → and_record Rest rs i moves task ≡ moves task
     by true home =
         ap
-            (λ b.
-                moves task
-                    ++ cond (not (is_early rs task i) && not b && not (has_moved rs task && is_switch rs i))
-                        (moves_at rs task i) [])
-            home
+        (λ b.
+        moves task
+        ++ cond (not (is_early rs task i) && not b && not (has_moved rs task && is_switch rs i))
+        (moves_at rs task i) [])
+        home
         ∙ ap (λ b. moves task ++ cond b (moves_at rs task i) [])
-            (off (not (is_early rs task i)) (not (has_moved rs task && is_switch rs i)))
-            ∙ append-nil (moves task)
+        (off (not (is_early rs task i)) (not (has_moved rs task && is_switch rs i)))
+        ∙ append-nil (moves task)
     by false away =
         ap (λ l. moves task ++ cond (is_read Rest rs task i) l []) (whole task away)
-            ∙ none (moves task) (is_read Rest rs task i)
+        ∙ none (moves task) (is_read Rest rs task i)
 
 -- the first pass reads nothing where no event is fulfilled early
 pub not_early : (rs : List Record) (i : ℕ) → fulfils_early rs i ≡ false → (task : ℕ)
@@ -382,7 +382,7 @@ unread_early : (rs : List Record) (i task : ℕ) (moves : ℕ → List (ℕ × M
     → and_record Early rs i moves task ≡ moves task
 unread_early rs i task moves late =
     ap (λ b. moves task ++ cond (b && not (is_home rs task i)) (moves_at rs task i) []) late
-        ∙ append-nil (moves task)
+    ∙ append-nil (moves task)
 
 pub early_unread : (rs : List Record) (i : ℕ) (moves : ℕ → List (ℕ × Move)) → fulfils_early rs i ≡ false
     → (task : ℕ) → and_record Early rs i moves task ≡ moves task
@@ -431,12 +431,12 @@ pub left_noted : (rs : List Record) (n : ℕ) (left : List ℕ) → AreLeft rs n
 left_noted rs n left are = record {
   within =
       All-push (λ place. place < n + 1) left n (λ k d inside. omega (arith, are.within k d inside))
-          (omega arith);
+      (omega arith);
   all =
       λ task.
-          read_more Rest rs left n task
-              ∙ same_record Rest rs n task (moves_read Rest rs left) (moves_before Rest rs n) (are.all task)
-              ∙ sym (moves_more Rest rs n task);
+      read_more Rest rs left n task
+      ∙ same_record Rest rs n task (moves_read Rest rs left) (moves_before Rest rs n) (are.all task)
+      ∙ sym (moves_more Rest rs n task);
 }
 
 -- it need not be
@@ -446,19 +446,19 @@ left_passed rs n left are whole = record {
   within = λ k d inside. omega (arith, are.within k d inside);
   all =
       λ task.
-          are.all task ∙ sym (whole_not_left rs n (moves_before Rest rs n) whole task)
-              ∙ sym (moves_more Rest rs n task);
+      are.all task ∙ sym (whole_not_left rs n (moves_before Rest rs n) whole task)
+      ∙ sym (moves_more Rest rs n task);
 }
 
 -- the last pass, one place on
 pub rest_more : (rs : List Record) (left : List ℕ) (k place : ℕ) → slice_get left k ≡ Some place → (task : ℕ)
     → moves_read Rest rs (take (k + 1) left) task
-        ≡ and_record Rest rs place (moves_read Rest rs (take k left)) task
+    ≡ and_record Rest rs place (moves_read Rest rs (take k left)) task
 rest_more rs left k place stands task =
     ap (λ l. moves_read Rest rs l task)
-        (take_more left k place (slice_get_within left k place stands)
-            ∙ ap (λ p. take k left ++ p ∷ []) (get_or_from_slice_get left k place place stands))
-        ∙ read_more Rest rs (take k left) place task
+    (take_more left k place (slice_get_within left k place stands)
+    ∙ ap (λ p. take k left ++ p ∷ []) (get_or_from_slice_get left k place place stands))
+    ∙ read_more Rest rs (take k left) place task
 
 -- ---- the passes
 
@@ -484,8 +484,8 @@ pub rest_start : (rs : List Record) (task : ℕ)
     → moves_before Rest rs 0 task ≡ moves_before Home rs (length rs) task ++ turned rs (turns_in rs) task
 rest_start rs task =
     append-nil
-        (moves_in Early rs (places rs) task ++ moves_in Home rs (places rs) task
-            ++ turned rs (turns_in rs) task)
+    (moves_in Early rs (places rs) task ++ moves_in Home rs (places rs) task
+    ++ turned rs (turns_in rs) task)
 
 -- the state of a task that has not moved
 abbrev pub state_at_first : code.Nature → Option State
@@ -500,7 +500,7 @@ come_new rs tasks natures states is all are = record {
   each = λ i task stands.
       let (nature, there, same) = are i task stands in
       ap (λ l. slice_get l i) is ∙ slice_get-map state_at_first natures i
-          ∙ ap (option_map state_at_first) there ∙ ap (λ k. Some (Some (first_state k))) same;
+      ∙ ap (option_map state_at_first) there ∙ ap (λ k. Some (Some (first_state k))) same;
   found = λ i says. absurd (none-some i says);
   least = λ task i known refuses. absurd (none-some (i, refuses.move) refuses.made_there);
 }

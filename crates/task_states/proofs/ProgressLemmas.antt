@@ -17,7 +17,6 @@ use Rattle.ompt_events.proofs.ListLemmas.{get_pushed, get_last, pushed_cases}
 use Rattle.task_states.specs.declared.progress.Pass.{Pass}
 use Rattle.task_tree.specs.Numbering.{AreApart}
 use Rattle.task_tree.proofs.LinkLemmas.{get_set_same, get_set_other}
-
 use Rattle.task_states.specs.declared.moves.Nature as code
 use Rattle.task_states.specs.declared.moves.Move as steps
 use Rattle.task_states.specs.Progress.{the_nature, the_move, is_read, and_move, ProgressView, HasCome}
@@ -36,11 +35,11 @@ refused_still nature moves step i is =
       made_there = get_pushed moves step (i, is.move) is.number is.made_there;
       allowed =
           ap (λ l. is_some (state_of nature l))
-              (take-append-le is.number moves (step ∷ []) (omega (arith, within)))
-              ∙ is.allowed;
+          (take-append-le is.number moves (step ∷ []) (omega (arith, within)))
+          ∙ is.allowed;
       not_allowed =
           ap (state_of nature) (take-append-le (is.number + 1) moves (step ∷ []) (omega (arith, within)))
-              ∙ is.not_allowed;
+          ∙ is.not_allowed;
     }
 
 -- the last move is refused where the state before it is some and the one after it is none
@@ -55,54 +54,54 @@ refused_last nature moves i move before after =
       made_there = get_last moves (i, move) (length moves) refl;
       allowed =
           ap (λ l. is_some (state_of nature l))
-              (take-append-le (length moves) moves ((i, move) ∷ []) (omega arith) ∙ take-length moves)
-              ∙ before;
+          (take-append-le (length moves) moves ((i, move) ∷ []) (omega arith) ∙ take-length moves)
+          ∙ before;
       not_allowed =
           ap (state_of nature) (take_all (length moves + 1) (moves ++ (i, move) ∷ []) (omega (arith, longer)))
-              ∙ fold_push (state_after nature) _ moves (i, move) ∙ after;
+          ∙ fold_push (state_after nature) _ moves (i, move) ∙ after;
     }
 
 -- what is refused with one more move was refused before, or is that move
 pub refused_cases : (nature : Nature) (moves : List (ℕ × Move)) (i k : ℕ) (move : Move)
     → IsRefused nature (moves ++ (k, move) ∷ []) i
     → IsRefused nature moves i
-        ⊎ ((i ≡ k) × (is_some (state_of nature moves) ≡ true)
-              × (state_after nature (state_of nature moves) (k, move) ≡ None))
+    ⊎ ((i ≡ k) × (is_some (state_of nature moves) ≡ true)
+    × (state_after nature (state_of nature moves) (k, move) ≡ None))
 refused_cases nature moves i k move is =
     elim (pushed_cases moves (k, move) (i, is.move) is.number is.made_there) [
-  | inl old ↦
-      let within = slice_get_within moves is.number (i, is.move) old in
-      inl (record {
-        number = is.number;
-        move = is.move;
-        made_there = old;
-        allowed =
+      | inl old ↦
+          let within = slice_get_within moves is.number (i, is.move) old in
+          inl (record {
+            number = is.number;
+            move = is.move;
+            made_there = old;
+            allowed =
+                sym
+                (ap (λ l. is_some (state_of nature l))
+                (take-append-le is.number moves ((k, move) ∷ []) (omega (arith, within))))
+                ∙ is.allowed;
+            not_allowed =
+                sym
+                (ap (state_of nature)
+                (take-append-le (is.number + 1) moves ((k, move) ∷ []) (omega (arith, within))))
+                ∙ is.not_allowed;
+          })
+      | inr (last, same) ↦
+          let longer = length_push moves (k, move) in
+          inr (
+            ap (λ (p : ℕ × Move). p.0) (sym same),
             sym
                 (ap (λ l. is_some (state_of nature l))
-                    (take-append-le is.number moves ((k, move) ∷ []) (omega (arith, within))))
-                ∙ is.allowed;
-        not_allowed =
-            sym
-                (ap (state_of nature)
-                    (take-append-le (is.number + 1) moves ((k, move) ∷ []) (omega (arith, within))))
-                ∙ is.not_allowed;
-      })
-  | inr (last, same) ↦
-      let longer = length_push moves (k, move) in
-      inr (
-        ap (λ (p : ℕ × Move). p.0) (sym same),
-        sym
-            (ap (λ l. is_some (state_of nature l))
                 (ap (λ n. take n (moves ++ (k, move) ∷ [])) last
-                    ∙ take-append-le (length moves) moves ((k, move) ∷ []) (omega arith) ∙ take-length moves))
-            ∙ is.allowed,
-        sym (fold_push (state_after nature) _ moves (k, move))
-            ∙ sym
+                ∙ take-append-le (length moves) moves ((k, move) ∷ []) (omega arith) ∙ take-length moves))
+                ∙ is.allowed,
+            sym (fold_push (state_after nature) _ moves (k, move))
+                ∙ sym
                 (ap (state_of nature)
-                    (take_all (is.number + 1) (moves ++ (k, move) ∷ []) (omega (arith, last, longer))))
-            ∙ is.not_allowed,
-      )
-]
+                (take_all (is.number + 1) (moves ++ (k, move) ∷ []) (omega (arith, last, longer))))
+                ∙ is.not_allowed,
+          )
+    ]
 
 -- ---- the first place of all
 
@@ -135,9 +134,9 @@ after_cases refused None after at i is = inl is
 after_cases refused (Some state) (Some next) at i is = inl is
 after_cases refused (Some state) None at i is =
     elim (earlier_cases refused at i (same_Some (earlier refused at) i is)) [
-  | inl old ↦ inl old
-  | inr new ↦ inr (new, refl, refl)
-]
+      | inl old ↦ inl old
+      | inr new ↦ inr (new, refl, refl)
+    ]
 
 -- and not later than either
 pub after_old : (refused : Option ℕ) (before after : Option State) (at i : ℕ)
@@ -173,58 +172,59 @@ others task other step moves apart =
 pub went_on : (rs : List Record) (tasks : List ℕ) (index task at : ℕ) (nature : Nature) (move : Move)
     (moves : ℕ → List (ℕ × Move)) (old new : ProgressView)
     → ((k : ℕ) → slice_get tasks k ≡ Some task → k ≡ index) → slice_get tasks index ≡ Some task
-        → nature ≡ nature_of rs task
+    → nature ≡ nature_of rs task
     → new.states ≡ set old.states index (state_after nature (get_or old.states index None) (at, move))
     → new.refused
-        ≡ refused_after old.refused (get_or old.states index None)
-            (state_after nature (get_or old.states index None) (at, move)) at
+    ≡ refused_after old.refused (get_or old.states index None)
+    (state_after nature (get_or old.states index None) (at, move)) at
     → HasCome rs tasks moves old → HasCome rs tasks (and_one task (at, move) moves) new
 went_on rs tasks index task at nature move moves old new alone stands is states refused come = record {
   all = ap length states ∙ length-set old.states index after ∙ come.all;
   each = λ n other is_other. elim (cases_eq n index) [
     | inl same ↦
         let own_task : task ≡ other =
-            same_Some task other (sym stands ∙ ap (slice_get tasks) (sym same) ∙ is_other) in
+        same_Some task other (sym stands ∙ ap (slice_get tasks) (sym same) ∙ is_other) in
         ap (λ l. slice_get l n) states ∙ ap (slice_get (set old.states index after)) same
-            ∙ get_set_same old.states index after (omega (arith, inside, come.all))
+        ∙ get_set_same old.states index after (omega (arith, inside, come.all))
         ∙ ap Some (goes ∙ ap (λ t. state_of (nature_of rs t) (and_one task (at, move) moves t)) own_task)
     | inr apart ↦
         let differs : task ≢ other = λ same. apart (alone n (is_other ∙ ap Some (sym same))) in
         ap (λ l. slice_get l n) states ∙ get_set_other old.states index n after apart
-            ∙ come.each n other is_other
+        ∙ come.each n other is_other
         ∙ ap (λ l. Some (state_of (nature_of rs other) l)) (sym (others task other (at, move) moves differs))
   ];
   found = λ i says. elim (after_cases old.refused before after at i (sym refused ∙ says)) [
     | inl still ↦ let known = come.found i still in (known.0, kept known.0 i known.1)
-    | inr (here, was, none) ↦
-        (task,
-            subst (λ l. IsRefused (nature_of rs task) l i) (sym (own task (at, move) moves))
-                (subst (λ k. IsRefused (nature_of rs task) (moves task ++ (at, move) ∷ []) k) here
-                    (last i here was none)))
+    | inr (here, was, none) ↦ (
+      task,
+      subst (λ l. IsRefused (nature_of rs task) l i) (sym (own task (at, move) moves))
+          (subst (λ k. IsRefused (nature_of rs task) (moves task ++ (at, move) ∷ []) k) here
+          (last i here was none)),
+    )
   ];
   least = λ other i known refuses. elim (cases_eq task other) [
     | inl same ↦
         elim
-            (refused_cases (nature_of rs task) (moves task) i at move
-                (subst (λ l. IsRefused (nature_of rs task) l i) (own task (at, move) moves)
-                    (subst (λ t. IsRefused (nature_of rs t) (and_one task (at, move) moves t) i) (sym same)
-                        refuses))) [
-      | inl before_it ↦
-          subst (λ r. IsSomeAnd r (λ first. first ≤ i)) (sym refused)
+        (refused_cases (nature_of rs task) (moves task) i at move
+        (subst (λ l. IsRefused (nature_of rs task) l i) (own task (at, move) moves)
+        (subst (λ t. IsRefused (nature_of rs t) (and_one task (at, move) moves t) i) (sym same)
+        refuses))) [
+          | inl before_it ↦
+              subst (λ r. IsSomeAnd r (λ first. first ≤ i)) (sym refused)
               (after_old old.refused before after at i
-                  (come.least task i (subst (Contains tasks) (sym same) known) before_it))
-      | inr (here, was, none) ↦
-          subst (λ r. IsSomeAnd r (λ first. first ≤ i)) (sym refused)
+              (come.least task i (subst (Contains tasks) (sym same) known) before_it))
+          | inr (here, was, none) ↦
+              subst (λ r. IsSomeAnd r (λ first. first ≤ i)) (sym refused)
               (subst (λ k. IsSomeAnd (refused_after old.refused before after at) (λ first. first ≤ k))
-                  (sym here)
-                  (after_new old.refused before after at (ap is_some stood ∙ was) (afterwards ∙ none)))
-    ]
+              (sym here)
+              (after_new old.refused before after at (ap is_some stood ∙ was) (afterwards ∙ none)))
+        ]
     | inr apart ↦
         subst (λ r. IsSomeAnd r (λ first. first ≤ i)) (sym refused)
-            (after_old old.refused before after at i
-                (come.least other i known
-                    (subst (λ l. IsRefused (nature_of rs other) l i)
-                        (others task other (at, move) moves apart) refuses)))
+        (after_old old.refused before after at i
+        (come.least other i known
+        (subst (λ l. IsRefused (nature_of rs other) l i)
+        (others task other (at, move) moves apart) refuses)))
   ];
 }
   where
@@ -240,36 +240,36 @@ went_on rs tasks index task at nature move moves old new alone stands is states 
     stood : before ≡ state_of (nature_of rs task) (moves task)
     stood =
         get_or_from_slice_get old.states index (state_of (nature_of rs task) (moves task)) None
-            (come.each index task stands)
+        (come.each index task stands)
 
     afterwards : after
         ≡ state_after (nature_of rs task) (state_of (nature_of rs task) (moves task)) (at, move)
     afterwards =
         ap (λ k. state_after k before (at, move)) is
-            ∙ ap (λ s. state_after (nature_of rs task) s (at, move)) stood
+        ∙ ap (λ s. state_after (nature_of rs task) s (at, move)) stood
 
     goes : after ≡ state_of (nature_of rs task) (and_one task (at, move) moves task)
     goes =
         afterwards ∙ sym (fold_push (state_after (nature_of rs task)) _ (moves task) (at, move))
-            ∙ ap (state_of (nature_of rs task)) (sym (own task (at, move) moves))
+        ∙ ap (state_of (nature_of rs task)) (sym (own task (at, move) moves))
 
     last : (i : ℕ) → at ≡ i → is_some before ≡ true → after ≡ None
         → IsRefused (nature_of rs task) (moves task ++ (at, move) ∷ []) at
     last i here was none =
         refused_last (nature_of rs task) (moves task) at move (sym (ap is_some stood) ∙ was)
-            (sym afterwards ∙ none)
+        (sym afterwards ∙ none)
 
     kept : (other i : ℕ) → IsRefused (nature_of rs other) (moves other) i
         → IsRefused (nature_of rs other) (and_one task (at, move) moves other) i
     kept other i refuses = elim (cases_eq task other) [
       | inl same ↦
           subst (λ t. IsRefused (nature_of rs t) (and_one task (at, move) moves t) i) same
-              (subst (λ l. IsRefused (nature_of rs task) l i) (sym (own task (at, move) moves))
-                  (refused_still (nature_of rs task) (moves task) (at, move) i
-                      (subst (λ t. IsRefused (nature_of rs t) (moves t) i) (sym same) refuses)))
+          (subst (λ l. IsRefused (nature_of rs task) l i) (sym (own task (at, move) moves))
+          (refused_still (nature_of rs task) (moves task) (at, move) i
+          (subst (λ t. IsRefused (nature_of rs t) (moves t) i) (sym same) refuses)))
       | inr apart ↦
           subst (λ l. IsRefused (nature_of rs other) l i) (sym (others task other (at, move) moves apart))
-              refuses
+          refuses
     ]
 
 -- ---- one move, as the code makes it
@@ -294,11 +294,11 @@ pub refused_gone : (nature : code.Nature) (step : steps.Move) (states : List (Op
     → after ≡ state_after (the_nature nature) (Some state) (at, the_move step) → inside ≡ now
     → result ≡ refused_after inside (Some state) after at
     → result
-        ≡ refused_after now (get_or states index None)
-            (state_after (the_nature nature) (get_or states index None) (at, the_move step)) at
+    ≡ refused_after now (get_or states index None)
+    (state_after (the_nature nature) (get_or states index None) (at, the_move step)) at
 refused_gone nature step states index at state after inside now before is same first =
     first ∙ ap (λ r. refused_after r (Some state) after at) same
-        ∙ ap (λ a. refused_after now (Some state) a at) is
+    ∙ ap (λ a. refused_after now (Some state) a at) is
     ∙ ap (λ s. refused_after now s (state_after (the_nature nature) s (at, the_move step)) at) (sym before)
 
 -- ---- what a pass reads
@@ -312,14 +312,14 @@ come_same rs tasks moves moves' progress same come = record {
   all = come.all;
   each =
       λ n task stands.
-          come.each n task stands ∙ ap (λ l. Some (state_of (nature_of rs task) l)) (sym (same task));
+      come.each n task stands ∙ ap (λ l. Some (state_of (nature_of rs task) l)) (sym (same task));
   found =
       λ i says.
-          let known = come.found i says in
-          (known.0, subst (λ l. IsRefused (nature_of rs known.0) l i) (sym (same known.0)) known.1);
+      let known = come.found i says in
+      (known.0, subst (λ l. IsRefused (nature_of rs known.0) l i) (sym (same known.0)) known.1);
   least =
       λ task i known refuses.
-          come.least task i known (subst (λ l. IsRefused (nature_of rs task) l i) (same task) refuses);
+      come.least task i known (subst (λ l. IsRefused (nature_of rs task) l i) (same task) refuses);
 }
 
 read_on : (pass : Pass) (rs : List Record) (at task : ℕ) (step : steps.Move) (moves : ℕ → List (ℕ × Move))
@@ -328,12 +328,12 @@ read_on : (pass : Pass) (rs : List Record) (at task : ℕ) (step : steps.Move) (
 read_on pass rs at task step moves reads other = elim (cases_eq task other) [
   | inl same ↦
       ap (λ b. moves other ++ cond b ((at, the_move step) ∷ []) [])
-          (ap (λ t. is_read pass rs t at && (task == other)) (sym same)
-              ∙ ap (λ b. b && (task == other)) reads)
+      (ap (λ t. is_read pass rs t at && (task == other)) (sym same)
+      ∙ ap (λ b. b && (task == other)) reads)
   | inr apart ↦
       ap (λ b. moves other ++ cond b ((at, the_move step) ∷ []) [])
-          (ap (λ b. is_read pass rs other at && b) (ne_eqb task other apart)
-              ∙ and_false (is_read pass rs other at) ∙ sym (ne_eqb task other apart))
+      (ap (λ b. is_read pass rs other at && b) (ne_eqb task other apart)
+      ∙ and_false (is_read pass rs other at) ∙ sym (ne_eqb task other apart))
 ]
   where
     and_false : (b : Bool) → b && false ≡ false
@@ -346,14 +346,14 @@ read_off : (pass : Pass) (rs : List Record) (at task : ℕ) (step : steps.Move) 
 read_off pass rs at task step moves reads other = elim (cases_eq task other) [
   | inl same ↦
       ap (λ b. moves other ++ cond b ((at, the_move step) ∷ []) [])
-          (ap (λ t. is_read pass rs t at && (task == other)) (sym same)
-              ∙ ap (λ b. b && (task == other)) reads)
-          ∙ append-nil (moves other)
+      (ap (λ t. is_read pass rs t at && (task == other)) (sym same)
+      ∙ ap (λ b. b && (task == other)) reads)
+      ∙ append-nil (moves other)
   | inr apart ↦
       ap (λ b. moves other ++ cond b ((at, the_move step) ∷ []) [])
-          (ap (λ b. is_read pass rs other at && b) (ne_eqb task other apart)
-              ∙ and_false (is_read pass rs other at))
-          ∙ append-nil (moves other)
+      (ap (λ b. is_read pass rs other at && b) (ne_eqb task other apart)
+      ∙ and_false (is_read pass rs other at))
+      ∙ append-nil (moves other)
 ]
   where
     and_false : (b : Bool) → b && false ≡ false
@@ -366,17 +366,17 @@ pub come_read : (pass : Pass) (rs : List Record) (tasks : List ℕ) (index task 
     → AreApart tasks → slice_get tasks index ≡ Some task → the_nature nature ≡ nature_of rs task
     → is_read pass rs task at ≡ true
     → new.states
-        ≡ set old.states index
-            (state_after (the_nature nature) (get_or old.states index None) (at, the_move step))
+    ≡ set old.states index
+    (state_after (the_nature nature) (get_or old.states index None) (at, the_move step))
     → new.refused
-        ≡ refused_after old.refused (get_or old.states index None)
-            (state_after (the_nature nature) (get_or old.states index None) (at, the_move step)) at
+    ≡ refused_after old.refused (get_or old.states index None)
+    (state_after (the_nature nature) (get_or old.states index None) (at, the_move step)) at
     → HasCome rs tasks moves old → HasCome rs tasks (and_move pass rs at (Some task) step moves) new
 come_read pass rs tasks index task at nature step moves old new apart stands same reads states refused come =
     come_same rs tasks (and_one task (at, the_move step) moves) (and_move pass rs at (Some task) step moves)
-        new (read_on pass rs at task step moves reads)
+    new (read_on pass rs at task step moves reads)
     (went_on rs tasks index task at (the_nature nature) (the_move step) moves old new
-        (λ k at_k. apart k index task at_k stands) stands same states refused come)
+    (λ k at_k. apart k index task at_k stands) stands same states refused come)
 
 -- one that it does not read leaves all as it is
 pub come_unread : (pass : Pass) (rs : List Record) (tasks : List ℕ) (task at : ℕ) (step : steps.Move)
@@ -385,4 +385,4 @@ pub come_unread : (pass : Pass) (rs : List Record) (tasks : List ℕ) (task at :
     → HasCome rs tasks (and_move pass rs at (Some task) step moves) progress
 come_unread pass rs tasks task at step moves progress reads come =
     come_same rs tasks moves (and_move pass rs at (Some task) step moves) progress
-        (read_off pass rs at task step moves reads) come
+    (read_off pass rs at task step moves reads) come

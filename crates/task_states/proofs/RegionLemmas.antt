@@ -39,8 +39,8 @@ stack_more links n link top [] is = is
 stack_more links n link top (begin ∷ below) (is, within, rest) =
     let apart : begin ≢ n = λ e. absurd (omega (arith, within, e)) in
     let same : below_of (set links n link) top ≡ below_of links top =
-        ap (below_of (set links n link)) is ∙ get_or-set_other links n begin link None apart
-            ∙ ap (below_of links) (sym is) in
+    ap (below_of (set links n link)) is ∙ get_or-set_other links n begin link None apart
+    ∙ ap (below_of links) (sym is) in
     (is, omega (arith, within), rw same (stack_more links n link (below_of links top) below rest))
 
 stack_still : (links : List (Option ℕ)) (n : ℕ) (top : Option ℕ) (stack : List ℕ) → IsStack links n top stack
@@ -55,12 +55,12 @@ top_of innermost index = slice_index_or innermost index None
 
 -- what is known of the open regions after n records
 pub record AreOpen (rs : List Record) (n : ℕ) (tasks : List ℕ) (innermost links : List (Option ℕ)) : Type 0
-    where
-  pub all : length links ≡ length rs
-  pub tops : length innermost ≡ length tasks
-  pub stacks : (index task : ℕ) → slice_get tasks index ≡ Some task
-      → IsStack links n (top_of innermost index) (open_regions rs task n)
-  pub linked : AreLinkedOrNot rs n links
+  where
+    pub all : length links ≡ length rs
+    pub tops : length innermost ≡ length tasks
+    pub stacks : (index task : ℕ) → slice_get tasks index ≡ Some task
+        → IsStack links n (top_of innermost index) (open_regions rs task n)
+    pub linked : AreLinkedOrNot rs n links
 
 -- the innermost open region of a task is at the top of its stack
 top_first : (links : List (Option ℕ)) (n : ℕ) (top : Option ℕ) (stack : List ℕ) → IsStack links n top stack
@@ -73,8 +73,8 @@ pub innermost_here : (run : RunView) (n index : ℕ) (innermost links : List (Op
     → IsInnermost run n index link
 innermost_here run n index innermost links link are is_top task is =
     is_top
-        ∙ top_first links n (top_of innermost index) (open_regions run.records task n)
-            (are.stacks index task is)
+    ∙ top_first links n (top_of innermost index) (open_regions run.records task n)
+    (are.stacks index task is)
 
 linked_more : (rs : List Record) (n : ℕ) (links : List (Option ℕ)) (link : Option ℕ) (misplaced : Bool)
     → n < length links → AreLinkedOrNot rs n links → IsJudged rs n link misplaced
@@ -82,12 +82,12 @@ linked_more : (rs : List Record) (n : ℕ) (links : List (Option ℕ)) (link : O
 linked_more rs n links link misplaced low linked judged i task kind below ends = elim (cases_eq i n) [
   | inl same ↦
       let P : ℕ → Type 0 =
-          λ j. HasCause rs j RegionOrder ⊎ IsLinked rs j task kind (slice_get (set links n link) j) in
+      λ j. HasCause rs j RegionOrder ⊎ IsLinked rs j task kind (slice_get (set links n link) j) in
       subst P (sym same) (here misplaced judged (ap (at region rs) (sym same) ∙ ends))
   | inr apart ↦
       let P : Option (Option ℕ) → Type 0 = λ o. HasCause rs i RegionOrder ⊎ IsLinked rs i task kind o in
       subst P (sym (get_set_other links n i link apart))
-          (linked i task kind (omega (arith, below, apart)) ends)
+      (linked i task kind (omega (arith, below, apart)) ends)
 ]
   where
     here : (misplaced : Bool) → IsJudged rs n link misplaced → at region rs n ≡ Some (task, kind, End)
@@ -112,9 +112,9 @@ open_more_none rs n tasks innermost links are none = record {
   tops = are.tops;
   stacks =
       λ index task is.
-          rw (open_none rs task n none)
-              (stack_still links n (top_of innermost index) (open_regions rs task n)
-                  (are.stacks index task is));
+      rw (open_none rs task n none)
+      (stack_still links n (top_of innermost index) (open_regions rs task n)
+      (are.stacks index task is));
   linked = linked_still rs n links are.linked none;
 }
 
@@ -123,7 +123,7 @@ own_stack : (links : List (Option ℕ)) (n own : ℕ) (kind : SyncKind) (endpoin
     (stack : List ℕ)
     → n < length links → IsStack links n link stack
     → IsStack (set links n link) (n + 1) (top_after links link n endpoint)
-        (after_region stack n (Some (own, kind, endpoint)))
+    (after_region stack n (Some (own, kind, endpoint)))
 own_stack links n own kind Begin link stack low is =
     let here : below_of (set links n link) (Some n) ≡ link = get_or-set_same links n link None low in
     (refl, omega arith, rw here (stack_more links n link link stack is))
@@ -139,30 +139,34 @@ pub open_more_own : (run : RunView) (n index : ℕ) (kind : SyncKind) (endpoint 
     → IsRegionEvent run n index kind endpoint → link ≡ top_of innermost index → n < length run.records
     → IsJudged run.records n link misplaced
     → AreOpen run.records (n + 1) run.family.tasks (set innermost index (top_after links link n endpoint))
-        (set links n link)
+    (set links n link)
 open_more_own run n index kind endpoint innermost links link misplaced apart_all are own is_top inside judged
-        =
+    =
     record {
-  all = length-set links n link ∙ are.all;
-  tops = length-set innermost index (top_after links link n endpoint) ∙ are.tops;
-  stacks = λ other task is. elim (cases_eq other index) [
-    | inl same ↦
-        let is_task : task ≡ own.task =
+      all = length-set links n link ∙ are.all;
+      tops = length-set innermost index (top_after links link n endpoint) ∙ are.tops;
+      stacks = λ other task is. elim (cases_eq other index) [
+        | inl same ↦
+            let is_task : task ≡ own.task =
             same_Some task own.task (sym is ∙ ap (slice_get run.family.tasks) same ∙ own.indexed) in
-        rw
-            (same, get_or-set_same innermost index (top_after links link n endpoint) None within, is_task,
-                open_own run.records own.task n kind endpoint own.says)
+            rw (
+              same,
+              get_or-set_same innermost index (top_after links link n endpoint) None within,
+              is_task,
+              open_own run.records own.task n kind endpoint own.says,
+            )
             (own_stack links n own.task kind endpoint link (open_regions run.records own.task n) low own_one)
-    | inr apart ↦
-        rw
-            (get_or-set_other innermost index other (top_after links link n endpoint) None apart,
-                open_other run.records task own.task n kind endpoint own.says
-                    (λ e. apart (apart_all other index own.task (is ∙ ap Some e) own.indexed)))
+        | inr apart ↦
+            rw (
+              get_or-set_other innermost index other (top_after links link n endpoint) None apart,
+              open_other run.records task own.task n kind endpoint own.says
+                  (λ e. apart (apart_all other index own.task (is ∙ ap Some e) own.indexed)),
+            )
             (stack_more links n link (top_of innermost other) (open_regions run.records task n)
-                (are.stacks other task is))
-  ];
-  linked = linked_more run.records n links link misplaced low are.linked judged;
-}
+            (are.stacks other task is))
+      ];
+      linked = linked_more run.records n links link misplaced low are.linked judged;
+    }
   where
     low : n < length links
     low = let all = are.all in omega (arith, all, inside)
@@ -222,7 +226,7 @@ placed_here run n index kind endpoint link own top found unbarred = record { lin
             ends = ends;
             innermost =
                 ap (λ t. slice_get (open_regions run.records t n) 0) (sym is_task)
-                    ∙ sym (top own.task own.indexed) ∙ h.1;
+                ∙ sym (top own.task own.indexed) ∙ h.1;
             same_kind = h.2 ∙ ap Some is_kind;
           },
         )
@@ -336,19 +340,19 @@ pub linked_begin : (regions : RegionsView) (i own : ℕ) (kind : SyncKind) (foun
     → AreRegions regions → at region regions.own.run.records i ≡ Some (own, kind, End)
     → found ≡ slice_index_or regions.begins i None
     → MatchOption found
-        ((task begin : ℕ) (other : SyncKind) → IsRegion regions.own.run.records i task other begin → ⊥)
-        (IsBeginOf regions.own.run.records i)
+    ((task begin : ℕ) (other : SyncKind) → IsRegion regions.own.run.records i task other begin → ⊥)
+    (IsBeginOf regions.own.run.records i)
 linked_begin regions i own kind found are says read =
     let rs = regions.own.run.records in
     let there = are.begins i own kind (at_within region rs i (own, kind, End) says) says in
     let within = slice_get_within regions.begins i (Some there.0) there.1 in
     let same : Some there.0 ≡ found =
-        sym
-            (same_Some (slice_index_or regions.begins i None) (Some there.0)
-                (sym (slice_get-get_or regions.begins i None within) ∙ there.1))
-            ∙ sym read in
+    sym
+    (same_Some (slice_index_or regions.begins i None) (Some there.0)
+    (sym (slice_get-get_or regions.begins i None within) ∙ there.1))
+    ∙ sym read in
     let P : Option ℕ → Type 0 =
-        λ o.
-            MatchOption o ((task begin : ℕ) (other : SyncKind) → IsRegion rs i task other begin → ⊥)
-                (IsBeginOf rs i) in
+    λ o.
+    MatchOption o ((task begin : ℕ) (other : SyncKind) → IsRegion rs i task other begin → ⊥)
+    (IsBeginOf rs i) in
     subst P same (later_begin rs i own there.0 kind says there.2)

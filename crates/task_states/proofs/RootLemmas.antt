@@ -54,11 +54,12 @@ every_zip P Q (x ∷ xs) first second = ((first.0, second.0), every_zip P Q xs f
 -- each record stands at some place
 every_placed : (rs : List Record) → Every (λ r. (i : ℕ) × (slice_get rs i ≡ Some r)) rs
 every_placed [] = tt
-every_placed (r ∷ rs) =
-    ((0, refl),
-        every_weaker (λ q. (i : ℕ) × (slice_get rs i ≡ Some q))
-            (λ q. (i : ℕ) × (slice_get (r ∷ rs) i ≡ Some q)) (λ q (i, stands). (suc i, stands)) rs
-            (every_placed rs))
+every_placed (r ∷ rs) = (
+  (0, refl),
+  every_weaker (λ q. (i : ℕ) × (slice_get rs i ≡ Some q))
+      (λ q. (i : ℕ) × (slice_get (r ∷ rs) i ≡ Some q)) (λ q (i, stands). (suc i, stands)) rs
+      (every_placed rs),
+)
 
 roots_after : (rs : List Record) (thread : ℕ) (walk : Walk) (b : Body)
     → Every (IsBegunOn rs thread) walk.roots
@@ -72,7 +73,7 @@ roots_after rs thread walk (TaskSchedule status turns prior next share) each beg
   where
     by : (b : Bool)
         → Every (IsBegunOn rs thread)
-            (if b then record { roots = walk.roots; current = next } else walk).roots
+        (if b then record { roots = walk.roots; current = next } else walk).roots
     by true = each
     by false = each
 roots_after rs thread walk _ each begins = each
@@ -87,12 +88,12 @@ roots_begun rs thread (q ∷ qs) walk each begins =
 walk_begun : (rs : List Record) (thread i : ℕ)
     → Every (IsBegunOn rs thread) (walk_of thread (take i rs)).roots
 walk_begun rs thread i =
-    roots_begun rs thread part at_start tt ( every_weaker
-        (λ r. ((k : ℕ) × (slice_get rs k ≡ Some r)) × (r.thread == thread ≡ true)) (BeginsOn rs thread) begins
-        part
+    roots_begun rs thread part at_start tt (every_weaker
+    (λ r. ((k : ℕ) × (slice_get rs k ≡ Some r)) × (r.thread == thread ≡ true)) (BeginsOn rs thread) begins
+    part
     (every_zip (λ r. (k : ℕ) × (slice_get rs k ≡ Some r)) (λ r. r.thread == thread ≡ true) part
     (every_filter (λ r. (k : ℕ) × (slice_get rs k ≡ Some r)) (λ r. r.thread == thread) (take i rs)
-        (every_take (λ r. (k : ℕ) × (slice_get rs k ≡ Some r)) i rs (every_placed rs)))
+    (every_take (λ r. (k : ℕ) × (slice_get rs k ≡ Some r)) i rs (every_placed rs)))
     (every_passes (λ r. r.thread == thread) (take i rs))))
   where
     part : List Record
@@ -116,12 +117,12 @@ root_runs_home rs task i current once root starts =
     let roots = (walk_of r.thread (take i rs)).roots in
     let misfit = λ (other : slice_get roots 0 ≢ Some task).
     no_misfit_below rs current (i + 1) i (omega arith)
-        (record { the_record = r; stands = stands; misfits = other_root task is root other }) in
+    (record { the_record = r; stands = stands; misfits = other_root task is root other }) in
     let (k, begins, there) =
-        every_get (IsBegunOn rs r.thread) roots 0 task (walk_begun rs r.thread i)
-            (innermost (slice_get roots 0) (slice_get roots 0) refl task misfit) in
+    every_get (IsBegunOn rs r.thread) roots 0 task (walk_begun rs r.thread i)
+    (innermost (slice_get roots 0) (slice_get roots 0) refl task misfit) in
     on_thread rs (home_of rs task) i r.thread r.thread (root_home rs task k once begins r.thread there)
-        (ap (option_map (λ (q : Record). q.thread)) stands)
+    (ap (option_map (λ (q : Record). q.thread)) stands)
     ∙ eq-eqb r.thread r.thread refl
   where
     innermost : (o top : Option ℕ) → top ≡ o → (own : ℕ) → (top ≢ Some own → ⊥) → top ≡ Some own
@@ -138,9 +139,9 @@ pub root_told : (rs : List Record) (tasks : List ℕ) (index task place thread :
 root_told rs tasks index task place thread current once is stands not_explicit there =
     let root : IsRoot rs task = (place, root_begins rs tasks index task place is stands not_explicit) in
     let still : has_moved rs task ≡ false =
-        has_not_moved rs task (λ i starts tells. root_runs_home rs task i current once root starts) in
+    has_not_moved rs task (λ i starts tells. root_runs_home rs task i current once root starts) in
     let own : Some thread ≡ home_of rs task =
-        sym there ∙ home_there rs tasks index task place once is stands not_explicit in
+    sym there ∙ home_there rs tasks index task place once is stands not_explicit in
     ap (home_told false) own ∙ ap (λ b. home_told b (home_of rs task)) (sym still)
 
 -- ---- whether any task has moved
@@ -158,8 +159,8 @@ started_index : (rs : List Record) (family : FamilyView) (i task : ℕ) → IsFa
 started_index rs family i task are starts =
     let (r, stands, is) = get_at started rs i task starts in
     let (index, found, there) =
-        call_index family.tasks (at object rs i) _ task (object_calls rs family i are)
-            (ap (option_and_then (λ (q : Record). object q.body)) stands ∙ started_object task r.body is) in
+    call_index family.tasks (at object rs i) _ task (object_calls rs family i are)
+    (ap (option_and_then (λ (q : Record). object q.body)) stands ∙ started_object task r.body is) in
     (index, there)
 
 pub none_moved : (rs : List Record) (family : FamilyView) (homes : List Home) → IsFamilyOf rs family
@@ -175,4 +176,4 @@ none_moved rs family homes are homes_are none task = by (has_moved rs task) refl
             let (index, there) = started_index rs family i task are starts in
             let many : is_many (home_at rs task) ≡ true = many_is rs task (home_at rs task) refl ∙ moves in
             false≢true
-                (sym (not_any is_many homes index (home_at rs task) none (homes_are index task there)) ∙ many)
+            (sym (not_any is_many homes index (home_at rs task) none (homes_are index task there)) ∙ many)

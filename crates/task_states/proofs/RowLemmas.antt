@@ -21,12 +21,12 @@ row_pushed rows new index empty = elim (cases_lt index (length rows)) [
   | inr past ↦ elim (cases_eq index (length rows)) [
     | inl last ↦
         ap row_items (get_last rows new index last) ∙ empty
-            ∙ sym (ap row_items (slice_get_past rows index past))
+        ∙ sym (ap row_items (slice_get_past rows index past))
     | inr apart ↦
         let long = length_push rows new in
         ap row_items
-            (slice_get_past (rows ++ new ∷ []) index (omega (arith, past, apart, long))
-                ∙ sym (slice_get_past rows index past))
+        (slice_get_past (rows ++ new ∷ []) index (omega (arith, past, apart, long))
+        ∙ sym (slice_get_past rows index past))
   ]
 ]
 

@@ -28,9 +28,9 @@ shown_alone rs cause (Malformed i told) same is = record {
   };
   least =
       λ other has less.
-          absurd
-              (let e = ap cause_number (one cause told is.sought_for) in
-               let f = ap cause_number (one cause other has) in omega (arith, e, f, less));
+      absurd
+      (let e = ap cause_number (one cause told is.sought_for) in
+      let f = ap cause_number (one cause other has) in omega (arith, e, f, less));
 }
   where
     alike : (k : ℕ) → Shows rs k told ↔ HasCause rs k told
@@ -53,12 +53,12 @@ shown_before rs cause rest (Malformed i told) above is = record {
         → ShowsNowhere rs other
     least other (zero, below, same) less =
         absurd
-            (let e = ap cause_number (sym same) in
-             let f = ap cause_number (sym (one cause told is.sought_for)) in omega (arith, e, f, less))
+        (let e = ap cause_number (sym same) in
+        let f = ap cause_number (sym (one cause told is.sought_for)) in omega (arith, e, f, less))
     least other (suc k, below, same) less =
         absurd
-            (above other (k, omega arith, same)
-                (let f = ap cause_number (one cause told is.sought_for) in omega (arith, f, less)))
+        (above other (k, omega arith, same)
+        (let f = ap cause_number (one cause told is.sought_for) in omega (arith, f, less)))
 
 -- a cause that is looked for once the trace does not show the one before it
 pub shown_after : (rs : List Record) (cause : Cause) (rest : List Cause) (fault : Fault)

@@ -42,7 +42,6 @@ use Rattle.task_states.proofs.ShownFaultLemmas.{shown_alone, shown_before, shown
 use Rattle.task_states.specs.Progress.{ProgressView, HasCome, IsRefused}
 use Rattle.task_states.specs.States.{StatesView, IsStates, IsLast}
 
-
 -- ---- a task that moves is one that a record makes
 
 -- what a record moves it names
@@ -72,7 +71,7 @@ named_by task _ move (i, low, is) = absurd (omega arith)
 
 -- each move of a place has the place
 labelled : (k i : ℕ) (move : Move) (moves : List Move)
-    → Contains { X = ℕ × Move } (map (λ m. (k, m)) moves) (i, move) → (k ≡ i) × Contains moves move
+    → Contains {X = ℕ × Move} (map (λ m. (k, m)) moves) (i, move) → (k ≡ i) × Contains moves move
 labelled k i move [] (j, low, is) = absurd (omega arith)
 labelled k i move (m ∷ ms) (zero, low, is) =
     (ap (λ (p : ℕ × Move). p.0) is, (0, omega arith, ap (λ (p : ℕ × Move). p.1) is))
@@ -86,7 +85,7 @@ of_places : (rs : List Record) (task i : ℕ) (move : Move) (ks : List ℕ)
 of_places rs task i move [] (j, low, is) = absurd (omega arith)
 of_places rs task i move (k ∷ ks) has =
     of (Contains-append_cases (moves_at rs task k) (flat_map (moves_at rs task) ks) (i, move) has)
-        (of_places rs task i move ks)
+    (of_places rs task i move ks)
   where
     of : Contains (moves_at rs task k) (i, move) ⊎ Contains (flat_map (moves_at rs task) ks) (i, move)
         → (Contains (flat_map (moves_at rs task) ks) (i, move) → Contains (moves_at rs task i) (i, move))
@@ -101,8 +100,8 @@ moved_there : (rs : List Record) (task i : ℕ) (move : Move) → Contains (move
 moved_there rs task i move has = of (slice_get rs i) refl has
   where
     of : (o : Option Record) → slice_get rs i ≡ o
-        → Contains { X = ℕ × Move }
-            (map (λ m. (i, m)) (option_map_or (λ (r : Record). moves_by task r.body) o [])) (i, move)
+        → Contains {X = ℕ × Move}
+        (map (λ m. (i, m)) (option_map_or (λ (r : Record). moves_by task r.body) o [])) (i, move)
         → (i < length rs) × ((at subject rs i ≡ Some task) ⊎ (at object rs i ≡ Some task))
     of None e (j, low, is) = absurd (omega arith)
     of (Some r) e has' = (
@@ -119,40 +118,40 @@ start_there : (rs : List Record) (task turn k i : ℕ) (move : Move)
 start_there rs task turn k i move has = of (is_turn task turn (at begun_turn rs k)) refl has
   where
     of : (b : Bool) → is_turn task turn (at begun_turn rs k) ≡ b
-        → Contains { X = ℕ × Move } (cond b ((k, Started) ∷ []) []) (i, move)
+        → Contains {X = ℕ × Move} (cond b ((k, Started) ∷ []) []) (i, move)
         → Contains (moves_at rs task i) (i, move)
     of false e (j, low, is) = absurd (omega arith)
     of true e (suc j, low, is) = absurd (omega arith)
     of true e (zero, low, is) =
         subst (λ (s : ℕ × Move). Contains (moves_at rs task s.0) s) is
-            (makes (begun_started rs k task turn (turn_is (at begun_turn rs k) e)))
+        (makes (begun_started rs k task turn (turn_is (at begun_turn rs k) e)))
       where
         turn_is : (o : Option (ℕ × ℕ)) → is_turn task turn o ≡ true → o ≡ Some (task, turn)
         turn_is None e' = absurd (false≢true e')
         turn_is (Some b) e' =
             let (own, same) = and_parts (b.0 == task) (b.1 == turn) e' in
             ap (λ t. Some (t, b.1)) (eqb-true b.0 task own)
-                ∙ ap (λ t. Some (task, t)) (eqb-true b.1 turn same)
+            ∙ ap (λ t. Some (task, t)) (eqb-true b.1 turn same)
 
         makes : at started rs k ≡ Some task → Contains {X = ℕ × Move} (moves_at rs task k) (k, Started)
         makes starts = there (slice_get rs k) refl starts
           where
             body : (b : Body) → started b ≡ Some task
-                → Contains { X = ℕ × Move } (map (λ m. (k, m)) (moves_by task b)) (k, Started)
+                → Contains {X = ℕ × Move} (map (λ m. (k, m)) (moves_by task b)) (k, Started)
             body (TaskSchedule status turns prior next share) is' =
                 subst
-                    (λ c.
-                        Contains { X = ℕ × Move }
-                            (map (λ m. (k, m))
-                                ((cond (prior == task) (Stopped status ∷ []) [] ++ cond c (Started ∷ []) [])
-                                    ++ []))
-                            (k, Started))
-                    (sym (the_task task next is')) (after (prior == task))
+                (λ c.
+                Contains {X = ℕ × Move}
+                (map (λ m. (k, m))
+                ((cond (prior == task) (Stopped status ∷ []) [] ++ cond c (Started ∷ []) [])
+                ++ []))
+                (k, Started))
+                (sym (the_task task next is')) (after (prior == task))
               where
                 after : (c : Bool)
-                    → Contains { X = ℕ × Move }
-                        (map (λ m. (k, m)) ((cond c (Stopped status ∷ []) [] ++ Started ∷ []) ++ []))
-                        (k, Started)
+                    → Contains {X = ℕ × Move}
+                    (map (λ m. (k, m)) ((cond c (Stopped status ∷ []) [] ++ Started ∷ []) ++ []))
+                    (k, Started)
                 after true = (1, omega arith, refl)
                 after false = (0, omega arith, refl)
             body _ is' = absurd (none-some task is')
@@ -163,14 +162,14 @@ start_there rs task turn k i move has = of (is_turn task turn (at begun_turn rs 
             there None e' is' = absurd (none-some task is')
             there (Some r) e' is' =
                 let P : Option Record → Type 0 =
-                    λ o.
-                        Contains { X = ℕ × Move }
-                            (map (λ m. (k, m)) (option_map_or (λ (q : Record). moves_by task q.body) o []))
-                            (k, Started) in
+                λ o.
+                Contains {X = ℕ × Move}
+                (map (λ m. (k, m)) (option_map_or (λ (q : Record). moves_by task q.body) o []))
+                (k, Started) in
                 subst P (sym e') (body r.body is')
 
 with_place : (k : ℕ) (move : Move) (moves : List Move) → Contains moves move
-    → Contains { X = ℕ × Move } (map (λ m. (k, m)) moves) (k, move)
+    → Contains {X = ℕ × Move} (map (λ m. (k, m)) moves) (k, move)
 with_place k move [] (i, low, is) = absurd (omega arith)
 with_place k move (m ∷ ms) (zero, low, is) = (0, omega arith, ap {B = ℕ × Move} (λ n. (k, n)) is)
 with_place k move (m ∷ ms) (suc i, low, is) =
@@ -188,7 +187,7 @@ end_there rs task turn k i move has = of (is_turn task turn (at ended_turn rs k)
         let started_too : List Move = cond (is_task task (started b)) (Started ∷ []) [] in
         let discarded_too : List Move = cond (is_task task (discarded b)) (Discarded ∷ []) [] in
         Contains-append_left (stops task b ++ started_too) discarded_too move
-            (Contains-append_left (stops task b) started_too move has')
+        (Contains-append_left (stops task b) started_too move has')
 
     there : (o : Option Record) → Contains (stopped_there o) move
         → Contains (option_map_or (λ (r : Record). moves_by task r.body) o []) move
@@ -196,24 +195,24 @@ end_there rs task turn k i move has = of (is_turn task turn (at ended_turn rs k)
     there (Some r) has' = body r.body has'
 
     of : (b : Bool)
-        → Contains { X = ℕ × Move } (cond b (map (λ m. (k, m)) (stopped_there (slice_get rs k))) []) (i, move)
+        → Contains {X = ℕ × Move} (cond b (map (λ m. (k, m)) (stopped_there (slice_get rs k))) []) (i, move)
         → Contains (moves_at rs task i) (i, move)
     of false (j, low, is) = absurd (omega arith)
     of true has' =
         let (same, makes) = labelled k i move (stopped_there (slice_get rs k)) has' in
         let P : ℕ → Type 0 = λ n. Contains {X = ℕ × Move} (moves_at rs task n) (n, move) in
         subst P same
-            (with_place k move (option_map_or (λ (r : Record). moves_by task r.body) (slice_get rs k) [])
-                (there (slice_get rs k) makes))
+        (with_place k move (option_map_or (λ (r : Record). moves_by task r.body) (slice_get rs k) [])
+        (there (slice_get rs k) makes))
 
 -- what passes of a list is in the list
 kept_in : {X : Type 0} (p : X → Bool) (xs : List X) (x : X) → Contains (filter p xs) x → Contains xs x
 kept_in p [] x has = has
 kept_in p (y ∷ ys) x has =
     by (p y)
-        (λ (has' : Contains (filter p ys) x).
-            let (i, low, is) = kept_in p ys x has' in (suc i, omega (arith, low), is))
-        has
+    (λ (has' : Contains (filter p ys) x).
+    let (i, low, is) = kept_in p ys x has' in (suc i, omega (arith, low), is))
+    has
   where
     by : (b : Bool) → (Contains (filter p ys) x → Contains (y ∷ ys) x)
         → Contains (cond b (y ∷ filter p ys) (filter p ys)) x → Contains (y ∷ ys) x
@@ -246,20 +245,21 @@ moved_by rs task i move has = by (has_moved rs task) has
     by_file : (passes : Move → Bool) → Contains (moves_by_file rs task passes) step → There
     by_file passes has' =
         of_places rs task i move (places rs)
-            (kept_in (λ (s : ℕ × Move). passes s.1) (flat_map (moves_at rs task) (places rs)) step has')
+        (kept_in (λ (s : ℕ × Move). passes s.1) (flat_map (moves_at rs task) (places rs)) step has')
 
     by_turn : (turn : ℕ) → Contains (turn_moves rs task turn) step → There
     by_turn turn has' =
         elim
-            (Contains-append_cases (flat_map (turn_starts_at rs task turn) (places rs))
-                (flat_map (turn_ends_at rs task turn) (places rs)) step has') [
-      | inl starts ↦
-          of_parts (turn_starts_at rs task turn) step There (λ k. start_there rs task turn k i move)
+        (Contains-append_cases (flat_map (turn_starts_at rs task turn) (places rs))
+        (flat_map (turn_ends_at rs task turn) (places rs)) step has') [
+          | inl starts ↦
+              of_parts (turn_starts_at rs task turn) step There (λ k. start_there rs task turn k i move)
               (places rs) starts
-      | inr ends ↦
-          of_parts (turn_ends_at rs task turn) step There (λ k. end_there rs task turn k i move) (places rs)
+          | inr ends ↦
+              of_parts (turn_ends_at rs task turn) step There (λ k. end_there rs task turn k i move)
+              (places rs)
               ends
-    ]
+        ]
 
     turns : List (ℕ × Move)
     turns = flat_map (turn_moves rs task) (range_with_len 0 (turns_in rs))
@@ -268,32 +268,33 @@ moved_by rs task i move has = by (has_moved rs task) has
     by false has' = of_places rs task i move (places_of rs task) has'
     by true has' =
         elim
-            (Contains-append_cases (moves_by_file rs task is_early_move ++ turns)
-                (moves_by_file rs task is_apart) step has') [
-      | inl before ↦ elim (Contains-append_cases (moves_by_file rs task is_early_move) turns step before) [
-        | inl early ↦ by_file is_early_move early
-        | inr turning ↦
-            of_parts (turn_moves rs task) step There by_turn (range_with_len 0 (turns_in rs)) turning
-      ]
-      | inr apart ↦ by_file is_apart apart
-    ]
+        (Contains-append_cases (moves_by_file rs task is_early_move ++ turns)
+        (moves_by_file rs task is_apart) step has') [
+          | inl before ↦
+              elim (Contains-append_cases (moves_by_file rs task is_early_move) turns step before) [
+                | inl early ↦ by_file is_early_move early
+                | inr turning ↦
+                    of_parts (turn_moves rs task) step There by_turn (range_with_len 0 (turns_in rs)) turning
+              ]
+          | inr apart ↦ by_file is_apart apart
+        ]
 
 refused_there : (rs : List Record) (family : FamilyView) (task i : ℕ) → IsFamilyOf rs family
     → IsRefused (nature_of rs task) (all_moves_of rs task) i → (i < length rs) × Contains family.tasks task
 refused_there rs family task i are refused =
     let has =
-        moved_by rs task i refused.move
-            (get_contains (all_moves_of rs task) (i, refused.move) refused.number refused.made_there) in
+    moved_by rs task i refused.move
+    (get_contains (all_moves_of rs task) (i, refused.move) refused.number refused.made_there) in
     let (within, names) = moved_there rs task i refused.move has in (
       within,
       elim names [
         | inl is ↦
             let (index, found, stands) =
-                call_index family.tasks (at subject rs i) _ task (subject_calls rs family i are) is in
+            call_index family.tasks (at subject rs i) _ task (subject_calls rs family i are) is in
             get_contains family.tasks task index stands
         | inr is ↦
             let (index, found, stands) =
-                call_index family.tasks (at object rs i) _ task (object_calls rs family i are) is in
+            call_index family.tasks (at object rs i) _ task (object_calls rs family i are) is in
             get_contains family.tasks task index stands
       ],
     )
@@ -345,7 +346,7 @@ first_refused rs family progress i are come some =
           let before = refused_of rs k h in
           let P : Option ℕ → Type 0 = λ o. IsSomeAnd o (λ first. first ≤ k) in
           let less : i ≤ k =
-              subst P some (come.least h.task k (refused_there rs family h.task k are before).1 before) in
+          subst P some (come.least h.task k (refused_there rs family h.task k are before).1 before) in
           absurd (omega (arith, less, below));
     }
 
@@ -381,14 +382,14 @@ pub fault_current : (rs : List Record) (fault : Fault) → IsFault rs (NotCurren
     → IsShownFault rs (NotCurrent ∷ Moved ∷ TurnGap ∷ StatusOrder ∷ RegionOrder ∷ []) fault
 fault_current rs fault found =
     shown_before rs NotCurrent (Moved ∷ TurnGap ∷ StatusOrder ∷ RegionOrder ∷ []) fault after_current
-        (shown_alone rs NotCurrent fault (λ i. (λ h. h, λ h. h)) found)
+    (shown_alone rs NotCurrent fault (λ i. (λ h. h, λ h. h)) found)
 
 pub fault_moved : (rs : List Record) (fault : Fault) → IsFreeOf rs NotCurrent → IsFault rs (Moved ∷ []) fault
     → IsShownFault rs (NotCurrent ∷ Moved ∷ TurnGap ∷ StatusOrder ∷ RegionOrder ∷ []) fault
 fault_moved rs fault current found =
     shown_after rs NotCurrent (Moved ∷ TurnGap ∷ StatusOrder ∷ RegionOrder ∷ []) fault current
     (shown_before rs Moved (TurnGap ∷ StatusOrder ∷ RegionOrder ∷ []) fault after_moved
-        (shown_alone rs Moved fault (λ i. (λ h. h, λ h. h)) found))
+    (shown_alone rs Moved fault (λ i. (λ h. h, λ h. h)) found))
 
 pub fault_gap : (rs : List Record) (fault : Fault) → IsFreeOf rs NotCurrent → IsFreeOf rs Moved
     → IsFault rs (TurnGap ∷ []) fault
@@ -397,7 +398,7 @@ fault_gap rs fault current stay found =
     shown_after rs NotCurrent (Moved ∷ TurnGap ∷ StatusOrder ∷ RegionOrder ∷ []) fault current
     (shown_after rs Moved (TurnGap ∷ StatusOrder ∷ RegionOrder ∷ []) fault stay
     (shown_before rs TurnGap (StatusOrder ∷ RegionOrder ∷ []) fault after_gap
-        (shown_alone rs TurnGap fault (λ i. (λ h. h, λ h. h)) found)))
+    (shown_alone rs TurnGap fault (λ i. (λ h. h, λ h. h)) found)))
 
 -- a fault behind the first three causes
 behind_gap : (rs : List Record) (fault : Fault) → IsFreeOf rs NotCurrent → IsFreeOf rs Moved
@@ -413,8 +414,8 @@ pub fault_status : (rs : List Record) (fault : Fault) → IsFreeOf rs NotCurrent
     → IsShownFault rs (NotCurrent ∷ Moved ∷ TurnGap ∷ StatusOrder ∷ RegionOrder ∷ []) fault
 fault_status rs fault current stay gapless found =
     behind_gap rs fault current stay gapless
-        (shown_before rs StatusOrder (RegionOrder ∷ []) fault after_status
-            (shown_alone rs StatusOrder fault (λ i. (λ h. h, λ h. h)) found))
+    (shown_before rs StatusOrder (RegionOrder ∷ []) fault after_status
+    (shown_alone rs StatusOrder fault (λ i. (λ h. h, λ h. h)) found))
 
 -- and the last where a record has it in the tasks' own order
 pub fault_region : (rs : List Record) (own : OwnView) (fault : Fault) → IsOwnOf rs own
@@ -423,8 +424,8 @@ pub fault_region : (rs : List Record) (own : OwnView) (fault : Fault) → IsOwnO
     → IsShownFault rs (NotCurrent ∷ Moved ∷ TurnGap ∷ StatusOrder ∷ RegionOrder ∷ []) fault
 fault_region rs own fault of all current stay gapless ordered found =
     behind_gap rs fault current stay gapless
-        (shown_after rs StatusOrder (RegionOrder ∷ []) fault ordered
-            (own_fault rs own RegionOrder fault of_regions of all found))
+    (shown_after rs StatusOrder (RegionOrder ∷ []) fault ordered
+    (own_fault rs own RegionOrder fault of_regions of all found))
 
 -- ---- the states after all records
 
@@ -436,10 +437,10 @@ last_is states task index read are stands read_there =
     let rs = states.run.records in (
       λ made.
           same_Some read (state_of (nature_of rs task) (all_moves_of rs task))
-              (sym read_there ∙ are.each index task stands),
+          (sym read_there ∙ are.each index task stands),
       λ unmade. let (place, within, makes) =
           are.run.family.noted.only task (get_contains states.run.family.tasks task index stands) in
-              absurd (unmade (place, makes)),
+          absurd (unmade (place, makes)),
     )
 
 pub last_none : (states : StatesView) (task : ℕ) (index : Option ℕ) → IsStates states
@@ -448,7 +449,7 @@ pub last_none : (states : StatesView) (task : ℕ) (index : Option ℕ) → IsSt
 last_none states task index are is none = (
   λ (place, makes). let (k, stands) =
       contains_get states.run.family.tasks task
-          (are.run.family.noted.each place task (at_within made states.run.records place task makes) makes) in
-          absurd (none-some k (sym none ∙ (is k).1 stands)),
+      (are.run.family.noted.each place task (at_within made states.run.records place task makes) makes) in
+      absurd (none-some k (sym none ∙ (is k).1 stands)),
   λ unmade. refl,
 )

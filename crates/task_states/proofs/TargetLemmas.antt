@@ -14,9 +14,13 @@ makes_target_task rs i (target_task makes) = makes
 pub no_target : (rs : List Record) (i : ℕ) (r : Record) → i < length rs → r ≡ get_or rs i r
     → (IsTargetMade r.body → ⊥) → MakesTarget rs i → ⊥
 no_target rs i r within read none (task, bits, makes, given, has) =
-    none
-        (task, bits, sym (at_read made rs i r within read) ∙ makes,
-            sym (at_read flags rs i r within read) ∙ given, has)
+    none (
+      task,
+      bits,
+      sym (at_read made rs i r within read) ∙ makes,
+      sym (at_read flags rs i r within read) ∙ given,
+      has,
+    )
 
 -- the first record that makes one
 pub first_target : (rs : List Record) (i : ℕ) (r : Record) → i < length rs → r ≡ get_or rs i r
@@ -24,9 +28,13 @@ pub first_target : (rs : List Record) (i : ℕ) (r : Record) → i < length rs �
 first_target rs i r within read (task, bits, makes, given, has) free = record {
   within = within;
   has =
-      target_task
-          (task, bits, at_read made rs i r within read ∙ makes, at_read flags rs i r within read ∙ given,
-              has);
+      target_task (
+        task,
+        bits,
+        at_read made rs i r within read ∙ makes,
+        at_read flags rs i r within read ∙ given,
+        has,
+      );
   first = λ k below cause. free k below (makes_target_task rs k cause);
 }
 

@@ -32,7 +32,6 @@ use Rattle.task_states.proofs.RowLemmas.{row_here, row_set_same, row_set_other}
 use Rattle.task_states.specs.TurnEdges.{edge_turn, moved_turn, is_edge, edge_moves, AreEdges, IsNoted}
 use Rattle.task_states.specs.TurnEdges.{IsNoEdge}
 
-
 -- ---- the turn at a place
 
 said : (edge : Edge) (rs : List Record) (i : ℕ) (r : Record) → slice_get rs i ≡ Some r
@@ -46,15 +45,15 @@ turn_if rs found = option_and_then (λ (b : ℕ × ℕ). cond (has_moved rs b.0)
 begun_own : (b : Body) (task : ℕ) → started b ≡ Some task → (p : ℕ × ℕ) → begun_turn b ≡ Some p → p.0 ≡ task
 begun_own b task starts p is =
     ap (λ (q : ℕ × ℕ). q.0)
-        (same_Some p (task, next_turn b)
-            (sym is ∙ ap (option_map { U = ℕ × ℕ } (λ t. (t, next_turn b))) starts))
+    (same_Some p (task, next_turn b)
+    (sym is ∙ ap (option_map {U = ℕ × ℕ} (λ t. (t, next_turn b))) starts))
 
 -- and the one that ends that of the prior task
 stopped_own : (b : Body) (task prior : ℕ) (status : Status) (next : Option ℕ)
     → schedule b ≡ Some (status, prior, next) → stopped b ≡ Some task → task ≡ prior
 stopped_own (TaskSchedule s turns own follower share) task prior status next says stops =
     of (demands_next s) stops
-        ∙ ap (λ (t : Status × ℕ × Option ℕ). t.1) (same_Some (s, own, follower) (status, prior, next) says)
+    ∙ ap (λ (t : Status × ℕ × Option ℕ). t.1) (same_Some (s, own, follower) (status, prior, next) says)
   where
     of : (b : Bool) → cond b (Some own) None ≡ Some task → task ≡ own
     of true is = sym (same_Some own task is)
@@ -65,12 +64,12 @@ ended_own : (b : Body) (prior : ℕ) (status : Status) (next : Option ℕ)
     → schedule b ≡ Some (status, prior, next) → (p : ℕ × ℕ) → ended_turn b ≡ Some p → p.0 ≡ prior
 ended_own b prior status next says p is = of (stopped b) refl is
   where
-    of : (o : Option ℕ) → stopped b ≡ o → option_map { U = ℕ × ℕ } (λ t. (t, prior_turn b)) o ≡ Some p
+    of : (o : Option ℕ) → stopped b ≡ o → option_map {U = ℕ × ℕ} (λ t. (t, prior_turn b)) o ≡ Some p
         → p.0 ≡ prior
     of None e is' = absurd (none-some p is')
     of (Some task) e is' =
         ap (λ (q : ℕ × ℕ). q.0) (sym (same_Some (task, prior_turn b) p is'))
-            ∙ stopped_own b task prior status next says e
+        ∙ stopped_own b task prior status next says e
 
 -- where no task runs next, none begins a turn
 pub none_begun : (rs : List Record) (i : ℕ) → at started rs i ≡ None → moved_turn Begins rs i ≡ None
@@ -81,7 +80,7 @@ none_begun rs i silent = there (slice_get rs i) refl silent
     there None e is =
         ap (λ (o : Option Record). turn_if rs (option_and_then (λ (q : Record). begun_turn q.body) o)) e
     there (Some r) e is =
-        ap (turn_if rs) (said Begins rs i r e ∙ ap (option_map { U = ℕ × ℕ } (λ t. (t, next_turn r.body))) is)
+        ap (turn_if rs) (said Begins rs i r e ∙ ap (option_map {U = ℕ × ℕ} (λ t. (t, next_turn r.body))) is)
 
 -- where nothing is scheduled, none ends one
 pub none_ended : (rs : List Record) (i : ℕ) → at schedule rs i ≡ None → moved_turn Ends rs i ≡ None
@@ -102,21 +101,21 @@ none_ended rs i silent = there (slice_get rs i) refl silent
 -- one more place
 edges_more : (edge : Edge) (rs : List Record) (turn n : ℕ)
     → filter (is_edge edge rs turn) (range_with_len 0 (n + 1))
-        ≡ filter (is_edge edge rs turn) (range_with_len 0 n) ++ cond (is_edge edge rs turn n) (n ∷ []) []
+    ≡ filter (is_edge edge rs turn) (range_with_len 0 n) ++ cond (is_edge edge rs turn n) (n ∷ []) []
 edges_more edge rs turn n =
     ap (filter (is_edge edge rs turn)) (range_more n)
-        ∙ filter-append (is_edge edge rs turn) (range_with_len 0 n) (n ∷ [])
+    ∙ filter-append (is_edge edge rs turn) (range_with_len 0 n) (n ∷ [])
 
 pub edges_passed : (edge : Edge) (rs : List Record) (n turns : ℕ) (rows : List (Vec ℕ))
     → AreEdges edge rs n turns rows → ((turn : ℕ) → turn < turns → is_edge edge rs turn n ≡ false)
     → AreEdges edge rs (n + 1) turns rows
 edges_passed edge rs n turns rows are none turn low =
     are turn low
-        ∙ sym
-            (edges_more edge rs turn n
-                ∙ ap (λ b. filter (is_edge edge rs turn) (range_with_len 0 n) ++ cond b (n ∷ []) [])
-                    (none turn low)
-                ∙ append-nil (filter (is_edge edge rs turn) (range_with_len 0 n)))
+    ∙ sym
+    (edges_more edge rs turn n
+    ∙ ap (λ b. filter (is_edge edge rs turn) (range_with_len 0 n) ++ cond b (n ∷ []) [])
+    (none turn low)
+    ∙ append-nil (filter (is_edge edge rs turn) (range_with_len 0 n)))
 
 pub edges_noted : (edge : Edge) (rs : List Record) (n turns turn : ℕ) (before after : List (Vec ℕ))
     → AreEdges edge rs n turns before → moved_turn edge rs n ≡ Some turn → IsNoted before after turn n
@@ -124,16 +123,16 @@ pub edges_noted : (edge : Edge) (rs : List Record) (n turns turn : ℕ) (before 
 edges_noted edge rs n turns turn before after are is noted other below = elim (cases_eq other turn) [
   | inl same ↦
       ap (row_at after) same ∙ noted.here ∙ ap (λ t. row_at before t ++ n ∷ []) (sym same)
-          ∙ ap (λ l. l ++ n ∷ []) (are other below)
+      ∙ ap (λ l. l ++ n ∷ []) (are other below)
       ∙ sym
-          (edges_more edge rs other n
-              ∙ ap (λ b. row ++ cond b (n ∷ []) []) (here ∙ eq-eqb turn other (sym same)))
+      (edges_more edge rs other n
+      ∙ ap (λ b. row ++ cond b (n ∷ []) []) (here ∙ eq-eqb turn other (sym same)))
   | inr apart ↦
       noted.others other apart ∙ are other below
       ∙ sym
-          (edges_more edge rs other n
-              ∙ ap (λ b. row ++ cond b (n ∷ []) []) (here ∙ ne_eqb turn other (λ same. apart (sym same)))
-              ∙ append-nil row)
+      (edges_more edge rs other n
+      ∙ ap (λ b. row ++ cond b (n ∷ []) []) (here ∙ ne_eqb turn other (λ same. apart (sym same)))
+      ∙ append-nil row)
 ]
   where
     row : List ℕ
@@ -154,7 +153,7 @@ pub row_noted : (before rows : List (Vec ℕ)) (turn place : ℕ) (old new : Vec
 row_noted before rows turn place old new same stands pushed = record {
   here =
       row_set_same rows turn new (slice_get_within rows turn old stands) ∙ pushed
-          ∙ ap (λ l. l ++ place ∷ []) (sym (row_here rows turn old stands) ∙ same turn);
+      ∙ ap (λ l. l ++ place ∷ []) (sym (row_here rows turn old stands) ∙ same turn);
   others = λ other apart. row_set_other rows turn other new apart ∙ same other;
 }
 
@@ -163,7 +162,7 @@ pub edge_past : (edge : Edge) (rs : List Record) (n turns turn : ℕ) → moved_
     → turns ≤ turn → (other : ℕ) → other < turns → is_edge edge rs other n ≡ false
 edge_past edge rs n turns turn is past other below =
     ap (λ o. option_map_or (λ t. t == other) o false) is
-        ∙ ne_eqb turn other (λ same. absurd (omega (arith, past, below, same)))
+    ∙ ne_eqb turn other (λ same. absurd (omega (arith, past, below, same)))
 
 pub edge_none : (edge : Edge) (rs : List Record) (n : ℕ) → moved_turn edge rs n ≡ None → (other : ℕ)
     → is_edge edge rs other n ≡ false
@@ -199,8 +198,8 @@ start_alone rs i task turn other starts here =
     let (own, says, moves) = edge_is Begins rs i turn here in
     let (r, stands, begins) = get_at begun_turn rs i (own, turn) says in
     let same : own ≡ task =
-        begun_own r.body task (sym (ap (option_and_then (λ (q : Record). started q.body)) stands) ∙ starts)
-            (own, turn) begins in
+    begun_own r.body task (sym (ap (option_and_then (λ (q : Record). started q.body)) stands) ∙ starts)
+    (own, turn) begins in
     ap (λ o. cond (is_turn other turn o) ((i, Started) ∷ []) []) says
     ∙ ap (λ b. cond ((own == other) && b) ((i, Started) ∷ []) []) (eq-eqb turn turn refl)
     ∙ ap (λ b. cond b ((i, Started) ∷ []) []) (and_true (own == other) ∙ ap (λ t. t == other) same)
@@ -217,7 +216,7 @@ end_alone rs i prior turn other status next says here =
     let (own, ends, moves) = edge_is Ends rs i turn here in
     let (r, stands, is) = get_at schedule rs i (status, prior, next) says in
     let same : own ≡ prior =
-        ended_own r.body prior status next is (own, turn) (sym (said Ends rs i r stands) ∙ ends) in
+    ended_own r.body prior status next is (own, turn) (sym (said Ends rs i r stands) ∙ ends) in
     ap (λ o. cond (is_turn other turn o) (stopped_there (slice_get rs i)) []) ends
     ∙ ap (λ b. cond ((own == other) && b) (stopped_there (slice_get rs i)) []) (eq-eqb turn turn refl)
     ∙ ap (λ t. cond ((t == other) && true) (stopped_there (slice_get rs i)) []) same
@@ -232,12 +231,12 @@ end_alone rs i prior turn other status next says here =
         → stops other b ≡ cond (prior == other) (Stopped status ∷ []) []
     by (TaskSchedule s turns p n share) is =
         ap (λ (t : Status × ℕ × Option ℕ). cond (t.1 == other) (Stopped t.0 ∷ []) [])
-            (same_Some (s, p, n) (status, prior, next) is)
+        (same_Some (s, p, n) (status, prior, next) is)
     by _ is = absurd (none-some (status, prior, next) is)
 
     both : (b : Bool)
-        → cond (b && true) (map { B = ℕ × Move } (λ move. (i, move)) (cond b (Stopped status ∷ []) [])) []
-            ≡ cond b ((i, Stopped status) ∷ []) []
+        → cond (b && true) (map {B = ℕ × Move} (λ move. (i, move)) (cond b (Stopped status ∷ []) [])) []
+        ≡ cond b ((i, Stopped status) ∷ []) []
     both true = refl
     both false = refl
 
@@ -248,11 +247,11 @@ silent : (edge : Edge) (rs : List Record) (task turn i : ℕ)
 silent Begins rs task turn i off = ap (λ b. cond b ((i, Started) ∷ []) []) off
 silent Ends rs task turn i off =
     ap
-        (λ b.
-            cond b
-                (map (λ move. (i, move))
-                    (option_map_or (λ (r : Record). stops task r.body) (slice_get rs i) [])) [])
-        off
+    (λ b.
+    cond b
+    (map (λ move. (i, move))
+    (option_map_or (λ (r : Record). stops task r.body) (slice_get rs i) [])) [])
+    off
 
 -- a task that has not moved does nothing there
 row_other : (edge : Edge) (rs : List Record) (task turn i : ℕ) → has_moved rs task ≡ false
@@ -260,10 +259,10 @@ row_other : (edge : Edge) (rs : List Record) (task turn i : ℕ) → has_moved r
 row_other edge rs task turn i stays here =
     let (own, says, moves) = edge_is edge rs i turn here in
     silent edge rs task turn i
-        (ap (is_turn task turn) says
-            ∙ ap (λ b. b && (turn == turn))
-                (ne_eqb own task
-                    (λ same. absurd (false≢true (sym stays ∙ ap (has_moved rs) (sym same) ∙ moves)))))
+    (ap (is_turn task turn) says
+    ∙ ap (λ b. b && (turn == turn))
+    (ne_eqb own task
+    (λ same. absurd (false≢true (sym stays ∙ ap (has_moved rs) (sym same) ∙ moves)))))
 
 -- one that moved does nothing elsewhere
 row_own : (edge : Edge) (rs : List Record) (task turn i : ℕ) → has_moved rs task ≡ true
@@ -277,15 +276,15 @@ row_own edge rs task turn i moves off = silent edge rs task turn i (of (at (edge
     of (Some b) e is = ap (is_turn task turn) e ∙ elim (cases_eq b.0 task) [
       | inl same ↦ ap (λ c. c && (b.1 == turn)) (eq-eqb b.0 task same)
           ∙ sym
-              (ap (λ c. option_map_or (λ t. t == turn) (cond c (Some b.1) None) false)
-                  (ap (has_moved rs) same ∙ moves))
-              ∙ is
+          (ap (λ c. option_map_or (λ t. t == turn) (cond c (Some b.1) None) false)
+          (ap (has_moved rs) same ∙ moves))
+          ∙ is
       | inr apart ↦ ap (λ c. c && (b.1 == turn)) (ne_eqb b.0 task apart)
     ]
 
 pub row_moves : (edge : Edge) (rs : List Record) (task turn : ℕ) (ks : List ℕ)
     → flat_map (edge_moves edge rs task turn) (filter (is_edge edge rs turn) ks)
-        ≡ cond (has_moved rs task) (flat_map (edge_moves edge rs task turn) ks) []
+    ≡ cond (has_moved rs task) (flat_map (edge_moves edge rs task turn) ks) []
 row_moves edge rs task turn ks = by (has_moved rs task) refl ks
   where
     f : ℕ → List (ℕ × Move)
@@ -323,7 +322,7 @@ pub row_edges : (edge : Edge) (rs : List Record) (turn : ℕ) (ks : List ℕ)
 row_edges edge rs turn ks = λ k d low.
     let row = filter (is_edge edge rs turn) ks in
     every_get (λ place. is_edge edge rs turn place ≡ true) row k (get_or row k d)
-        (every_passes (is_edge edge rs turn) ks) (slice_get-get_or row k d low)
+    (every_passes (is_edge edge rs turn) ks) (slice_get-get_or row k d low)
 
 -- ---- one turn more
 
@@ -342,14 +341,14 @@ turned_never rs n task stays = ap (λ b. cond b (flat_map (turn_moves rs task) (
 pub turned_more : (rs : List Record) (task turn : ℕ) (before : List (ℕ × Move)) (begins ends : List ℕ)
     → begins ≡ filter (is_edge Begins rs turn) (places rs) → ends ≡ filter (is_edge Ends rs turn) (places rs)
     → before ++ turned rs (turn + 1) task
-        ≡ (before ++ turned rs turn task ++ flat_map (edge_moves Begins rs task turn) begins)
-            ++ flat_map (edge_moves Ends rs task turn) ends
+    ≡ (before ++ turned rs turn task ++ flat_map (edge_moves Begins rs task turn) begins)
+    ++ flat_map (edge_moves Ends rs task turn) ends
 turned_more rs task turn before begins ends are are' =
     of (has_moved rs task)
     ∙ ap (λ l. (before ++ turned rs turn task ++ l) ++ cond (has_moved rs task) last [])
-        (sym (ap (flat_map (edge_moves Begins rs task turn)) are ∙ row_moves Begins rs task turn (places rs)))
+    (sym (ap (flat_map (edge_moves Begins rs task turn)) are ∙ row_moves Begins rs task turn (places rs)))
     ∙ ap (λ l. (before ++ turned rs turn task ++ flat_map (edge_moves Begins rs task turn) begins) ++ l)
-        (sym (ap (flat_map (edge_moves Ends rs task turn)) are' ∙ row_moves Ends rs task turn (places rs)))
+    (sym (ap (flat_map (edge_moves Ends rs task turn)) are' ∙ row_moves Ends rs task turn (places rs)))
   where
     first : List (ℕ × Move)
     first = flat_map (turn_starts_at rs task turn) (places rs)
@@ -362,12 +361,12 @@ turned_more rs task turn before begins ends are are' =
 
     of : (m : Bool)
         → before ++ cond m (turns (turn + 1)) []
-            ≡ (before ++ cond m (turns turn) [] ++ cond m first []) ++ cond m last []
+        ≡ (before ++ cond m (turns turn) [] ++ cond m first []) ++ cond m last []
     of true =
         ap (λ l. before ++ l)
-            (ap (flat_map (turn_moves rs task)) (range_more turn)
-                ∙ flat_map-append (turn_moves rs task) (range_with_len 0 turn) (turn ∷ [])
-                ∙ ap (λ l. turns turn ++ l) (append-nil (first ++ last)))
+        (ap (flat_map (turn_moves rs task)) (range_more turn)
+        ∙ flat_map-append (turn_moves rs task) (range_with_len 0 turn) (turn ∷ [])
+        ∙ ap (λ l. turns turn ++ l) (append-nil (first ++ last)))
         ∙ sym (append_assoc before (turns turn) (first ++ last))
-            ∙ sym (append_assoc (before ++ turns turn) first last)
+        ∙ sym (append_assoc (before ++ turns turn) first last)
     of false = sym (append-nil (before ++ [] ++ []) ∙ append-nil (before ++ []))

@@ -25,7 +25,6 @@ use Rattle.task_tree.specs.declared.run.ThreadEvent.TheVariants.{Scheduled, Root
 use Rattle.task_tree.proofs.SubjectLemmas.{call_task, call_none}
 use Rattle.task_states.specs.Walks.{after_event}
 
-
 -- ---- indices for tasks
 
 -- the indices are those of the tasks, one for one
@@ -80,9 +79,13 @@ uncalled_there f run i r stands calls =
 
 pub told_there : (run : RunView) (i : ℕ) (r : Record) (event : ThreadEvent) → slice_get run.records i ≡ Some r
     → IsThreadEvent run i event → Tells run.family.tasks r.body event
-told_there run i r (Scheduled event) stands is =
-    (is.task, is.follower, sym (at_get schedule run.records i r stands) ∙ is.says, is.indexed,
-        is.next_indexed)
+told_there run i r (Scheduled event) stands is = (
+  is.task,
+  is.follower,
+  sym (at_get schedule run.records i r stands) ∙ is.says,
+  is.indexed,
+  is.next_indexed,
+)
 told_there run i r (RootBegin index) stands is = called_there begun_root run i index r stands is
 told_there run i r (RootEnd index) stands is = called_there ended_root run i index r stands is
 told_there run i r (Running index) stands (none, no_begin, no_end, runs) = (
@@ -108,9 +111,9 @@ schedule_after : (w : Walk) (b : Body) (status : Status) (prior : ℕ) (next : O
     → after_body w b ≡ (if demands_next status then record { roots = w.roots; current = next } else w)
 schedule_after w (TaskSchedule s turns p n share) status prior next is =
     ap
-        (λ (t : Status × ℕ × Option ℕ).
-            if demands_next t.0 then record { roots = w.roots; current = t.2 } else w)
-        (same_Some (s, p, n) (status, prior, next) is)
+    (λ (t : Status × ℕ × Option ℕ).
+    if demands_next t.0 then record { roots = w.roots; current = t.2 } else w)
+    (same_Some (s, p, n) (status, prior, next) is)
 schedule_after w _ status prior next is = absurd (none-some (status, prior, next) is)
 
 pub begin_after : (w : Walk) (b : Body) (task : ℕ) → begun_root b ≡ Some task
@@ -141,7 +144,7 @@ indexed_after tasks walk w (Scheduled event) b (task, follower, says, indexed, n
   where
     by : (d : Bool)
         → IsIndexed tasks (if d then record { roots = walk.roots; current = event.next } else walk)
-            (if d then record { roots = w.roots; current = follower } else w)
+        (if d then record { roots = w.roots; current = follower } else w)
     by true = record { roots = is.roots; current = next }
     by false = is
 indexed_after tasks walk w (RootBegin index) b (task, says, stands) is =
@@ -180,9 +183,9 @@ stands_none run walks fresh = record {
       let P : Walk → Walk → Type 0 = IsIndexed run.family.tasks in
       let start = get_or-replicate 256 thread at_start at_start below in
       let mine : get_or walks thread at_start ≡ at_start =
-          ap (λ ws. get_or ws thread at_start) fresh ∙ start in
+      ap (λ ws. get_or ws thread at_start) fresh ∙ start in
       subst (λ w. P w (get_or (replicate 256 at_start) thread at_start)) (sym mine)
-          (subst (P at_start) (sym start) (record { roots = λ k. refl; current = refl }));
+      (subst (P at_start) (sym start) (record { roots = λ k. refl; current = refl }));
 }
 
 -- the thread of the record that stands there
@@ -196,40 +199,40 @@ goes_on : (run : RunView) (i thread : ℕ) (r : Record) (old new : List Walk) (n
     → i < length run.records → slice_get run.records i ≡ Some r → r.thread ≡ thread → thread < 256
     → AreStanding run i old → new ≡ set old thread next
     → ((w : Walk) → IsIndexed run.family.tasks (get_or old thread at_start) w
-          → IsIndexed run.family.tasks next (after_body w r.body))
+    → IsIndexed run.family.tasks next (after_body w r.body))
     → AreStanding run (i + 1) new
 goes_on run i thread r old new next within stands is_thread low are is more = record {
   all = ap length is ∙ length-set old thread next ∙ are.all;
   whole = set are.whole r.thread (after_body (get_or are.whole r.thread at_start) r.body);
   walked =
       walks_more run.records i r are.whole
-          (set are.whole r.thread (after_body (get_or are.whole r.thread at_start) r.body)) within
-          (sym (get_or_from_slice_get run.records i r r stands))
-          (let P : ℕ → Type 0 = λ t. t < 256 in subst P (sym is_thread) low) are.walked refl;
+      (set are.whole r.thread (after_body (get_or are.whole r.thread at_start) r.body)) within
+      (sym (get_or_from_slice_get run.records i r r stands))
+      (let P : ℕ → Type 0 = λ t. t < 256 in subst P (sym is_thread) low) are.walked refl;
   each = λ other below. elim (cases_eq other thread) [
     | inl same ↦
         let P : Walk → Walk → Type 0 = IsIndexed run.family.tasks in
         let mine : get_or new other at_start ≡ next =
-            ap (λ ws. get_or ws other at_start) is ∙ ap (λ t. get_or (set old thread next) t at_start) same
-                ∙ get_or-set_same old thread next at_start (rw are.all low) in
+        ap (λ ws. get_or ws other at_start) is ∙ ap (λ t. get_or (set old thread next) t at_start) same
+        ∙ get_or-set_same old thread next at_start (rw are.all low) in
         let after = after_body (get_or are.whole r.thread at_start) r.body in
         let theirs : get_or (set are.whole r.thread after) other at_start ≡ after =
-            ap (λ t. get_or (set are.whole r.thread after) t at_start) (same ∙ sym is_thread)
-                ∙ get_or-set_same are.whole r.thread after at_start (rw (are.walked.all, is_thread) low) in
+        ap (λ t. get_or (set are.whole r.thread after) t at_start) (same ∙ sym is_thread)
+        ∙ get_or-set_same are.whole r.thread after at_start (rw (are.walked.all, is_thread) low) in
         let here : P (get_or old thread at_start) (get_or are.whole r.thread at_start) =
-            subst (λ t. P (get_or old thread at_start) (get_or are.whole t at_start)) (sym is_thread)
-                (are.each thread low) in
+        subst (λ t. P (get_or old thread at_start) (get_or are.whole t at_start)) (sym is_thread)
+        (are.each thread low) in
         subst (λ w. P w (get_or (set are.whole r.thread after) other at_start)) (sym mine)
-            (subst (P next) (sym theirs) (more (get_or are.whole r.thread at_start) here))
+        (subst (P next) (sym theirs) (more (get_or are.whole r.thread at_start) here))
     | inr apart ↦
         let P : Walk → Walk → Type 0 = IsIndexed run.family.tasks in
         let after = after_body (get_or are.whole r.thread at_start) r.body in
         let mine : get_or new other at_start ≡ get_or old other at_start =
-            ap (λ ws. get_or ws other at_start) is ∙ get_or-set_other old thread other next at_start apart in
+        ap (λ ws. get_or ws other at_start) is ∙ get_or-set_other old thread other next at_start apart in
         let theirs : get_or (set are.whole r.thread after) other at_start ≡ get_or are.whole other at_start =
-            get_or-set_other are.whole r.thread other after at_start (λ e. apart (e ∙ is_thread)) in
+        get_or-set_other are.whole r.thread other after at_start (λ e. apart (e ∙ is_thread)) in
         subst (λ w. P w (get_or (set are.whole r.thread after) other at_start)) (sym mine)
-            (subst (P (get_or old other at_start)) (sym theirs) (are.each other below))
+        (subst (P (get_or old other at_start)) (sym theirs) (are.each other below))
   ];
 }
 
@@ -238,7 +241,7 @@ pub thread_low : (run : RunView) (i : ℕ) (r : Record) → IsRun run → slice_
 thread_low run i r is stands =
     let P : Record → Type 0 = λ q. q.thread < 256 in
     subst P (get_or_from_slice_get run.records i r r stands)
-        (is.trace.in_range i r (slice_get_within run.records i r stands)).thread
+    (is.trace.in_range i r (slice_get_within run.records i r stands)).thread
 
 pub stands_more : (run : RunView) (i thread : ℕ) (event : ThreadEvent) (old new : List Walk) → IsRun run
     → i < length run.records → thread_at run.records i ≡ Some thread → IsThreadEvent run i event
@@ -248,12 +251,12 @@ stands_more run i thread event old new is_run within runs tells are is =
     let (r, stands) = get_within run.records i within in
     let same = thread_there run i thread r stands runs in
     let low : thread < 256 =
-        let P : ℕ → Type 0 = λ t. t < 256 in subst P same (thread_low run i r is_run stands) in
+    let P : ℕ → Type 0 = λ t. t < 256 in subst P same (thread_low run i r is_run stands) in
     goes_on run i thread r old new (after_event (get_or old thread at_start) event) within stands same low are
-        is
+    is
     (λ w indexed.
-        indexed_after run.family.tasks (get_or old thread at_start) w event r.body
-            (told_there run i r event stands tells) indexed)
+    indexed_after run.family.tasks (get_or old thread at_start) w event r.body
+    (told_there run i r event stands tells) indexed)
 
 -- a record that says nothing of them leaves all walks as they are
 pub stands_still : (run : RunView) (i : ℕ) (walks : List Walk) → IsRun run → i < length run.records
@@ -266,11 +269,11 @@ stands_still run i walks is_run within nothing are = still (get_within run.recor
       whole = set are.whole r.thread after;
       walked =
           walks_more run.records i r are.whole (set are.whole r.thread after) within
-              (sym (get_or_from_slice_get run.records i r r stands)) low are.walked refl;
+          (sym (get_or_from_slice_get run.records i r r stands)) low are.walked refl;
       each =
           λ other below.
-              let P : Walk → Type 0 = IsIndexed run.family.tasks (get_or walks other at_start) in
-              subst P (sym (stays other)) (are.each other below);
+          let P : Walk → Type 0 = IsIndexed run.family.tasks (get_or walks other at_start) in
+          subst P (sym (stays other)) (are.each other below);
     }
       where
         after : Walk
@@ -289,8 +292,8 @@ stands_still run i walks is_run within nothing are = still (get_within run.recor
         stays other = elim (cases_eq other r.thread) [
           | inl same ↦
               ap (λ t. get_or (set are.whole r.thread after) t at_start) same
-                  ∙ get_or-set_same are.whole r.thread after at_start (rw are.walked.all low) ∙ quiet
-                  ∙ ap (λ t. get_or are.whole t at_start) (sym same)
+              ∙ get_or-set_same are.whole r.thread after at_start (rw are.walked.all low) ∙ quiet
+              ∙ ap (λ t. get_or are.whole t at_start) (sym same)
           | inr apart ↦ get_or-set_other are.whole r.thread other after at_start apart
         ]
 
@@ -301,5 +304,5 @@ pub indexed_read : (run : RunView) (i thread : ℕ) (walks : List Walk) (walk : 
 indexed_read run i thread walks walk low are read =
     let P : Walk → Walk → Type 0 = IsIndexed run.family.tasks in
     subst (λ v. P v (walk_of thread (take i run.records)))
-        (sym (walk_is walks thread walk (rw are.all low) read))
-        (subst (P (get_or walks thread at_start)) (are.walked.each thread low) (are.each thread low))
+    (sym (walk_is walks thread walk (rw are.all low) read))
+    (subst (P (get_or walks thread at_start)) (are.walked.each thread low) (are.each thread low))

@@ -45,7 +45,7 @@ key_places f [] = refl
 key_places f (i ∷ l) = ap (λ m. i ∷ m) (key_places f l)
 
 key_turns : (f g : ℕ → ℕ) (l : List ℕ) → Every (λ i. f i ≡ g i) l
-    → Every (λ (key : ℕ × ℕ). key.0 ≡ g key.1) (map { B = ℕ × ℕ } (λ i. (f i, i)) l)
+    → Every (λ (key : ℕ × ℕ). key.0 ≡ g key.1) (map {B = ℕ × ℕ} (λ i. (f i, i)) l)
 key_turns f g [] each = tt
 key_turns f g (i ∷ l) each = (each.0, key_turns f g l each.1)
 
@@ -61,14 +61,14 @@ read_key keys n i is = by (slice_get keys n) refl (sym (slice_get-map (λ (key :
 
 pub sorted_is_own : (rs : List Record) (turns : List ℕ) (keys sorted : List (ℕ × ℕ)) (ordered : List ℕ)
     → AreTurns rs turns
-    → keys ≡ map { B = ℕ × ℕ } (λ i. (slice_index turns i, i)) (range_with_len 0 (length turns))
+    → keys ≡ map {B = ℕ × ℕ} (λ i. (slice_index turns i, i)) (range_with_len 0 (length turns))
     → IsPermutation keys sorted → IsSorted pair_cmp sorted → ordered ≡ map (λ (key : ℕ × ℕ). key.1) sorted
     → ordered ≡ own_places rs
 sorted_is_own rs turns keys sorted ordered are keys_are moved in_order read =
     ranked_equal (Comes (turn_at rs)) (not_both rs) ordered (own_places rs)
-        (ranked_from (Comes (turn_at rs)) ordered comes) (own_ranked rs)
+    (ranked_from (Comes (turn_at rs)) ordered comes) (own_ranked rs)
     (IsPermutation-trans ordered (places rs) (own_places rs) (IsPermutation-sym (places rs) ordered permuted)
-        (own_permuted rs))
+    (own_permuted rs))
   where
     all : range_with_len 0 (length turns) ≡ places rs
     all = ap (range_with_len 0) (turns_length rs turns are)
@@ -76,7 +76,7 @@ sorted_is_own rs turns keys sorted ordered are keys_are moved in_order read =
     back : map (λ (key : ℕ × ℕ). key.1) keys ≡ places rs
     back =
         ap (map (λ (key : ℕ × ℕ). key.1)) keys_are
-            ∙ key_places (slice_index turns) (range_with_len 0 (length turns)) ∙ all
+        ∙ key_places (slice_index turns) (range_with_len 0 (length turns)) ∙ all
 
     permuted : IsPermutation (places rs) ordered
     permuted = rw (sym back, read) (IsPermutation-map (λ (key : ℕ × ℕ). key.1) keys sorted moved)
@@ -84,18 +84,18 @@ sorted_is_own rs turns keys sorted ordered are keys_are moved in_order read =
     right : Every (λ (key : ℕ × ℕ). key.0 ≡ turn_at rs key.1) keys
     right =
         rw (keys_are, all)
-            (key_turns (slice_index turns) (turn_at rs) (places rs)
-                (every_weaker (λ i. i < 0 + length rs) (λ i. slice_index turns i ≡ turn_at rs i)
-                    (λ i below. turns_index rs turns i are (omega arith)) (places rs)
-                    (row_below 0 (length rs))))
+        (key_turns (slice_index turns) (turn_at rs) (places rs)
+        (every_weaker (λ i. i < 0 + length rs) (λ i. slice_index turns i ≡ turn_at rs i)
+        (λ i below. turns_index rs turns i are (omega arith)) (places rs)
+        (row_below 0 (length rs))))
 
     -- the first number of each key is the turn at the second
     turn_of_key : (n : ℕ) (key : ℕ × ℕ) → slice_get sorted n ≡ Some key → key.0 ≡ turn_at rs key.1
     turn_of_key n key is =
         let there =
-            contains_get keys key
-                (Contains-permutation sorted keys key (IsPermutation-sym keys sorted moved)
-                    (get_contains sorted key n is)) in
+        contains_get keys key
+        (Contains-permutation sorted keys key (IsPermutation-sym keys sorted moved)
+        (get_contains sorted key n is)) in
         every_get (λ (k : ℕ × ℕ). k.0 ≡ turn_at rs k.1) keys there.0 key right there.1
 
     comes : (a b i k : ℕ) → a < b → slice_get ordered a ≡ Some i → slice_get ordered b ≡ Some k
@@ -111,13 +111,14 @@ sorted_is_own rs turns keys sorted ordered are keys_are moved in_order read =
         let place = p.2 in
         let later = q.2 in
         elim
-            (pair_order p.0 q.0 (sorted_order sorted in_order a b p.0 q.0 less p.1 q.1)
-                (λ e. differ (sym place ∙ e ∙ later))) [
+        (pair_order p.0 q.0 (sorted_order sorted in_order a b p.0 q.0 less p.1 q.1)
+        (λ e. differ (sym place ∙ e ∙ later))) [
           | inl below ↦ inl (omega (arith, below, one_turn, other_turn, first, second))
           | inr (same, below) ↦
-              inr
-                  (omega (arith, same, one_turn, other_turn, first, second),
-                      omega (arith, below, place, later))
+              inr (
+                omega (arith, same, one_turn, other_turn, first, second),
+                omega (arith, below, place, later),
+              )
         ]
 
 -- ---- the numbers by place
@@ -131,7 +132,7 @@ own_apart rs ordered is = record {
       omega (arith, within, long);
   apart = λ number other place one another.
       sym (own_place_of rs number place (ap (λ l. slice_get l number) (sym is) ∙ one))
-          ∙ own_place_of rs other place (ap (λ l. slice_get l other) (sym is) ∙ another);
+      ∙ own_place_of rs other place (ap (λ l. slice_get l other) (sym is) ∙ another);
 }
 
 -- the numbers by place and the places by number are inverse
@@ -155,10 +156,10 @@ are_inverse rs ordered numbers is are = record {
 
 -- one key more
 pub key_pushed : (turns : List ℕ) (n turn : ℕ) (old new : List (ℕ × ℕ))
-    → old ≡ map { B = ℕ × ℕ } (λ at. (slice_index turns at, at)) (range_with_len 0 n)
+    → old ≡ map {B = ℕ × ℕ} (λ at. (slice_index turns at, at)) (range_with_len 0 n)
     → turn ≡ slice_index turns n → new ≡ old ++ (turn, n) ∷ []
-    → new ≡ map { B = ℕ × ℕ } (λ at. (slice_index turns at, at)) (range_with_len 0 (n + 1))
+    → new ≡ map {B = ℕ × ℕ} (λ at. (slice_index turns at, at)) (range_with_len 0 (n + 1))
 key_pushed turns n turn old new are is pushed =
     let f : ℕ → ℕ × ℕ = λ at. (slice_index turns at, at) in
     pushed ∙ ap (λ l. l ++ (turn, n) ∷ []) are ∙ ap (λ (t : ℕ). map f (range_with_len 0 n) ++ (t, n) ∷ []) is
-        ∙ sym (map-range_with_len_more f 0 n n (omega arith))
+    ∙ sym (map-range_with_len_more f 0 n n (omega arith))

@@ -48,9 +48,9 @@ all_arranged P rs all k d below =
     let same = slice_get-get_or rs i d within in
     let here = slice_get-get_or (in_own_order rs) k d below in
     subst P
-        (same_Some (slice_index_or rs i d) (slice_index_or (in_own_order rs) k d)
-            (sym same ∙ sym (arranged_at rs k i there.1) ∙ here))
-        (all i d within)
+    (same_Some (slice_index_or rs i d) (slice_index_or (in_own_order rs) k d)
+    (sym same ∙ sym (arranged_at rs k i there.1) ∙ here))
+    (all i d within)
 
 summed : {X : Type 0} (f : X → ℕ) (x : X) (xs : List X) → sum_by f (x ∷ xs) ≡ f x + sum_by f xs
 summed f x xs = sum_by-append f (x ∷ []) xs ∙ ap (λ n. n + sum_by f xs) (zero-add (f x))
@@ -61,23 +61,23 @@ sum_places : (f : Record → ℕ) (rs : List Record) (xs : List ℕ)
 sum_places f rs [] = refl
 sum_places f rs (i ∷ xs) =
     of (slice_get rs i) refl (sum_places f rs xs)
-        ∙ sym (summed (λ k. option_map_or f (slice_get rs k) 0) i xs)
+    ∙ sym (summed (λ k. option_map_or f (slice_get rs k) 0) i xs)
   where
     of : (o : Option Record) → slice_get rs i ≡ o
         → sum_by f (filter_map (slice_get rs) xs) ≡ sum_by (λ k. option_map_or f (slice_get rs k) 0) xs
         → sum_by f (filter_map (slice_get rs) (i ∷ xs))
-            ≡ option_map_or f (slice_get rs i) 0 + sum_by (λ k. option_map_or f (slice_get rs k) 0) xs
+        ≡ option_map_or f (slice_get rs i) 0 + sum_by (λ k. option_map_or f (slice_get rs k) 0) xs
     of None e rest =
         let sum = sum_by (λ k. option_map_or f (slice_get rs k) 0) xs in
         ap (sum_by f) (kept e) ∙ rest ∙ sym (zero-add sum)
-            ∙ ap (λ (o : Option Record). option_map_or f o 0 + sum) (sym e)
+        ∙ ap (λ (o : Option Record). option_map_or f o 0 + sum) (sym e)
       where
         kept : slice_get rs i ≡ None → filter_map (slice_get rs) (i ∷ xs) ≡ filter_map (slice_get rs) xs
         kept e = rw e refl
     of (Some r) e rest =
         let sum = sum_by (λ k. option_map_or f (slice_get rs k) 0) xs in
         ap (sum_by f) (more e) ∙ summed f r (filter_map (slice_get rs) xs) ∙ ap (λ n. f r + n) rest
-            ∙ ap (λ (o : Option Record). option_map_or f o 0 + sum) (sym e)
+        ∙ ap (λ (o : Option Record). option_map_or f o 0 + sum) (sym e)
       where
         more : slice_get rs i ≡ Some r → filter_map (slice_get rs) (i ∷ xs) ≡ r ∷ filter_map (slice_get rs) xs
         more e = rw e refl
@@ -97,8 +97,8 @@ all_places rs = first (length rs) (omega arith) ∙ take_all (length rs) rs (ome
     range_more : (n : ℕ) → range_with_len 0 (suc n) ≡ range_with_len 0 n ++ n ∷ []
     range_more n =
         ap (range_with_len 0) (next n) ∙ sym (map-id (range_with_len 0 (n + 1)))
-            ∙ map-range_with_len_more (λ (i : ℕ). i) 0 n n (omega arith)
-            ∙ ap (λ l. l ++ n ∷ []) (map-id (range_with_len 0 n))
+        ∙ map-range_with_len_more (λ (i : ℕ). i) 0 n n (omega arith)
+        ∙ ap (λ l. l ++ n ∷ []) (map-id (range_with_len 0 n))
 
     first : (n : ℕ) → n ≤ length rs → filter_map (slice_get rs) (range_with_len 0 n) ≡ take n rs
     first zero most = refl
@@ -210,9 +210,9 @@ pub arranged_rooted : (rs : List Record) → IsFreeOf rs Rootless → IsFreeOf (
 arranged_rooted rs free n (rootless (unmade task (r, stands, among) none)) =
     let there = placed rs n (rw (arranged_length rs) at (slice_get_within (in_own_order rs) n r stands)) in
     free there.0
-        (rootless
-            (unmade task (r, sym (arranged_at rs n there.0 there.1) ∙ stands, among)
-                (λ is. none (said_there made rs is.0 task is.1))))
+    (rootless
+    (unmade task (r, sym (arranged_at rs n there.0 there.1) ∙ stands, among)
+    (λ is. none (said_there made rs is.0 task is.1))))
 arranged_rooted rs free n (rootless (unrooted task creates none)) =
     let here = said_here created rs n task creates in
     free here.0 (rootless (unrooted task here.2 (λ rooted. none (rooted_there rs rooted))))
@@ -228,14 +228,14 @@ arranged_rooted rs free n (rootless (no_region parallel says none)) =
 pub accepted_arranged : (rs copies : List Record) (result : Result Trace (Vec Record × ℕ))
     → copies ≡ in_own_order rs → IsTraceOf 2 rs
     → IfErr result
-        (λ (refusal : Vec Record × ℕ). (refusal.0.items ≡ copies) × IsFirstRefused 2 copies refusal.1)
+    (λ (refusal : Vec Record × ℕ). (refusal.0.items ≡ copies) × IsFirstRefused 2 copies refusal.1)
     → IsOk result
 accepted_arranged rs copies (Ok trace) are is refused = refl
 accepted_arranged rs copies (Err refusal) are is refused =
     let P : List Record → Type 0 = IsTraceOf 2 in
     absurd
-        (refused.1.refused
-            (IsTraceOf-take 2 (refusal.1 + 1) copies (subst P (sym are) (arranged_trace 2 rs is))))
+    (refused.1.refused
+    (IsTraceOf-take 2 (refusal.1 + 1) copies (subst P (sym are) (arranged_trace 2 rs is))))
 
 -- and their family fails for memory alone
 pub memory_arranged : (rs copies : List Record) (fault : Fault) → copies ≡ in_own_order rs

@@ -26,7 +26,7 @@ blind_at {X} f blind rs i ss j alike =
   where
     through : (o : Option Record)
         → option_and_then f (option_and_then (λ (r : Record). Some (untold r.body)) o)
-            ≡ option_and_then (λ (r : Record). f r.body) o
+        ≡ option_and_then (λ (r : Record). f r.body) o
     through None = refl
     through (Some r) = blind r.body
 

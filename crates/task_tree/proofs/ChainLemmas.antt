@@ -15,7 +15,7 @@ replicate_get n i a x is =
     let within = slice_get_within (replicate n a) i x is in
     let long = length-replicate n a in
     sym (get_or_from_slice_get (replicate n a) i x a is)
-        ∙ get_or-replicate n i a a (omega (arith, within, long))
+    ∙ get_or-replicate n i a a (omega (arith, within, long))
 
 pub thread_within : (rs : List Record) (i thread : ℕ) → thread_at rs i ≡ Some thread → i < length rs
 thread_within rs i thread is = by (slice_get rs i) refl
@@ -34,7 +34,7 @@ chains_none rs firsts nexts begin links = record {
       λ i thread low is. let within = thread_within rs i thread is in absurd (omega (arith, low, within));
   begin = λ thread place is.
       let at_end =
-          replicate_get 256 thread (length rs) place (sym (ap (λ l. slice_get l thread) begin) ∙ is) in
+      replicate_get 256 thread (length rs) place (sym (ap (λ l. slice_get l thread) begin) ∙ is) in
       record {
         behind = omega (arith, at_end);
         within = omega (arith, at_end);
@@ -43,7 +43,7 @@ chains_none rs firsts nexts begin links = record {
       };
   goes_on =
       λ i thread place low is.
-          let within = thread_within rs i thread is in absurd (omega (arith, low, within));
+      let within = thread_within rs i thread is in absurd (omega (arith, low, within));
 }
 
 -- one record earlier
@@ -60,9 +60,9 @@ chains_more rs i here next firsts nexts is_here small are first = record {
   begin = λ thread place is. elim (cases_eq thread here) [
     | inl same ↦
         let there : place ≡ i =
-            same_Some place i
-                (sym is ∙ ap (slice_get (set firsts here i)) same
-                    ∙ get_set_same firsts here i (let long = are.threads in omega (arith, long, small))) in
+        same_Some place i
+        (sym is ∙ ap (slice_get (set firsts here i)) same
+        ∙ get_set_same firsts here i (let long = are.threads in omega (arith, long, small))) in
         record {
           behind = omega (arith, there);
           within = omega (arith, there, inside);
@@ -71,22 +71,22 @@ chains_more rs i here next firsts nexts is_here small are first = record {
         }
     | inr apart ↦
         earlier thread place apart
-            (are.begin thread place (sym (get_set_other firsts here thread i apart) ∙ is))
+        (are.begin thread place (sym (get_set_other firsts here thread i apart) ∙ is))
   ];
   goes_on = λ k thread place low by_thread is. elim (cases_eq k i) [
     | inl same ↦
         let place_is : next ≡ place =
-            same_Some next place
-                (sym (get_set_same nexts i next (let long = are.all in omega (arith, long, inside)))
-                    ∙ ap (slice_get (set nexts i next)) (sym same) ∙ is) in
+        same_Some next place
+        (sym (get_set_same nexts i next (let long = are.all in omega (arith, long, inside)))
+        ∙ ap (slice_get (set nexts i next)) (sym same) ∙ is) in
         let thread_is = own thread (ap (thread_at rs) (sym same) ∙ by_thread) in
         let after : i + 1 ≡ k + 1 = ap (λ n. n + 1) (sym same) in
         subst (λ n. IsFirstFrom rs thread n place) after
-            (subst (IsFirstFrom rs thread (i + 1)) place_is
-                (subst (λ t. IsFirstFrom rs t (i + 1) next) (sym thread_is) (are.begin here next first)))
+        (subst (IsFirstFrom rs thread (i + 1)) place_is
+        (subst (λ t. IsFirstFrom rs t (i + 1) next) (sym thread_is) (are.begin here next first)))
     | inr apart ↦
         are.goes_on k thread place (omega (arith, low, apart)) by_thread
-            (sym (get_set_other nexts i k next apart) ∙ is)
+        (sym (get_set_other nexts i k next apart) ∙ is)
   ];
 }
   where

@@ -36,7 +36,7 @@ climbing_more rs family root index steps d whole path link are long short is sam
   numbers = climbing.numbers ++ link.number ∷ [];
   climbed =
       climb_more rs family root index steps whole climbing.numbers link are climbing.climbed
-          (omega (arith, long, short)) is;
+      (omega (arith, long, short)) is;
   same =
       let k : ℕ = length path - 1 - steps in
       let before : suc k ≡ length path - steps = omega (arith, short) in
@@ -56,20 +56,20 @@ pub climbing_other : (rs : List Record) (family : FamilyView) (root index steps 
     → IsClimbing rs family.tasks root whole path steps index → whole ≡ path → ⊥
 climbing_other rs family root index steps d whole path link are long short is other climbing equal =
     let climbed =
-        climb_more rs family root index steps whole climbing.numbers link are climbing.climbed
-            (omega (arith, long, short)) is in
+    climb_more rs family root index steps whole climbing.numbers link are climbing.climbed
+    (omega (arith, long, short)) is in
     let passed : climbed.passed ≡ link.number ∷ reverse climbing.numbers =
-        sym (reverse-reverse climbed.passed) ∙ ap reverse (sym climbed.reversed)
-            ∙ reverse-append climbing.numbers (link.number ∷ []) in
+    sym (reverse-reverse climbed.passed) ∙ ap reverse (sym climbed.reversed)
+    ∙ reverse-append climbing.numbers (link.number ∷ []) in
     let parts : path ≡ climbed.up ++ link.number ∷ reverse climbing.numbers =
-        sym equal ∙ climbed.parts ∙ ap (λ l. climbed.up ++ l) passed in
+    sym equal ∙ climbed.parts ∙ ap (λ l. climbed.up ++ l) passed in
     let all = climbed.all in
     let sum : length whole ≡ length climbed.up + length climbed.passed =
-        ap length climbed.parts ∙ length-append climbed.up climbed.passed in
+    ap length climbed.parts ∙ length-append climbed.up climbed.passed in
     let there : length climbed.up ≡ length path - 1 - steps = omega (arith, all, sum, long, short) in
     other
-        (sym (get_mid climbed.up (reverse climbing.numbers) link.number d)
-            ∙ ap (λ l. get_or l (length climbed.up) d) (sym parts) ∙ ap (λ j. get_or path j d) there)
+    (sym (get_mid climbed.up (reverse climbing.numbers) link.number d)
+    ∙ ap (λ l. get_or l (length climbed.up) d) (sym parts) ∙ ap (λ j. get_or path j d) there)
 
 pub climbing_link : (rs : List Record) (family : FamilyView) (root index steps : ℕ) (whole path : List ℕ)
     → IsFamilyOf rs family → length whole ≡ length path → steps < length path
@@ -77,7 +77,7 @@ pub climbing_link : (rs : List Record) (family : FamilyView) (root index steps :
     → (link : Link) × (slice_get family.links index ≡ Some (Some link))
 climbing_link rs family root index steps whole path are long short climbing =
     climb_link rs family root index steps whole climbing.numbers are climbing.climbed
-        (omega (arith, long, short))
+    (omega (arith, long, short))
 
 -- ---- where a task stands
 
@@ -110,7 +110,7 @@ pub path_by : (rs : List Record) (family : FamilyView) (index task root : ℕ) (
     → ((s : Standing) → (found ≡ Some s) ↔ (slice_get family.roots index ≡ Some (Some s)))
     → found ≡ Some standing → standing.root ≡ root → standing.depth ≡ length path
     → ((r : ℕ) (whole : List ℕ) → HasPath rs r task whole → length whole ≡ length path
-          → IsTrue climbs ↔ (whole ≡ path))
+    → IsTrue climbs ↔ (whole ≡ path))
     → IsTrue climbs ↔ HasPath rs root task path
 path_by rs family index task root path found standing climbs are here told is own deep same =
     let known = root_known rs family task index are here in
@@ -118,6 +118,6 @@ path_by rs family index task root path found standing climbs are here told is ow
     let way = same known.0 known.1 known.2 (sym there.1 ∙ deep) in (
       λ yes.
           subst (λ p. HasPath rs root task p) (way.0 yes)
-              (subst (λ r. HasPath rs r task known.1) (sym there.0 ∙ own) known.2),
+          (subst (λ r. HasPath rs r task known.1) (sym there.0 ∙ own) known.2),
       λ stands. way.1 (one_path rs known.0 root task known.1 path are.once known.2 stands).1,
     )

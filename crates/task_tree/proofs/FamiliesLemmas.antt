@@ -42,11 +42,11 @@ file_all_places rs = record {
   all = length-range_with_len 0 (length rs);
   below =
       λ number place is.
-          let e = file_place rs number place is in let b = within rs number place is in omega (arith, e, b);
+      let e = file_place rs number place is in let b = within rs number place is in omega (arith, e, b);
   each = λ place below. (place, range_get (length rs) place below);
   apart =
       λ number other place one another.
-          file_place rs number place one ∙ sym (file_place rs other place another);
+      file_place rs number place one ∙ sym (file_place rs other place another);
 }
 
 -- so the order of a trace has each place once
@@ -60,8 +60,8 @@ pub own_order_all : (rs : List Record) (arranged : Option RunView) (run : RunVie
 own_order_all rs arranged run order some (as_in_file rise) = absurd (none-some run some)
 own_order_all rs arranged run order some (by_turn {run = own} is same) =
     let long : length run.records ≡ length rs =
-        ap (λ (r : RunView). length r.records) (sym (same_Some own run some)) ∙ ap length same
-            ∙ arranged_length rs in
+    ap (λ (r : RunView). length r.records) (sym (same_Some own run some)) ∙ ap length same
+    ∙ arranged_length rs in
     let P : ℕ → Type 0 = AreAllPlaces (own_places rs) in
     subst P (sym long) (own_all_places rs)
 
@@ -79,9 +79,9 @@ arranged_members rs number other first second less one another at_first at_secon
     let a = own_place_of rs number first at_first in
     let b = own_place_of rs other second at_second in
     elim
-        ((own_order rs first second (own_within rs number first at_first)
-             (own_within rs other second at_second)).0
-            (omega (arith, less, a, b))) [
+    ((own_order rs first second (own_within rs number first at_first)
+    (own_within rs other second at_second)).0
+    (omega (arith, less, a, b))) [
       | inl earlier ↦ absurd (omega (arith, earlier, zero_second))
       | inr same ↦ same.1
     ]
@@ -100,7 +100,7 @@ own_order_members rs arranged run order some (as_in_file rise) = absurd (none-so
 own_order_members rs arranged run order some (by_turn {run = own} is same) =
     let P : List Record → Type 0 = λ records. KeepsMembers records (own_places rs) in
     subst P (sym (ap (λ (r : RunView). r.records) (sym (same_Some own run some)) ∙ same))
-        (arranged_members rs)
+    (arranged_members rs)
 
 -- ---- the families of a trace
 
@@ -138,8 +138,8 @@ copied_more rs copies pushed order number place copy are stands is more =
     ∙ ap (λ l. filter_map (slice_get rs) (take number order) ++ l) (sym one)
     ∙ sym (filter_map-append (slice_get rs) (take number order) (place ∷ []))
     ∙ ap (filter_map (slice_get rs))
-        (ap (λ p. take number order ++ p ∷ []) (sym (get_or_from_slice_get order number place 0 stands))
-            ∙ sym (take_more order number 0 (slice_get_within order number place stands)))
+    (ap (λ p. take number order ++ p ∷ []) (sym (get_or_from_slice_get order number place 0 stands))
+    ∙ sym (take_more order number 0 (slice_get_within order number place stands)))
   where
     one : filter_map (slice_get rs) (place ∷ []) ≡ copy ∷ []
     one = rw is refl

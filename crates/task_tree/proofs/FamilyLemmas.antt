@@ -42,20 +42,20 @@ root_no_child : (rs : List Record) (root parent number : ℕ) → IsFreeOf rs Cr
 root_no_child rs root parent number free (i, begins) is =
     let place = child_place rs parent (length rs) number root is in
     let same : i ≡ place.0 =
-        made_once rs root i place.0 free (begun_at_made root rs i begins)
-            (creation_made rs parent root place.0 place.2) in
+    made_once rs root i place.0 free (begun_at_made root rs i begins)
+    (creation_made rs parent root place.0 place.2) in
     root_not_created rs i root parent begins (ap (at creation rs) same ∙ place.2)
 
 -- and so are its root and its path
 pub one_path : (rs : List Record) (root other task : ℕ) (path another : List ℕ) → IsFreeOf rs CreatedTwice
     → HasPath rs root task path → HasPath rs other task another → (root ≡ other) × (path ≡ another)
 one_path rs root other task path another free (top is) (top is') = (refl, refl)
-one_path rs root other task path another free (top is) (below number { parent = parent } stands child) =
+one_path rs root other task path another free (top is) (below number {parent = parent} stands child) =
     absurd (root_no_child rs task parent number free is child)
-one_path rs root other task path another free (below number { parent = parent } stands child) (top is) =
+one_path rs root other task path another free (below number {parent = parent} stands child) (top is) =
     absurd (root_no_child rs task parent number free is child)
-one_path rs root other task path another free (below number { parent = parent } { path = up } stands child)
-    (below number' { parent = parent' } { path = up' } stands' child') =
+one_path rs root other task path another free (below number {parent = parent} {path = up} stands child)
+    (below number' {parent = parent'} {path = up'} stands' child') =
     let same = one_number rs task parent parent' number number' free child child' in
     let P : ℕ → Type 0 = λ p. HasPath rs other p up' in
     let above = one_path rs root other parent up up' free stands (subst P (sym same.0) stands') in
@@ -77,13 +77,13 @@ parent_noted rs tasks i parent task noted free creates = elim (contains_or_not t
   | inl has ↦ has
   | inr none ↦
       absurd
-          (free i
-              (rootless
-                  (unmade parent (there (slice_get rs i) refl creates)
-                      (λ is_made.
-                          none
-                              (noted.each is_made.0 parent (at_within made rs is_made.0 parent is_made.1)
-                                  is_made.1)))))
+      (free i
+      (rootless
+      (unmade parent (there (slice_get rs i) refl creates)
+      (λ is_made.
+      none
+      (noted.each is_made.0 parent (at_within made rs is_made.0 parent is_made.1)
+      is_made.1)))))
 ]
   where
     there : (o : Option Record) → slice_get rs i ≡ o
@@ -101,11 +101,11 @@ pub link_found : (rs : List Record) (family : FamilyView) (i parent task : ℕ) 
 link_found rs family i parent task are creates =
     let within = at_within creation rs i (parent, task) creates in
     let index =
-        contains_get family.tasks task
-            (are.noted.each i task within (creation_made rs parent task i creates)) in
+    contains_get family.tasks task
+    (are.noted.each i task within (creation_made rs parent task i creates)) in
     let up =
-        contains_get family.tasks parent
-            (parent_noted rs family.tasks i parent task are.noted are.rooted creates) in
+    contains_get family.tasks parent
+    (parent_noted rs family.tasks i parent task are.noted are.rooted creates) in
     let found = are.links.linked i parent task index.0 up.0 within creates index.1 up.1 in
     (found.0, (index.0, index.1, found.1), ap (slice_get family.tasks) found.2 ∙ up.1)
 
@@ -118,7 +118,7 @@ link_child rs family task link are (index, is, stands) = are.links.only index ta
 pub parent_is : (rs : List Record) (family : FamilyView) (task : ℕ) (found : Option Link)
     → IsFamilyOf rs family → ((link : Link) → (found ≡ Some link) ↔ IsLinkOf family task link) → (parent : ℕ)
     → (option_and_then (λ (l : Link). slice_get family.tasks l.parent) found ≡ Some parent)
-        ↔ IsParent rs parent task
+    ↔ IsParent rs parent task
 parent_is rs family task found are is parent = (to found refl, from)
   where
     to : (o : Option Link) → found ≡ o
@@ -139,7 +139,7 @@ parent_is rs family task found are is parent = (to found refl, from)
 pub number_is : (rs : List Record) (family : FamilyView) (task : ℕ) (found : Option Link)
     → IsFamilyOf rs family → ((link : Link) → (found ≡ Some link) ↔ IsLinkOf family task link) → (number : ℕ)
     → (option_map (λ (l : Link). l.number) found ≡ Some number)
-        ↔ ((parent : ℕ) × IsChild rs parent number task)
+    ↔ ((parent : ℕ) × IsChild rs parent number task)
 number_is rs family task found are is number = (to found refl, from)
   where
     to : (o : Option Link) → found ≡ o → option_map (λ (l : Link). l.number) o ≡ Some number
@@ -172,17 +172,17 @@ pub standing_is : (rs : List Record) (family : FamilyView) (task : ℕ) (found :
     → ((standing : Standing) → (found ≡ Some standing) ↔ IsStandingOf family task standing)
     → (root : ℕ) (path : List ℕ) → HasPath rs root task path
     → (standing : Standing) × (found ≡ Some standing) × (standing.root ≡ root)
-        × (standing.depth ≡ length path)
+    × (standing.depth ≡ length path)
 standing_is rs family task found are is root path stands =
     let index = contains_get family.tasks task (path_noted rs family.tasks root task path are.noted stands) in
     let within = slice_get_within family.tasks index.0 task index.1 in
     from index.0 index.1 (get_or family.roots index.0 None)
-        (slice_get-get_or family.roots index.0 None (omega (arith, within, are.roots.all)))
+    (slice_get-get_or family.roots index.0 None (omega (arith, within, are.roots.all)))
   where
     from : (index : ℕ) → slice_get family.tasks index ≡ Some task → (o : Option Standing)
         → slice_get family.roots index ≡ Some o
         → (standing : Standing) × (found ≡ Some standing) × (standing.root ≡ root)
-            × (standing.depth ≡ length path)
+        × (standing.depth ≡ length path)
     from index is_task None e =
         absurd (are.roots.unrooted index task is_task e (path_rooted rs root task path stands))
     from index is_task (Some standing) e =
@@ -194,7 +194,7 @@ pub root_is : (rs : List Record) (family : FamilyView) (task : ℕ) (found : Opt
     → IsFamilyOf rs family
     → ((standing : Standing) → (found ≡ Some standing) ↔ IsStandingOf family task standing) → (root : ℕ)
     → (option_map (λ (s : Standing). s.root) found ≡ Some root)
-        ↔ ((path : List ℕ) × HasPath rs root task path)
+    ↔ ((path : List ℕ) × HasPath rs root task path)
 root_is rs family task found are is root = (to found refl, from)
   where
     to : (o : Option Standing) → found ≡ o → option_map (λ (s : Standing). s.root) o ≡ Some root
@@ -238,19 +238,20 @@ table_at tasks table task index found is read x = (
 pub standing_here : (rs : List Record) (family : FamilyView) (index task : ℕ) (found : Option Standing)
     → IsFamilyOf rs family → slice_get family.tasks index ≡ Some task
     → ((standing : Standing)
-          → (found ≡ Some standing) ↔ (slice_get family.roots index ≡ Some (Some standing)))
+    → (found ≡ Some standing) ↔ (slice_get family.roots index ≡ Some (Some standing)))
     → (root : ℕ) (path : List ℕ) → HasPath rs root task path
     → (standing : Standing) × (found ≡ Some standing) × (standing.root ≡ root)
-        × (standing.depth ≡ length path)
+    × (standing.depth ≡ length path)
 standing_here rs family index task found are here read root path stands =
     standing_is rs family task found are
-        (table_at family.tasks family.roots task index found
-            (λ k.
-                (λ same.
-                    ap (slice_get family.tasks) (sym (same_Some index k same)) ∙ here,
-                        λ is. ap Some (are.makers.apart index k task here is)))
-            read)
-        root path stands
+    (table_at family.tasks family.roots task index found
+    (λ k. (
+      λ same.
+          ap (slice_get family.tasks) (sym (same_Some index k same)) ∙ here,
+      λ is. ap Some (are.makers.apart index k task here is),
+    ))
+    read)
+    root path stands
 
 -- the tasks stand in the order in which they are made
 pub in_file_order : (rs : List Record) (tasks places : List ℕ) → AreMade rs (length rs) tasks places

@@ -24,14 +24,14 @@ standing_more rs n found tasks roots are stood = record {
   all = length_push roots (Some found) ∙ ap (λ k. k + 1) are.all;
   each =
       λ index task standing is stands. elim (pushed_cases roots (Some found) (Some standing) index stands) [
-    | inl old ↦ are.each index task standing is old
-    | inr (here, same) ↦
-        let at_end : index ≡ n = here ∙ are.all in
-        let P : Standing → Type 0 = IsStood rs index task in
-        let Q : ℕ → Type 0 = λ k. IsStood rs k task found in
-        subst P (same_Some found standing same)
+        | inl old ↦ are.each index task standing is old
+        | inr (here, same) ↦
+            let at_end : index ≡ n = here ∙ are.all in
+            let P : Standing → Type 0 = IsStood rs index task in
+            let Q : ℕ → Type 0 = λ k. IsStood rs k task found in
+            subst P (same_Some found standing same)
             (subst Q (sym at_end) (stood task (ap (slice_get tasks) (sym at_end) ∙ is)))
-  ];
+      ];
   known = λ index none. elim (pushed_cases roots (Some found) None index none) [
     | inl old ↦ are.known index old
     | inr (here, same) ↦ none-some found (sym same)
@@ -43,7 +43,7 @@ pub root_stood : (rs : List Record) (place index task : ℕ) (found : Standing) 
     → at begun_root rs place ≡ Some found.root → found.depth ≡ 0 → IsStood rs index task found
 root_stood rs place index task found makes begins flat =
     let same : found.root ≡ task =
-        same_Some found.root task (sym (begun_at_made found.root rs place begins) ∙ makes) in
+    same_Some found.root task (sym (begun_at_made found.root rs place begins) ∙ makes) in
     let P : ℕ → Type 0 = λ t. IsStood rs index t found in
     subst P same (record { stands = ([], top (place, begins), sym flat); shallow = omega (arith, flat) })
 
@@ -59,9 +59,11 @@ child_stood rs n task found link tasks links roots links_are are is is_link (abo
     let path = stood.stands in
     let P : ℕ → Type 0 = λ r. IsStood rs n task (record { depth = found.depth; root = r }) in
     subst P (sym same) (record {
-      stands =
-          (path.0 ++ link.number ∷ [], below link.number path.1 of.2,
-              length_push path.0 link.number ∙ ap (λ k. k + 1) path.2 ∙ sym deep);
+      stands = (
+        path.0 ++ link.number ∷ [],
+        below link.number path.1 of.2,
+        length_push path.0 link.number ∙ ap (λ k. k + 1) path.2 ∙ sym deep,
+      );
       shallow = let low = stood.shallow in omega (arith, low, within, deep, are.all);
     })
 
@@ -85,7 +87,7 @@ made_stood rs n place event tasks places (Some found) are at_place is_event (beg
     let maker = are.each n task is in
     let same : maker.0 ≡ place = same_Some maker.0 place (sym maker.1 ∙ at_place) in
     root_stood rs place n task found (ap (at made rs) (sym same) ∙ maker.3)
-        (ap (option_and_then (λ (r : Record). begun_root r.body)) is_event ∙ begins) flat
+    (ap (option_and_then (λ (r : Record). begun_root r.body)) is_event ∙ begins) flat
 
 -- what is known is near the top where there are few tasks
 pub above_shallow : (rs : List Record) (n index : ℕ) (tasks : List ℕ) (roots : List (Option Standing))
@@ -95,7 +97,7 @@ pub above_shallow : (rs : List Record) (n index : ℕ) (tasks : List ℕ) (roots
 above_shallow rs n index tasks roots above are low known =
     let within = slice_get_within roots index (Some above) known in
     let stood =
-        are.each index (get_or tasks index 0) above
-            (slice_get-get_or tasks index 0 (omega (arith, within, are.all, low))) known in
+    are.each index (get_or tasks index 0) above
+    (slice_get-get_or tasks index 0 (omega (arith, within, are.all, low))) known in
     let shallow = stood.shallow in
     omega (arith, shallow, within, are.all)

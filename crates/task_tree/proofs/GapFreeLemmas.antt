@@ -30,8 +30,8 @@ next_of_root rs task turn second root = record {
   created = λ first. absurd (omega (arith, first, second));
   before =
       λ last is.
-          let zero_last : 0 ≡ last = omega (arith, is, second) in
-          (root.0, subst (BeginsTurn rs root.0 task) zero_last (is_root root.1));
+      let zero_last : 0 ≡ last = omega (arith, is, second) in
+      (root.0, subst (BeginsTurn rs root.0 task) zero_last (is_root root.1));
 }
 
 pub next_of_begun : (rs : List Record) (task turn k : ℕ) → 0 < turn
@@ -40,8 +40,8 @@ next_of_begun rs task turn k later begins = record {
   created = λ first. absurd (omega (arith, first, later));
   before =
       λ last is.
-          let same : turn - 1 ≡ last = omega (arith, is) in
-          (k, subst (BeginsTurn rs k task) same (runs begins));
+      let same : turn - 1 ≡ last = omega (arith, is) in
+      (k, subst (BeginsTurn rs k task) same (runs begins));
 }
 
 -- ---- all records

@@ -46,7 +46,7 @@ first_new rs i begun old new are here none updates = record {
   begins = λ task turn place is. elim (pair_cases (task, turn) begun) [
     | inl same ↦
         ap (at begun_turn rs) (sym (place_is task turn place same is)) ∙ here
-            ∙ ap (λ (p : ℕ × ℕ). Some p) (sym same)
+        ∙ ap (λ (p : ℕ × ℕ). Some p) (sym same)
     | inr apart ↦
         are.begins task turn place (sym (pair_there old new begun (Some i) updates (task, turn) apart) ∙ is)
   ];
@@ -57,7 +57,7 @@ first_new rs i begun old new are here none updates = record {
     ]
     | inr apart ↦
         are.earliest task turn place k
-            (sym (pair_there old new begun (Some i) updates (task, turn) apart) ∙ is) there
+        (sym (pair_there old new begun (Some i) updates (task, turn) apart) ∙ is) there
   ];
   all = λ task turn k is less there. elim (pair_cases (task, turn) begun) [
     | inl same ↦ none-some i (sym is ∙ ap (get pair_cmp new) same ∙ pair_here old new begun (Some i) updates)
@@ -65,7 +65,7 @@ first_new rs i begun old new are here none updates = record {
       | inl is_i ↦ apart (same_Some (task, turn) begun (sym there ∙ ap (at begun_turn rs) is_i ∙ here))
       | inr before ↦
           are.all task turn k (sym (pair_there old new begun (Some i) updates (task, turn) apart) ∙ is)
-              (omega (arith, less, before)) there
+          (omega (arith, less, before)) there
     ]
   ];
 }
@@ -74,7 +74,7 @@ first_new rs i begun old new are here none updates = record {
         → i ≡ place
     place_is task turn place same is =
         same_Some i place
-            (sym (pair_here old new begun (Some i) updates) ∙ ap (get pair_cmp new) (sym same) ∙ is)
+        (sym (pair_here old new begun (Some i) updates) ∙ ap (get pair_cmp new) (sym same) ∙ is)
 
 -- one that did, or none
 pub first_old : (rs : List Record) (i : ℕ) (first : BTreeMap (ℕ × ℕ) ℕ) → AreFirst rs i first
@@ -99,39 +99,40 @@ turn_raised old new r task turn begins less updates = record {
     | inl same ↦
         let now = here thread other same in
         let before : kept_turn old thread other ≡ kept_turn old r.thread task =
-            ap (λ (p : ℕ × ℕ). kept_turn old p.0 p.1) same in
+        ap (λ (p : ℕ × ℕ). kept_turn old p.0 p.1) same in
         omega (arith, now, before, less)
     | inr apart ↦ let same = there thread other apart in omega (arith, same)
   ];
   raised = λ other later is.
-      let same : ◌≡◌ { A = ℕ × ℕ } (task, turn) (other, later) =
-          same_Some (task, turn) (other, later) (sym begins ∙ is) in
+      let same : ◌≡◌ {A = ℕ × ℕ} (task, turn) (other, later) =
+      same_Some (task, turn) (other, later) (sym begins ∙ is) in
       let of_thread : ℕ × ℕ → ℕ × ℕ = λ p. (r.thread, p.0) in
       let now = here r.thread other (ap of_thread (sym same)) in
       let that = ap (λ (p : ℕ × ℕ). p.1) same in
       omega (arith, now, that);
   only = λ thread other. elim (pair_cases (thread, other) (r.thread, task)) [
     | inl same ↦
-        inr
-            (ap (λ (p : ℕ × ℕ). p.0) same,
-                begins ∙ ap (λ (t : ℕ). Some (t, turn)) (sym (ap (λ (p : ℕ × ℕ). p.1) same))
-                    ∙ ap (λ (t : ℕ). Some (other, t)) (sym (here thread other same)))
+        inr (
+          ap (λ (p : ℕ × ℕ). p.0) same,
+          begins ∙ ap (λ (t : ℕ). Some (t, turn)) (sym (ap (λ (p : ℕ × ℕ). p.1) same))
+              ∙ ap (λ (t : ℕ). Some (other, t)) (sym (here thread other same)),
+        )
     | inr apart ↦ inl (there thread other apart)
   ];
 }
   where
-    here : (thread other : ℕ) → ◌≡◌ { A = ℕ × ℕ } (thread, other) (r.thread, task)
+    here : (thread other : ℕ) → ◌≡◌ {A = ℕ × ℕ} (thread, other) (r.thread, task)
         → kept_turn new thread other ≡ turn
     here thread other same =
         ap (λ (p : ℕ × ℕ). kept_turn new p.0 p.1) same
-            ∙ ap (λ (o : Option ℕ). option_map_or (λ (t : ℕ). t) o 0)
-                (pair_here old new (r.thread, task) (Some turn) updates)
+        ∙ ap (λ (o : Option ℕ). option_map_or (λ (t : ℕ). t) o 0)
+        (pair_here old new (r.thread, task) (Some turn) updates)
 
-    there : (thread other : ℕ) → ◌≢◌ { A = ℕ × ℕ } (thread, other) (r.thread, task)
+    there : (thread other : ℕ) → ◌≢◌ {A = ℕ × ℕ} (thread, other) (r.thread, task)
         → kept_turn new thread other ≡ kept_turn old thread other
     there thread other apart =
         ap (λ (o : Option ℕ). option_map_or (λ (t : ℕ). t) o 0)
-            (pair_there old new (r.thread, task) (Some turn) updates (thread, other) apart)
+        (pair_there old new (r.thread, task) (Some turn) updates (thread, other) apart)
 
 pub greatest_more : (rs : List Record) (i : ℕ) (r : Record) (old new : BTreeMap (ℕ × ℕ) ℕ)
     → slice_get rs i ≡ Some r → AreGreatest rs i old → IsTurnRaised old new r → AreGreatest rs (i + 1) new
@@ -139,15 +140,15 @@ greatest_more rs i r old new stands are raised = record {
   bound = λ k thread task turn less by_thread begins. elim (cases_eq k i) [
     | inl same ↦
         let is_thread : thread ≡ r.thread =
-            same_Some thread r.thread
-                (sym by_thread ∙ ap (thread_at rs) same
-                    ∙ ap (option_map (λ (q : Record). q.thread)) stands) in
+        same_Some thread r.thread
+        (sym by_thread ∙ ap (thread_at rs) same
+        ∙ ap (option_map (λ (q : Record). q.thread)) stands) in
         let here : begun_turn r.body ≡ Some (task, turn) =
-            sym (ap (option_and_then (λ (q : Record). begun_turn q.body)) stands)
-                ∙ ap (at begun_turn rs) (sym same) ∙ begins in
+        sym (ap (option_and_then (λ (q : Record). begun_turn q.body)) stands)
+        ∙ ap (at begun_turn rs) (sym same) ∙ begins in
         let low = raised.raised task turn here in
         let alike : kept_turn new thread task ≡ kept_turn new r.thread task =
-            ap (λ t. kept_turn new t task) is_thread in
+        ap (λ t. kept_turn new t task) is_thread in
         omega (arith, low, alike)
     | inr apart ↦
         let low = are.bound k thread task turn (omega (arith, less, apart)) by_thread begins in
@@ -156,12 +157,18 @@ greatest_more rs i r old new stands are raised = record {
   ];
   reached = λ thread task more. elim (raised.only thread task) [
     | inl same ↦
-        let old_one = are.reached thread task (omega (arith, more, same)) in
-        (old_one.0, omega (arith, old_one.1), old_one.2,
-            old_one.3 ∙ ap (λ (t : ℕ). Some (task, t)) (sym same))
-    | inr (is_thread, begins) ↦
-        (i, omega arith, ap (option_map (λ (q : Record). q.thread)) stands ∙ ap Some (sym is_thread),
-            ap (option_and_then (λ (q : Record). begun_turn q.body)) stands ∙ begins)
+        let old_one = are.reached thread task (omega (arith, more, same)) in (
+          old_one.0,
+          omega (arith, old_one.1),
+          old_one.2,
+          old_one.3 ∙ ap (λ (t : ℕ). Some (task, t)) (sym same),
+        )
+    | inr (is_thread, begins) ↦ (
+      i,
+      omega arith,
+      ap (option_map (λ (q : Record). q.thread)) stands ∙ ap Some (sym is_thread),
+      ap (option_and_then (λ (q : Record). begun_turn q.body)) stands ∙ begins,
+    )
   ];
 }
 
@@ -238,15 +245,15 @@ no_start_none rs i r told stands tells right none gap = by gap
     nothing : (task turn : ℕ) → TellsStart rs i task turn → ⊥
     nothing task turn start =
         none-some (task, turn)
-            (sym (ap (option_and_then (λ (q : Record). begun_turn q.body)) stands ∙ none) ∙ start.1)
+        (sym (ap (option_and_then (λ (q : Record). begun_turn q.body)) stands ∙ none) ∙ start.1)
 
     by : HasTurnGap rs i → ⊥
     by (other_turn u says other) =
         other
-            (ap (λ (t : Turns). t.prior)
-                (same_Some u told
-                    (sym says ∙ ap (option_and_then (λ (q : Record). told_turns q.body)) stands ∙ tells))
-                ∙ right)
+        (ap (λ (t : Turns). t.prior)
+        (same_Some u told
+        (sym says ∙ ap (option_and_then (λ (q : Record). told_turns q.body)) stands ∙ tells))
+        ∙ right)
     by (begun_again task turn k start below begins) = nothing task turn start
     by (falling task turn k later start below same begins less) = nothing task turn start
     by (of_root task start root) = nothing task 0 start
@@ -256,7 +263,7 @@ pub other_gap : (rs : List Record) (i turn : ℕ) (r : Record) (told : Turns) �
     → told_turns r.body ≡ Some told → told.prior ≢ turn → turn ≡ turn_at rs i → HasTurnGap rs i
 other_gap rs i turn r told stands tells other is =
     other_turn told (ap (option_and_then (λ (q : Record). told_turns q.body)) stands ∙ tells)
-        (λ e. other (e ∙ sym is))
+    (λ e. other (e ∙ sym is))
 
 -- one that tells the turn of the prior task, and that of the next one
 pub start_gap : (rs : List Record) (r : Record) (told : Turns) (start : Start)
@@ -289,12 +296,12 @@ start_gap rs r told start stands tells right made begins = (forth, back)
     same_start : (task turn : ℕ) → TellsStart rs start.at task turn
         → (task ≡ start.task) × (turn ≡ start.turn)
     same_start task turn other =
-        let e : ◌≡◌ { A = ℕ × ℕ } (task, turn) (start.task, start.turn) =
-            same_Some (task, turn) (start.task, start.turn) (sym other.1 ∙ begun) in
+        let e : ◌≡◌ {A = ℕ × ℕ} (task, turn) (start.task, start.turn) =
+        same_Some (task, turn) (start.task, start.turn) (sym other.1 ∙ begun) in
         (ap (λ (p : ℕ × ℕ). p.0) e, ap (λ (p : ℕ × ℕ). p.1) e)
 
     pair_is : (task turn : ℕ) → TellsStart rs start.at task turn
-        → ◌≡◌ { A = Option (ℕ × ℕ) } (Some (task, turn)) (Some (start.task, start.turn))
+        → ◌≡◌ {A = Option (ℕ × ℕ)} (Some (task, turn)) (Some (start.task, start.turn))
     pair_is task turn other = sym other.1 ∙ begun
 
     back : HasTurnGap rs start.at → IsWrongStart rs start
@@ -304,17 +311,24 @@ start_gap rs r told start stands tells right made begins = (forth, back)
     back (falling task turn k later other below by_thread same less) =
         let alike = same_start task turn other in
         let is_turn = alike.1 in
-        wrong_falling
-            (k, later, below, by_thread ∙ thread, same ∙ ap (λ (t : ℕ). Some (t, later)) alike.0,
-                omega (arith, less, is_turn))
+        wrong_falling (
+          k,
+          later,
+          below,
+          by_thread ∙ thread,
+          same ∙ ap (λ (t : ℕ). Some (t, later)) alike.0,
+          omega (arith, less, is_turn),
+        )
     back (of_root task other root) =
         let alike = same_start task 0 other in
         wrong_root (sym alike.1, subst (IsRoot rs) alike.0 root)
     back (missing task turn other never) =
         let alike = same_start task (turn + 1) other in
-        wrong_missing
-            (turn, sym alike.1,
-                λ k begins_there. never k (subst (λ t. BeginsTurn rs k t turn) (sym alike.0) begins_there))
+        wrong_missing (
+          turn,
+          sym alike.1,
+          λ k begins_there. never k (subst (λ t. BeginsTurn rs k t turn) (sym alike.0) begins_there),
+        )
 
 -- ---- all records
 
@@ -349,10 +363,10 @@ root_more rs i task old new are begins others added = record {
     | inl same ↦ ap (contains nat_cmp new) same ∙ added
     | inr apart ↦
         others other apart
-            ∙ are.all other k
-                (let differ : k ≢ i =
-                     λ e. apart (same_Some other task (sym there ∙ ap (at begun_root rs) e ∙ begins)) in
-                 omega (arith, less, differ))
-                there
+        ∙ are.all other k
+        (let differ : k ≢ i =
+        λ e. apart (same_Some other task (sym there ∙ ap (at begun_root rs) e ∙ begins)) in
+        omega (arith, less, differ))
+        there
   ];
 }

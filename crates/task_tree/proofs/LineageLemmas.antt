@@ -46,7 +46,7 @@ parent_read family index found read = elim (read_there family.links index found 
 
 pub depth_read : (family : FamilyView) (index : ℕ) (found : Option Standing)
     → ((standing : Standing)
-          → (found ≡ Some standing) ↔ (slice_get family.roots index ≡ Some (Some standing)))
+    → (found ≡ Some standing) ↔ (slice_get family.roots index ≡ Some (Some standing)))
     → option_map_or (λ (s : Standing). s.depth) found 0 ≡ depth_in family index
 depth_read family index found read = elim (read_there family.roots index found read) [
   | inl there ↦ rw there refl
@@ -68,17 +68,19 @@ parent_is_at rs family index task up are here is = of (slice_get family.links in
     of (Some None) e says = absurd (none-some up says)
     of (Some (Some link)) e says =
         let found = are.links.only index task link here e in
-        let place = child_place rs found.0 (length rs) link.number task found.2 in
-        (found.0, ap (slice_get family.tasks) (sym (same_Some link.parent up says)) ∙ found.1,
-            (place.0, place.2))
+        let place = child_place rs found.0 (length rs) link.number task found.2 in (
+          found.0,
+          ap (slice_get family.tasks) (sym (same_Some link.parent up says)) ∙ found.1,
+          (place.0, place.2),
+        )
 
 pub parent_at_is : (rs : List Record) (family : FamilyView) (index task up : ℕ) → IsFamilyOf rs family
     → slice_get family.tasks index ≡ Some task → IsParentAt rs family.tasks up task
     → parent_index family index ≡ Some up
 parent_at_is rs family index task up are here (parent, is_up, (i, creates)) =
     let found =
-        are.links.linked i parent task index up (at_within creation rs i (parent, task) creates) creates here
-            is_up in
+    are.links.linked i parent task index up (at_within creation rs i (parent, task) creates) creates here
+    is_up in
     ap (option_and_then (λ o. option_map (λ (l : Link). l.parent) o)) found.1 ∙ ap Some found.2
 
 -- a parent has an index of its own
@@ -95,9 +97,9 @@ parent_within rs family index up are is = of (slice_get family.links index) refl
         let all = are.links.all in
         let task = get_or family.tasks index 0 in
         let at_index =
-            parent_is_at rs family index task up are
-                (slice_get-get_or family.tasks index 0 (omega (arith, inside, all)))
-                (ap (option_and_then (λ o. option_map (λ (l : Link). l.parent) o)) e ∙ says) in
+        parent_is_at rs family index task up are
+        (slice_get-get_or family.tasks index 0 (omega (arith, inside, all)))
+        (ap (option_and_then (λ o. option_map (λ (l : Link). l.parent) o)) e ∙ says) in
         slice_get_within family.tasks up at_index.0 at_index.1
 
 -- so has a task that has one
@@ -127,8 +129,8 @@ depth_is rs family index task root path are here stands = of (slice_get family.r
         let inside = slice_get_within family.tasks index task here in
         let all = are.roots.all in
         absurd
-            (none-some (get_or family.roots index None)
-                (sym e ∙ slice_get-get_or family.roots index None (omega (arith, inside, all))))
+        (none-some (get_or family.roots index None)
+        (sym e ∙ slice_get-get_or family.roots index None (omega (arith, inside, all))))
     of (Some None) e = absurd (are.roots.unrooted index task here e (path_rooted rs root task path stands))
     of (Some (Some standing)) e =
         let known = are.roots.rooted index task standing here e in
@@ -143,10 +145,10 @@ parent_depth rs family index task up are here is =
     let created = above.2 in
     let stands = root_known rs family above.0 up are above.1 in
     let number =
-        contains_get (children rs above.0) task
-            (child_before rs above.0 task (length rs) created.0
-                (at_within creation rs created.0 (above.0, task) created.1) created.1) in
+    contains_get (children rs above.0) task
+    (child_before rs above.0 task (length rs) created.0
+    (at_within creation rs created.0 (above.0, task) created.1) created.1) in
     depth_is rs family index task stands.0 (stands.1 ++ number.0 ∷ []) are here
-        (below number.0 stands.2 number.1)
+    (below number.0 stands.2 number.1)
     ∙ length-append stands.1 (number.0 ∷ [])
     ∙ ap (λ n. n + 1) (sym (depth_is rs family up above.0 stands.0 stands.1 are above.1 stands.2))

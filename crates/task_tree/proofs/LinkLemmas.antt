@@ -27,14 +27,14 @@ pub get_set_same : {X : Type 0} (xs : List X) (i : ℕ) (x : X) → i < length x
     → slice_get (set xs i x) i ≡ Some x
 get_set_same xs i x within =
     slice_get-get_or (set xs i x) i x (rw (length-set xs i x) within)
-        ∙ ap Some (get_or-set_same xs i x x within)
+    ∙ ap Some (get_or-set_same xs i x x within)
 
 pub get_set_other : {X : Type 0} (xs : List X) (i k : ℕ) (x : X) → k ≢ i
     → slice_get (set xs i x) k ≡ slice_get xs k
 get_set_other xs i k x apart = elim (cases_lt k (length xs)) [
   | inl within ↦
       slice_get-get_or (set xs i x) k x (rw (length-set xs i x) within)
-          ∙ ap Some (get_or-set_other xs i k x x apart) ∙ sym (slice_get-get_or xs k x within)
+      ∙ ap Some (get_or-set_other xs i k x x apart) ∙ sym (slice_get-get_or xs k x within)
   | inr past ↦ slice_get_past (set xs i x) k (rw (length-set xs i x) past) ∙ sym (slice_get_past xs k past)
 ]
 
@@ -67,12 +67,12 @@ pub linked_read : (tasks : List ℕ) (parent child up own number : ℕ) (counts 
     (links : List (Option Link))
     → IsIndex tasks parent up → IsIndex tasks child own → number ≡ slice_index counts up
     → IsLinked tasks parent child counts links (set counts up (number + 1))
-        (set links own (Some (record { number = number; parent = up })))
+    (set links own (Some (record { number = number; parent = up })))
 linked_read tasks parent child up own number counts links is_up is_own read =
     let P : ℕ → Type 0 =
-        λ k.
-            IsLinked tasks parent child counts links (set counts up (k + 1))
-                (set links own (Some (record { number = k; parent = up }))) in
+    λ k.
+    IsLinked tasks parent child counts links (set counts up (k + 1))
+    (set links own (Some (record { number = k; parent = up }))) in
     subst P (sym read) (linked up own is_up is_own)
 
 pub counted_read : (tasks : List ℕ) (parent child up number : ℕ) (counts : List ℕ)
@@ -95,8 +95,8 @@ counts_start rs tasks counts are = record {
       let nothing : length tasks * 0 ≡ 0 = omega arith in omega (arith, total, nothing);
   each =
       λ index task is.
-          ap (λ l. slice_index l index) are
-              ∙ get_or-replicate (length tasks) index 0 0 (slice_get_within tasks index task is);
+      ap (λ l. slice_index l index) are
+      ∙ get_or-replicate (length tasks) index 0 0 (slice_get_within tasks index task is);
 }
 
 -- a record that creates no child of a task in the list
@@ -108,7 +108,7 @@ counts_same rs n tasks counts are none = record {
   few = let few = are.few in omega (arith, few);
   each =
       λ index task is.
-          are.each index task is ∙ ap length (sym (children_same rs task n (none index task is)));
+      are.each index task is ∙ ap length (sym (children_same rs task n (none index task is)));
 }
 
 pub counts_other : (rs : List Record) (n : ℕ) (tasks counts : List ℕ) → AreCounts rs n tasks counts
@@ -128,20 +128,20 @@ counts_more rs n tasks counts parent child up are creates is_up = record {
   each = λ index task is. elim (cases_eq index up) [
     | inl same ↦
         let same_task : task ≡ parent =
-            same_Some task parent (sym is ∙ ap (slice_get tasks) same ∙ is_up.here) in
+        same_Some task parent (sym is ∙ ap (slice_get tasks) same ∙ is_up.here) in
         ap (slice_index (set counts up (slice_index counts up + 1))) same
-            ∙ get_or-set_same counts up (slice_index counts up + 1) 0 within
+        ∙ get_or-set_same counts up (slice_index counts up + 1) 0 within
         ∙ ap (λ k. k + 1) (are.each up parent is_up.here)
-            ∙ sym (length_push (children_before rs parent n) child)
+        ∙ sym (length_push (children_before rs parent n) child)
         ∙ ap length (sym (children_more rs parent child n creates))
-            ∙ ap (λ t. length (children_before rs t (n + 1))) (sym same_task)
+        ∙ ap (λ t. length (children_before rs t (n + 1))) (sym same_task)
     | inr apart ↦
         get_or-set_other counts up index (slice_index counts up + 1) 0 apart ∙ are.each index task is
         ∙ ap length
-            (sym
-                (children_same rs task n
-                    (child_at_other rs task parent child n creates
-                        (λ same. apart (is_up.alone index (is ∙ ap Some (sym same)))))))
+        (sym
+        (children_same rs task n
+        (child_at_other rs task parent child n creates
+        (λ same. apart (is_up.alone index (is ∙ ap Some (sym same)))))))
   ];
 }
   where
@@ -154,12 +154,12 @@ pub counts_linked : (rs : List Record) (n : ℕ) (tasks : List ℕ) (parent chil
     → IsLinked tasks parent child counts links counts_now links_now → AreCounts rs (n + 1) tasks counts_now
 counts_linked rs n tasks parent child counts links counts_now links_now are creates (unmade none) =
     counts_same rs n tasks counts are
-        (λ index task is.
-            child_at_other rs task parent child n creates (λ same. none index (is ∙ ap Some (sym same))))
+    (λ index task is.
+    child_at_other rs task parent child n creates (λ same. none index (is ∙ ap Some (sym same))))
 counts_linked rs n tasks parent child counts links counts_now links_now are creates (counted up is_up none) =
     counts_more rs n tasks counts parent child up are creates is_up
 counts_linked rs n tasks parent child counts links counts_now links_now are creates
-        (linked up own is_up is_own) =
+    (linked up own is_up is_own) =
     counts_more rs n tasks counts parent child up are creates is_up
 
 -- counts are small where there are few records
@@ -181,10 +181,10 @@ links_start rs tasks links are = record {
       let within = slice_get_within tasks index task is in
       let nothing : Option Link = None in
       let none : slice_get links index ≡ Some None =
-          ap (λ l. slice_get l index) are
-              ∙ slice_get-get_or (replicate (length tasks) None) index None
-                  (rw (length-replicate (length tasks) nothing) within)
-              ∙ ap Some (get_or-replicate (length tasks) index None None within) in
+      ap (λ l. slice_get l index) are
+      ∙ slice_get-get_or (replicate (length tasks) None) index None
+      (rw (length-replicate (length tasks) nothing) within)
+      ∙ ap Some (get_or-replicate (length tasks) index None None within) in
       absurd (none-some link (same_Some None (Some link) (sym none ∙ stands)));
 }
 
@@ -197,7 +197,7 @@ link_stays rs n tasks task link (parent, is, stands) =
 links_same : (rs : List Record) (n : ℕ) (tasks : List ℕ) (links : List (Option Link))
     → AreLinks rs n tasks links
     → ((parent task index up : ℕ) → at creation rs n ≡ Some (parent, task) → slice_get tasks index ≡ Some task
-          → slice_get tasks up ≡ Some parent → ⊥)
+    → slice_get tasks up ≡ Some parent → ⊥)
     → AreLinks rs (n + 1) tasks links
 links_same rs n tasks links are none = record {
   all = are.all;
@@ -212,63 +212,70 @@ pub links_other : (rs : List Record) (n : ℕ) (tasks : List ℕ) (links : List 
     → AreLinks rs n tasks links → at creation rs n ≡ None → AreLinks rs (n + 1) tasks links
 links_other rs n tasks links are none =
     links_same rs n tasks links are
-        (λ parent task index up creates is is_up. none-some (parent, task) (sym none ∙ creates))
+    (λ parent task index up creates is is_up. none-some (parent, task) (sym none ∙ creates))
 
 -- no task is created twice
 created_once : (rs : List Record) (task i k own other : ℕ) → IsFreeOf rs CreatedTwice → i < k
     → at creation rs i ≡ Some (own, task) → at creation rs k ≡ Some (other, task) → ⊥
 created_once rs task i k own other once below here there =
     once k
-        (created_twice
-            (task, i, below, created_at_made task rs i (creation_at_created own task rs i here),
-                created_at_made task rs k (creation_at_created other task rs k there)))
+    (created_twice (
+      task,
+      i,
+      below,
+      created_at_made task rs i (creation_at_created own task rs i here),
+      created_at_made task rs k (creation_at_created other task rs k there),
+    ))
 
 links_more : (rs : List Record) (n : ℕ) (tasks counts : List ℕ) (links : List (Option Link))
     (parent child up own : ℕ)
     → IsFreeOf rs CreatedTwice → AreCounts rs n tasks counts → AreLinks rs n tasks links
     → at creation rs n ≡ Some (parent, child) → IsIndex tasks parent up → IsIndex tasks child own
     → AreLinks rs (n + 1) tasks
-        (set links own (Some (record { number = slice_index counts up; parent = up })))
+    (set links own (Some (record { number = slice_index counts up; parent = up })))
 links_more rs n tasks counts links parent child up own once counts_are are creates is_up is_own = record {
   all = length-set links own (Some new) ∙ are.all;
   linked = λ i p task index above below creates_it is is_above. elim (cases_eq i n) [
     | inl same ↦
         let pair =
-            same_Some (p, task) (parent, child) (sym creates_it ∙ ap (at creation rs) same ∙ creates) in
-        let here : index ≡ own = is_own.alone index (is ∙ ap Some (ap (λ (x : ℕ × ℕ). x.1) pair)) in
-        (new, ap (slice_get (set links own (Some new))) here ∙ get_set_same links own (Some new) within,
-            sym (is_up.alone above (is_above ∙ ap Some (ap (λ (x : ℕ × ℕ). x.0) pair))))
+        same_Some (p, task) (parent, child) (sym creates_it ∙ ap (at creation rs) same ∙ creates) in
+        let here : index ≡ own = is_own.alone index (is ∙ ap Some (ap (λ (x : ℕ × ℕ). x.1) pair)) in (
+          new,
+          ap (slice_get (set links own (Some new))) here ∙ get_set_same links own (Some new) within,
+          sym (is_up.alone above (is_above ∙ ap Some (ap (λ (x : ℕ × ℕ). x.0) pair))),
+        )
     | inr apart ↦ elim (cases_eq task child) [
       | inl same ↦
           absurd
-              (created_once rs child i n p parent once (omega arith) (creates_it ∙ ap (λ t. Some (p, t)) same)
-                  creates)
+          (created_once rs child i n p parent once (omega arith) (creates_it ∙ ap (λ t. Some (p, t)) same)
+          creates)
       | inr other ↦
-          let found = are.linked i p task index above (omega arith) creates_it is is_above in
-          (found.0,
-              get_set_other links own index (Some new) (λ e. other (elsewhere index task is e)) ∙ found.1,
-              found.2)
+          let found = are.linked i p task index above (omega arith) creates_it is is_above in (
+            found.0,
+            get_set_other links own index (Some new) (λ e. other (elsewhere index task is e)) ∙ found.1,
+            found.2,
+          )
     ]
   ];
   only = λ index task link is stands. elim (cases_eq index own) [
     | inl here ↦
         let same : new ≡ link =
-            same_Some new link
-                (same_Some (Some new) (Some link)
-                    (sym (get_set_same links own (Some new) within)
-                        ∙ ap (slice_get (set links own (Some new))) (sym here) ∙ stands)) in
+        same_Some new link
+        (same_Some (Some new) (Some link)
+        (sym (get_set_same links own (Some new) within)
+        ∙ ap (slice_get (set links own (Some new))) (sym here) ∙ stands)) in
         let P : Link → Type 0 = IsLink rs (n + 1) tasks task in
         subst P same (
           parent,
           is_up.here,
           ap (λ l. slice_get l (slice_index counts up)) (children_more rs parent child n creates)
               ∙ get_last (children_before rs parent n) child (slice_index counts up)
-                  (counts_are.each up parent is_up.here)
+              (counts_are.each up parent is_up.here)
               ∙ ap Some (sym (elsewhere index task is here)),
         )
     | inr apart ↦
         link_stays rs n tasks task link
-            (are.only index task link is (sym (get_set_other links own index (Some new) apart) ∙ stands))
+        (are.only index task link is (sym (get_set_other links own index (Some new) apart) ∙ stands))
   ];
 }
   where
@@ -289,21 +296,21 @@ pub links_linked : (rs : List Record) (n : ℕ) (tasks : List ℕ) (parent child
 links_linked rs n tasks parent child counts links counts_now links_now once counts_are are creates
     (unmade none) =
     links_same rs n tasks links are
-        (λ p task index up creates_it is is_up.
-            none up
-                (is_up
-                    ∙ ap Some
-                        (ap (λ (x : ℕ × ℕ). x.0)
-                            (same_Some (p, task) (parent, child) (sym creates_it ∙ creates)))))
+    (λ p task index up creates_it is is_up.
+    none up
+    (is_up
+    ∙ ap Some
+    (ap (λ (x : ℕ × ℕ). x.0)
+    (same_Some (p, task) (parent, child) (sym creates_it ∙ creates)))))
 links_linked rs n tasks parent child counts links counts_now links_now once counts_are are creates
     (counted up is_up none) =
     links_same rs n tasks links are
-        (λ p task index above creates_it is is_above.
-            none index
-                (is
-                    ∙ ap Some
-                        (ap (λ (x : ℕ × ℕ). x.1)
-                            (same_Some (p, task) (parent, child) (sym creates_it ∙ creates)))))
+    (λ p task index above creates_it is is_above.
+    none index
+    (is
+    ∙ ap Some
+    (ap (λ (x : ℕ × ℕ). x.1)
+    (same_Some (p, task) (parent, child) (sym creates_it ∙ creates)))))
 links_linked rs n tasks parent child counts links counts_now links_now once counts_are are creates
     (linked up own is_up is_own) =
     links_more rs n tasks counts links parent child up own once counts_are are creates is_up is_own

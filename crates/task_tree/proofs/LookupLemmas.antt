@@ -67,13 +67,13 @@ named_noted rs tasks i task noted free is = elim (contains_or_not tasks task) [
   | inl has ↦ has
   | inr none ↦
       absurd
-          (free i
-              (rootless
-                  (unmade task is
-                      (λ is_made.
-                          none
-                              (noted.each is_made.0 task (at_within made rs is_made.0 task is_made.1)
-                                  is_made.1)))))
+      (free i
+      (rootless
+      (unmade task is
+      (λ is_made.
+      none
+      (noted.each is_made.0 task (at_within made rs is_made.0 task is_made.1)
+      is_made.1)))))
 ]
 
 slot_calls : (says : Body → Option ℕ) (rs : List Record) (tasks : List ℕ) (slots : List (Option ℕ)) (i : ℕ)
@@ -83,8 +83,8 @@ slot_calls says rs tasks slots i are has = elim (cases_lt i (length rs)) [
   | inl within ↦
       let found = are.each i within in
       let same : slice_index_or slots i None ≡ found.0 =
-          same_Some (slice_index_or slots i None) found.0
-              (sym (slice_get-get_or slots i None (slice_get_within slots i found.0 found.1)) ∙ found.1) in
+      same_Some (slice_index_or slots i None) found.0
+      (sym (slice_get-get_or slots i None (slice_get_within slots i found.0 found.1)) ∙ found.1) in
       rw same (finds_calls tasks (at says rs i) found.0 found.2 has)
   | inr past ↦ rw (nothing past, get_or_past slots i None (rw are.all past)) refl
 ]
@@ -96,17 +96,17 @@ pub subject_calls : (rs : List Record) (family : FamilyView) (i : ℕ) → IsFam
     → Calls family.tasks (at subject rs i) (slice_index_or family.subjects i None)
 subject_calls rs family i are =
     slot_calls subject rs family.tasks family.subjects i are.subjects
-        (λ task is.
-            named_noted rs family.tasks i task are.noted are.rooted
-                (named_at subject task rs i (subject_named task) is))
+    (λ task is.
+    named_noted rs family.tasks i task are.noted are.rooted
+    (named_at subject task rs i (subject_named task) is))
 
 pub object_calls : (rs : List Record) (family : FamilyView) (i : ℕ) → IsFamilyOf rs family
     → Calls family.tasks (at object rs i) (slice_index_or family.objects i None)
 object_calls rs family i are =
     slot_calls object rs family.tasks family.objects i are.objects
-        (λ task is.
-            named_noted rs family.tasks i task are.noted are.rooted
-                (named_at object task rs i (object_named task) is))
+    (λ task is.
+    named_noted rs family.tasks i task are.noted are.rooted
+    (named_at object task rs i (object_named task) is))
 
 -- ---- where a task is made
 
@@ -122,8 +122,8 @@ pub maker_none : (rs : List Record) (family : FamilyView) (task : ℕ) (index : 
     → index ≡ None → at made rs place ≡ Some task → ⊥
 maker_none rs family task index place are is none makes =
     let stands =
-        contains_get family.tasks task
-            (are.noted.each place task (at_within made rs place task makes) makes) in
+    contains_get family.tasks task
+    (are.noted.each place task (at_within made rs place task makes) makes) in
     none-some stands.0 (sym none ∙ (is stands.0).1 stands.1)
 
 -- ---- roots and explicit tasks
@@ -158,7 +158,7 @@ pub root_or_explicit : (rs : List Record) (task : ℕ) → IsFreeOf rs CreatedTw
     → IsExplicit rs task → ⊥
 root_or_explicit rs task free (i, begins) (k, creates) =
     let same : k ≡ i =
-        made_once rs task k i free (created_at_made task rs k creates) (begun_at_made task rs i begins) in
+    made_once rs task k i free (created_at_made task rs k creates) (begun_at_made task rs i begins) in
     root_there rs task (slice_get rs i) begins (ap (at created rs) (sym same) ∙ creates)
 
 made_so : (rs : List Record) (task place : ℕ) → at made rs place ≡ Some task → (IsExplicit rs task → ⊥)
@@ -177,13 +177,15 @@ made_so rs task place makes never = there (slice_get rs place) refl makes
 pub root_is : (rs : List Record) (family : FamilyView) (index task : ℕ) (explicit : Bool)
     → IsFamilyOf rs family → slice_get family.tasks index ≡ Some task → (IsTrue explicit) ↔ IsExplicit rs task
     → (IsTrue (not explicit)) ↔ IsRoot rs task
-root_is rs family index task true are is both =
-    (λ holds.
-        absurd (false≢true holds), λ root. absurd (root_or_explicit rs task are.once root (both.0 refl)))
+root_is rs family index task true are is both = (
+  λ holds.
+      absurd (false≢true holds),
+  λ root. absurd (root_or_explicit rs task are.once root (both.0 refl)),
+)
 root_is rs family index task false are is both = (
   λ holds. let place =
       are.makers.each index task is in made_so rs task place.0 place.3
-          (λ explicit. false≢true (both.1 explicit)),
+      (λ explicit. false≢true (both.1 explicit)),
   λ root. refl,
 )
 
@@ -195,7 +197,7 @@ created_place rs task place c once (by, creates) makes =
       λ here. ap (at created rs) (sym (same ∙ same_Some place c here)) ∙ creates,
       λ there.
           ap Some
-              (sym same
-                  ∙ made_once rs task by c once (created_at_made task rs by creates)
-                      (created_at_made task rs c there)),
+          (sym same
+          ∙ made_once rs task by c once (created_at_made task rs by creates)
+          (created_at_made task rs c there)),
     )

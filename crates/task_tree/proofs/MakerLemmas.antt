@@ -168,7 +168,7 @@ made_other rs i None old new places are makes none (same, new_one) = rw same (re
   apart = are.apart;
   each =
       λ index task is.
-          let place = are.each index task is in (place.0, place.1, omega (arith, place.2), place.3);
+      let place = are.each index task is in (place.0, place.1, omega (arith, place.2), place.3);
   in_order = in_order_still i places are.in_order;
 })
 
@@ -185,16 +185,16 @@ made_more rs i (Some task) old new places are makes some (same, fresh) = rw same
       | inl before_b ↦ are.apart a b id before_a before_b
       | inr last_b ↦
           absurd
-              (fresh
-                  (let P : ℕ → Type 0 = Contains old in
-                   subst P (sym last_b.1) (get_contains old id a before_a)))
+          (fresh
+          (let P : ℕ → Type 0 = Contains old in
+          subst P (sym last_b.1) (get_contains old id a before_a)))
     ]
     | inr last_a ↦ elim (pushed_cases old task id b at_b) [
       | inl before_b ↦
           absurd
-              (fresh
-                  (let P : ℕ → Type 0 = Contains old in
-                   subst P (sym last_a.1) (get_contains old id b before_b)))
+          (fresh
+          (let P : ℕ → Type 0 = Contains old in
+          subst P (sym last_a.1) (get_contains old id b before_b)))
       | inr last_b ↦ last_a.0 ∙ sym last_b.0
     ]
   ];
@@ -220,7 +220,7 @@ gathered_other rs n tasks places are none = record {
   ];
   only =
       λ index task place is stands.
-          let old = are.only index task place is stands in (omega (arith, old.0), old.1);
+      let old = are.only index task place is stands in (omega (arith, old.0), old.1);
   in_order = in_order_still n places are.in_order;
 }
 
@@ -232,9 +232,11 @@ gathered_more rs n task tasks places are makes = record {
   each = λ i other below makes_it. elim (cases_eq i n) [
     | inl same ↦
         let is_task : task ≡ other =
-            same_Some task other (sym makes ∙ ap (at made rs) (sym same) ∙ makes_it) in
-        (length tasks, get_last tasks task (length tasks) refl ∙ ap Some is_task,
-            get_last places n (length tasks) (sym are.all) ∙ ap Some (sym same))
+        same_Some task other (sym makes ∙ ap (at made rs) (sym same) ∙ makes_it) in (
+          length tasks,
+          get_last tasks task (length tasks) refl ∙ ap Some is_task,
+          get_last places n (length tasks) (sym are.all) ∙ ap Some (sym same),
+        )
     | inr apart ↦
         let old = are.each i other (omega arith) makes_it in
         (old.0, get_pushed tasks task other old.0 old.1, get_pushed places n i old.0 old.2)
@@ -244,14 +246,14 @@ gathered_more rs n task tasks places are makes = record {
       | inl there ↦ let old = are.only index other place before there in (omega (arith, old.0), old.1)
       | inr last ↦
           absurd
-              (let inside = slice_get_within tasks index other before in
-               let long = last.0 in let all = are.all in omega (arith, inside, long, all))
+          (let inside = slice_get_within tasks index other before in
+          let long = last.0 in let all = are.all in omega (arith, inside, long, all))
     ]
     | inr last ↦ elim (pushed_cases places n place index stands) [
       | inl there ↦
           absurd
-              (let inside = slice_get_within places index place there in
-               let long = last.0 in let all = are.all in omega (arith, inside, long, all))
+          (let inside = slice_get_within places index place there in
+          let long = last.0 in let all = are.all in omega (arith, inside, long, all))
       | inr too ↦ (omega (arith, too.1), ap (at made rs) (sym too.1) ∙ makes ∙ ap Some last.1)
     ]
   ];
@@ -274,11 +276,11 @@ made_once_each rs tasks places regions are apart begun forked_once = record {
   noted = record {
     each =
         λ i task below makes.
-            let there = are.each i task below makes in get_contains tasks task there.0 there.1;
+        let there = are.each i task below makes in get_contains tasks task there.0 there.1;
     only =
         λ task has.
-            let index = contains_get tasks task has in
-            let place = place_of index.0 task index.1 in (place.0, place.2, place.3);
+        let index = contains_get tasks task has in
+        let place = place_of index.0 task index.1 in (place.0, place.2, place.3);
   };
   made_there = record {
     all = are.all;
@@ -293,9 +295,9 @@ made_once_each rs tasks places regions are apart begun forked_once = record {
         let first = are.each k task (at_within made rs k task there) there in
         let second = are.each i task (at_within made rs i task here) here in
         let same : k ≡ i =
-            same_Some k i
-                (sym first.2 ∙ ap (slice_get places) (apart first.0 second.0 task first.1 second.1)
-                    ∙ second.2) in
+        same_Some k i
+        (sym first.2 ∙ ap (slice_get places) (apart first.0 second.0 task first.1 second.1)
+        ∙ second.2) in
         omega (arith, below, same)
     | inr (region, k, below, there, here) ↦
         forked_once i k region below (at_within forked_region rs i region here) there here
@@ -304,11 +306,11 @@ made_once_each rs tasks places regions are apart begun forked_once = record {
   where
     place_of : (index task : ℕ) → slice_get tasks index ≡ Some task
         → (place : ℕ) × (slice_get places index ≡ Some place) × (place < length rs)
-            × (at made rs place ≡ Some task)
+        × (at made rs place ≡ Some task)
     place_of index task is =
         let inside = slice_get_within tasks index task is in
         let all = are.all in
         let stands : slice_get places index ≡ Some (get_or places index 0) =
-            slice_get-get_or places index 0 (omega (arith, inside, all)) in
+        slice_get-get_or places index 0 (omega (arith, inside, all)) in
         let found = are.only index task (get_or places index 0) is stands in
         (get_or places index 0, stands, found.0, found.1)

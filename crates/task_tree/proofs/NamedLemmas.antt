@@ -10,7 +10,6 @@ use Rattle.ompt_events.specs.declared.records.Membership.{Membership}
 use Rattle.ompt_events.specs.declared.records.Part.{Part}
 use Rattle.ompt_events.specs.declared.records.Part.TheVariants.{Whole}
 use Rattle.ompt_events.specs.declared.deps.Dep.{Dep}
-
 use Rattle.ompt_events.specs.declared.names.Endpoint.{Endpoint}
 use Rattle.ompt_events.specs.declared.names.Endpoint.TheVariants.{Begin}
 use Rattle.ompt_events.specs.declared.names.SyncKind.{SyncKind}
@@ -44,8 +43,8 @@ if_none false x y is = same_Some x y is
 pub joined_subject : (m : Membership) (b : Body) → joined b ≡ Some m → subject b ≡ Some m.member
 joined_subject m (ImplicitTask Begin actual number flags parallel own) is =
     ap (λ (x : Membership). Some x.member)
-        (if_none (has_flag flags.0 flag.initial)
-            (record { parallel = parallel; actual = actual; index = number; member = own }) m is)
+    (if_none (has_flag flags.0 flag.initial)
+    (record { parallel = parallel; actual = actual; index = number; member = own }) m is)
 joined_subject m _ is = absurd (none-some m is)
 
 pub begun_initial_subject : (task : ℕ) (b : Body) → begun_initial b ≡ Some task → subject b ≡ Some task
@@ -64,13 +63,13 @@ pub finish_subject : (task : ℕ) (part : Part) (b : Body) → finish b ≡ Some
 finish_subject task part (TaskSchedule status turns prior next share) is = with_part (status_part status) is
   where
     with_part : (o : Option Part)
-        → option_map { U = ℕ × Part } (λ (p : Part). (prior, p)) o ≡ Some (task, part)
+        → option_map {U = ℕ × Part} (λ (p : Part). (prior, p)) o ≡ Some (task, part)
         → Some prior ≡ Some task
     with_part None is' = absurd (none-some (task, part) is')
     with_part (Some p) is' = ap (λ (q : ℕ × Part). Some q.0) (same_Some (prior, p) (task, part) is')
 finish_subject task part (Cancel flags own share) is =
     ap (λ (q : ℕ × Part). Some q.0)
-        (if_some (has_flag flags.0 flag.discarded_task) (own, Whole) (task, part) is)
+    (if_some (has_flag flags.0 flag.discarded_task) (own, Whole) (task, part) is)
 finish_subject task part _ is = absurd (none-some (task, part) is)
 
 pub region_subject : (task : ℕ) (kind : SyncKind) (endpoint : Endpoint) (b : Body)

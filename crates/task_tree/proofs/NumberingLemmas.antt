@@ -33,16 +33,16 @@ indices_more ids order old new id are fresh updates = record {
       | inl before_b ↦ are.apart a b other before_a before_b
       | inr last_b ↦
           absurd
-              (fresh
-                  (let P : ℕ → Type 0 = Contains ids in
-                   subst P (sym last_b.1) (get_contains ids other a before_a)))
+          (fresh
+          (let P : ℕ → Type 0 = Contains ids in
+          subst P (sym last_b.1) (get_contains ids other a before_a)))
     ]
     | inr last_a ↦ elim (pushed_cases ids id other b at_b) [
       | inl before_b ↦
           absurd
-              (fresh
-                  (let P : ℕ → Type 0 = Contains ids in
-                   subst P (sym last_a.1) (get_contains ids other b before_b)))
+          (fresh
+          (let P : ℕ → Type 0 = Contains ids in
+          subst P (sym last_a.1) (get_contains ids other b before_b)))
       | inr last_b ↦ last_a.0 ∙ sym last_b.0
     ]
   ];
@@ -50,12 +50,12 @@ indices_more ids order old new id are fresh updates = record {
   noted_right = λ other index found. elim (cases_eq other id) [
     | inl same ↦
         let last : length ids ≡ index =
-            same_Some (length ids) index (sym here ∙ ap (get nat_cmp new) (sym same) ∙ found) in
+        same_Some (length ids) index (sym here ∙ ap (get nat_cmp new) (sym same) ∙ found) in
         get_last ids id index (sym last) ∙ ap Some (sym same)
     | inr apart ↦
         get_pushed ids id other index
-            (are.noted_right other index
-                (sym (updated_there old new id (Some (length ids)) updates other apart) ∙ found))
+        (are.noted_right other index
+        (sym (updated_there old new id (Some (length ids)) updates other apart) ∙ found))
   ];
   all = λ index other stands. elim (pushed_cases ids id other index stands) [
     | inr last ↦ inl (ap (get nat_cmp new) (sym last.1) ∙ here ∙ ap Some (sym last.0))
@@ -63,12 +63,12 @@ indices_more ids order old new id are fresh updates = record {
       | inr has ↦ inr has
       | inl found ↦
           inl
-              (updated_there old new id (Some (length ids)) updates other
-                  (λ same.
-                      fresh
-                          (let P : ℕ → Type 0 = Contains ids in
-                           subst P same (get_contains ids other index before)))
-                  ∙ found)
+          (updated_there old new id (Some (length ids)) updates other
+          (λ same.
+          fresh
+          (let P : ℕ → Type 0 = Contains ids in
+          subst P same (get_contains ids other index before)))
+          ∙ found)
     ]
   ];
 }
@@ -119,7 +119,8 @@ contains_or_not (x ∷ xs) id = elim (cases_eq x id) [
 -- an id stands at one index
 pub index_is : (ids : List ℕ) (id near : ℕ) → AreApart ids → slice_get ids near ≡ Some id → (index : ℕ)
     → (Some near ≡ Some index) ↔ (slice_get ids index ≡ Some id)
-index_is ids id near apart is index =
-    (λ same.
-        ap (slice_get ids) (sym (same_Some near index same)) ∙ is,
-            λ is_too. ap Some (apart near index id is is_too))
+index_is ids id near apart is index = (
+  λ same.
+      ap (slice_get ids) (sym (same_Some near index same)) ∙ is,
+  λ is_too. ap Some (apart near index id is is_too),
+)

@@ -32,18 +32,20 @@ pub one_parent : (rs : List Record) (task parent other i k : ℕ) → IsFreeOf r
     → (i ≡ k) × (parent ≡ other)
 one_parent rs task parent other i k free here there =
     let same : i ≡ k =
-        made_once rs task i k free (creation_made rs parent task i here)
-            (creation_made rs other task k there) in
-    (same,
-        ap (λ (p : ℕ × ℕ). p.0)
-            (same_Some (parent, task) (other, task) (sym here ∙ ap (at creation rs) same ∙ there)))
+    made_once rs task i k free (creation_made rs parent task i here)
+    (creation_made rs other task k there) in (
+      same,
+      ap (λ (p : ℕ × ℕ). p.0)
+          (same_Some (parent, task) (other, task) (sym here ∙ ap (at creation rs) same ∙ there)),
+    )
 
 pub one_number : (rs : List Record) (task parent other number another : ℕ) → IsFreeOf rs CreatedTwice
     → IsChild rs parent number task → IsChild rs other another task → (parent ≡ other) × (number ≡ another)
 one_number rs task parent other number another free here there =
     let first = child_place rs parent (length rs) number task here in
     let second = child_place rs other (length rs) another task there in
-    let same = one_parent rs task parent other first.0 second.0 free first.2 second.2 in
-    (same.1,
-        sym first.3 ∙ ap (child_number rs parent) same.0 ∙ ap (λ p. child_number rs p second.0) same.1
-            ∙ second.3)
+    let same = one_parent rs task parent other first.0 second.0 free first.2 second.2 in (
+      same.1,
+      sym first.3 ∙ ap (child_number rs parent) same.0 ∙ ap (λ p. child_number rs p second.0) same.1
+          ∙ second.3,
+    )

@@ -23,8 +23,8 @@ use Rattle.task_tree.proofs.RankedLemmas.{not_standing, map_get, map_length}
 pub own_permuted : (rs : List Record) → IsPermutation (places rs) (own_places rs)
 own_permuted rs =
     by_key_permuted (turn_at rs) (turns_in rs) (places rs)
-        (every_weaker (λ k. k < 0 + length rs) (λ i. turn_at rs i < turns_in rs) (λ i below. turn_low rs i)
-            (places rs) (row_below 0 (length rs)))
+    (every_weaker (λ k. k < 0 + length rs) (λ i. turn_at rs i < turns_in rs) (λ i below. turn_low rs i)
+    (places rs) (row_below 0 (length rs)))
 
 pub own_ranked : (rs : List Record) → Ranked (Comes (turn_at rs)) (own_places rs)
 own_ranked rs = by_key_ranked (turn_at rs) (turns_in rs) (places rs) (row_rises 0 (length rs))
@@ -36,14 +36,14 @@ own_length rs =
 pub own_has : (rs : List Record) (i : ℕ) → i < length rs → (n : ℕ) × (slice_get (own_places rs) n ≡ Some i)
 own_has rs i within =
     contains_get (own_places rs) i
-        (Contains-permutation (places rs) (own_places rs) i (own_permuted rs) (contains_place rs i within))
+    (Contains-permutation (places rs) (own_places rs) i (own_permuted rs) (contains_place rs i within))
 
 pub own_within : (rs : List Record) (n i : ℕ) → slice_get (own_places rs) n ≡ Some i → i < length rs
 own_within rs n i is =
     place_below rs i
-        (Contains-permutation (own_places rs) (places rs) i
-            (IsPermutation-sym (places rs) (own_places rs) (own_permuted rs))
-            (get_contains (own_places rs) i n is))
+    (Contains-permutation (own_places rs) (places rs) i
+    (IsPermutation-sym (places rs) (own_places rs) (own_permuted rs))
+    (get_contains (own_places rs) i n is))
 
 -- the place of a place is below the length exactly where there is such a place
 pub own_place_within : (rs : List Record) (i : ℕ) → i < length rs → own_place rs i < length rs
@@ -57,7 +57,7 @@ own_place_within rs i within =
 pub own_place_past : (rs : List Record) (i : ℕ) → length rs ≤ i → own_place rs i ≡ length rs
 own_place_past rs i past =
     not_standing (own_places rs) i (λ n is. let within = own_within rs n i is in absurd (omega arith))
-        ∙ own_length rs
+    ∙ own_length rs
 
 pub own_place_iff : (rs : List Record) (i : ℕ) → own_place rs i < length rs ↔ i < length rs
 own_place_iff rs i = (back, own_place_within rs i)
@@ -102,27 +102,29 @@ own_place_of rs n i is =
 -- by turn, and then in file order
 pub own_order : (rs : List Record) (i k : ℕ) → i < length rs → k < length rs
     → own_place rs i < own_place rs k
-        ↔ ((turn_at rs i < turn_at rs k) ⊎ ((turn_at rs i ≡ turn_at rs k) × (i < k)))
-own_order rs i k one other =
-    (λ less.
-        own_comes rs (own_place rs i) (own_place rs k) i k less (own_get rs i one) (own_get rs k other), back)
+    ↔ ((turn_at rs i < turn_at rs k) ⊎ ((turn_at rs i ≡ turn_at rs k) × (i < k)))
+own_order rs i k one other = (
+  λ less.
+      own_comes rs (own_place rs i) (own_place rs k) i k less (own_get rs i one) (own_get rs k other),
+  back,
+)
   where
     back : Comes (turn_at rs) i k → own_place rs i < own_place rs k
     back comes = elim (cases_order (own_place rs i) (own_place rs k)) [
       | inl same ↦
           absurd
-              (not_itself rs i
-                  (subst (Comes (turn_at rs) i)
-                      (same_Some k i
-                          (sym (own_get rs k other) ∙ ap (slice_get (own_places rs)) (sym same)
-                              ∙ own_get rs i one))
-                      comes))
+          (not_itself rs i
+          (subst (Comes (turn_at rs) i)
+          (same_Some k i
+          (sym (own_get rs k other) ∙ ap (slice_get (own_places rs)) (sym same)
+          ∙ own_get rs i one))
+          comes))
       | inr (inl less) ↦ less
       | inr (inr more) ↦
           absurd
-              (not_both rs i k comes
-                  (own_comes rs (own_place rs k) (own_place rs i) k i more (own_get rs k other)
-                      (own_get rs i one)))
+          (not_both rs i k comes
+          (own_comes rs (own_place rs k) (own_place rs i) k i more (own_get rs k other)
+          (own_get rs i one)))
     ]
 
 -- ---- the records in that order
@@ -161,5 +163,5 @@ own_all_places rs = record {
   each = own_has rs;
   apart =
       λ number other place one another.
-          sym (own_place_of rs number place one) ∙ own_place_of rs other place another;
+      sym (own_place_of rs number place one) ∙ own_place_of rs other place another;
 }

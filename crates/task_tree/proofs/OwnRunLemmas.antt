@@ -48,7 +48,7 @@ pub own_covers : (rs : List Record) (own : OwnView) → IsOwnOf rs own → (numb
     → Covers own.run.records number task ↔ Covers (in_own_order rs) (own_place rs place) task
 own_covers rs own (own_in_file records order rise) number place is task =
     rw (records, file_place rs number place (rw order at is))
-        (renamed_covers (own_renaming rs rise) place task)
+    (renamed_covers (own_renaming rs rise) place task)
 own_covers rs own (own_by_turn records order) number place is task =
     rw (records, own_place_of rs number place (rw order at is)) (λ c. c, λ c. c)
 

@@ -38,10 +38,10 @@ climb_start rs tasks r task index path numbers here stands empty = record {
 -- the last number of a path, if it has one
 last_step : (rs : List Record) (r current : ℕ) (up : List ℕ) → HasPath rs r current up
     → (up ≡ [])
-        ⊎ ((number parent : ℕ) × (rest : List ℕ) × (up ≡ rest ++ number ∷ []) × HasPath rs r parent rest
-              × IsChild rs parent number current)
+    ⊎ ((number parent : ℕ) × (rest : List ℕ) × (up ≡ rest ++ number ∷ []) × HasPath rs r parent rest
+    × IsChild rs parent number current)
 last_step rs r current up (top is) = inl refl
-last_step rs r current up (below number { parent = parent } { path = rest } stands child) =
+last_step rs r current up (below number {parent = parent} {path = rest} stands child) =
     inr (number, parent, rest, refl, stands, child)
 
 -- not at the root there is one
@@ -60,25 +60,26 @@ pub climb_more : (rs : List Record) (family : FamilyView) (r index steps : ℕ) 
     → IsClimbed rs family.tasks r path (steps + 1) link.parent (numbers ++ link.number ∷ [])
 climb_more rs family r index steps path numbers link are climbed short is_link =
     elim (last_step rs r climbed.current climbed.up climbed.stands) [
-  | inl empty ↦ absurd (more_steps rs family.tasks r steps index path numbers climbed short empty)
-  | inr (number, parent, rest, is, stands, child) ↦
-      let of = link_child rs family climbed.current link are (index, climbed.here, is_link) in
-      let same = one_number rs climbed.current of.0 parent link.number number are.once of.2 child in
-      record {
-        current = parent;
-        up = rest;
-        passed = number ∷ climbed.passed;
-        here = of.1 ∙ ap Some same.0;
-        parts =
-            climbed.parts ∙ ap (λ l. l ++ climbed.passed) is ∙ append_assoc rest (number ∷ []) climbed.passed;
-        stands = stands;
-        reversed =
-            ap (λ l. l ++ link.number ∷ []) climbed.reversed
+      | inl empty ↦ absurd (more_steps rs family.tasks r steps index path numbers climbed short empty)
+      | inr (number, parent, rest, is, stands, child) ↦
+          let of = link_child rs family climbed.current link are (index, climbed.here, is_link) in
+          let same = one_number rs climbed.current of.0 parent link.number number are.once of.2 child in
+          record {
+            current = parent;
+            up = rest;
+            passed = number ∷ climbed.passed;
+            here = of.1 ∙ ap Some same.0;
+            parts =
+                climbed.parts ∙ ap (λ l. l ++ climbed.passed) is
+                ∙ append_assoc rest (number ∷ []) climbed.passed;
+            stands = stands;
+            reversed =
+                ap (λ l. l ++ link.number ∷ []) climbed.reversed
                 ∙ ap (λ n. reverse climbed.passed ++ n ∷ []) same.1
                 ∙ sym (reverse-append (number ∷ []) climbed.passed);
-        all = let all = climbed.all in omega (arith, all);
-      }
-]
+            all = let all = climbed.all in omega (arith, all);
+          }
+    ]
 
 -- a task that stands below its root has a link
 pub climb_link : (rs : List Record) (family : FamilyView) (r index steps : ℕ) (path numbers : List ℕ)
@@ -86,15 +87,16 @@ pub climb_link : (rs : List Record) (family : FamilyView) (r index steps : ℕ) 
     → (link : Link) × (slice_get family.links index ≡ Some (Some link))
 climb_link rs family r index steps path numbers are climbed short =
     elim (last_step rs r climbed.current climbed.up climbed.stands) [
-  | inl empty ↦ absurd (more_steps rs family.tasks r steps index path numbers climbed short empty)
-  | inr (number, parent, rest, is, stands, child) ↦
-      let place = child_place rs parent (length rs) number climbed.current child in
-      let found = link_found rs family place.0 parent climbed.current are place.2 in
-      (found.0,
-          ap (slice_get family.links)
-              (are.makers.apart index found.1.0 climbed.current climbed.here found.1.1)
-              ∙ found.1.2)
-]
+      | inl empty ↦ absurd (more_steps rs family.tasks r steps index path numbers climbed short empty)
+      | inr (number, parent, rest, is, stands, child) ↦
+          let place = child_place rs parent (length rs) number climbed.current child in
+          let found = link_found rs family place.0 parent climbed.current are place.2 in (
+            found.0,
+            ap (slice_get family.links)
+                (are.makers.apart index found.1.0 climbed.current climbed.here found.1.1)
+                ∙ found.1.2,
+          )
+    ]
 
 -- at the root all numbers are passed
 pub climbed_all : (rs : List Record) (tasks : List ℕ) (r index steps : ℕ) (path numbers : List ℕ)
@@ -105,8 +107,8 @@ climbed_all rs tasks r index steps path numbers climbed enough = from climbed.up
     from [] parts = ap reverse climbed.reversed ∙ reverse-reverse climbed.passed ∙ sym parts
     from (x ∷ xs) parts =
         absurd
-            (let same = ap length parts ∙ length-append (x ∷ xs) climbed.passed in
-             let all = climbed.all in omega (arith, same, all, enough))
+        (let same = ap length parts ∙ length-append (x ∷ xs) climbed.passed in
+        let all = climbed.all in omega (arith, same, all, enough))
 
 -- ---- the stored paths
 
@@ -117,7 +119,7 @@ made_at rs i task makes = there (slice_get rs i) makes
   where
     there : (o : Option Record) → option_and_then (λ (r : Record). made r.body) o ≡ Some task
         → (option_and_then (λ (r : Record). begun_root r.body) o ≡ Some task)
-            ⊎ (option_and_then (λ (r : Record). created r.body) o ≡ Some task)
+        ⊎ (option_and_then (λ (r : Record). created r.body) o ≡ Some task)
     there None is = absurd (none-some task is)
     there (Some r) is = made_cases task r.body is
 
@@ -136,9 +138,9 @@ pub root_known : (rs : List Record) (family : FamilyView) (task index : ℕ) →
     → slice_get family.tasks index ≡ Some task → (r : ℕ) × (path : List ℕ) × HasPath rs r task path
 root_known rs family task index are is =
     of (get_or family.roots index None)
-        (slice_get-get_or family.roots index None
-            (let within = slice_get_within family.tasks index task is in
-             omega (arith, within, are.roots.all)))
+    (slice_get-get_or family.roots index None
+    (let within = slice_get_within family.tasks index task is in
+    omega (arith, within, are.roots.all)))
   where
     of : (o : Option Standing) → slice_get family.roots index ≡ Some o
         → (r : ℕ) × (path : List ℕ) × HasPath rs r task path
@@ -161,10 +163,10 @@ path_is rs family paths task index found of_records are is within read path = (
     stored : (r : ℕ) (p : List ℕ) → HasPath rs r task p → found.items ≡ p
     stored r p stands =
         same_Some found.items p
-            (sym
-                (ap (option_map (λ (l : Vec ℕ). l.items))
-                    (slice_get_read paths (length paths) index found refl within read))
-                ∙ are.each index task r p is stands)
+        (sym
+        (ap (option_map (λ (l : Vec ℕ). l.items))
+        (slice_get_read paths (length paths) index found refl within read))
+        ∙ are.each index task r p is stands)
 
 pub path_none : (rs : List Record) (family : FamilyView) (task : ℕ) → IsFamilyOf rs family
     → (Contains family.tasks task → ⊥) → (path : List ℕ)

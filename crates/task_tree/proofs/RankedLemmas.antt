@@ -57,10 +57,11 @@ row_rises a (suc n) = (row_above a (a + 1) n (omega arith), row_rises (a + 1) n)
 
 pub row_below : (a n : ℕ) → Every (λ k. k < a + n) (range_with_len a n)
 row_below a zero = tt
-row_below a (suc n) =
-    (omega arith,
-        every_weaker (λ k. k < a + 1 + n) (λ k. k < a + suc n) (λ k less. omega arith)
-            (range_with_len (a + 1) n) (row_below (a + 1) n))
+row_below a (suc n) = (
+  omega arith,
+  every_weaker (λ k. k < a + 1 + n) (λ k. k < a + suc n) (λ k less. omega arith)
+      (range_with_len (a + 1) n) (row_below (a + 1) n),
+)
 
 -- ---- numbers by their keys, and those with the same key in the order in which they stand
 
@@ -72,7 +73,7 @@ module _ (key : ℕ → ℕ) where
   by_key_more n xs =
       let f : ℕ → List ℕ = λ turn. filter (λ i. key i == turn) xs in
       ap (flat_map f) (range_more n) ∙ flat_map-append f (range_with_len 0 n) (n ∷ [])
-          ∙ ap (λ l. flat_map f (range_with_len 0 n) ++ l) (append-nil (f n))
+      ∙ ap (λ l. flat_map f (range_with_len 0 n) ++ l) (append-nil (f n))
 
   -- one element more: it goes to one of the two parts, or to none
   join : (b c : Bool) (x : ℕ) (whole one other : List ℕ) → b && c ≡ false → IsPermutation whole (one ++ other)
@@ -81,8 +82,8 @@ module _ (key : ℕ → ℕ) where
   join true false x whole one other both parts = IsPermutation-cons x whole (one ++ other) parts
   join false true x whole one other both parts =
       IsPermutation-trans (x ∷ whole) (x ∷ (one ++ other)) (one ++ x ∷ other)
-          (IsPermutation-cons x whole (one ++ other) parts)
-          (IsPermutation-sym (one ++ x ∷ other) (x ∷ (one ++ other)) (IsPermutation-middle one x other))
+      (IsPermutation-cons x whole (one ++ other) parts)
+      (IsPermutation-sym (one ++ x ∷ other) (x ∷ (one ++ other)) (IsPermutation-middle one x other))
   join false false x whole one other both parts = parts
 
   next_key : (k n : ℕ) → (ltb k (n + 1) ≡ (ltb k n || eqb k n)) × ((ltb k n && eqb k n) ≡ false)
@@ -90,25 +91,25 @@ module _ (key : ℕ → ℕ) where
     | inl same ↦ rw (lt-ltb k (n + 1) (omega arith), le-ltb k n (omega arith), eq-eqb k n same) (refl, refl)
     | inr (inl less) ↦
         rw (lt-ltb k (n + 1) (omega arith), lt-ltb k n less, ne_eqb k n (λ e. absurd (omega arith)))
-            (refl, refl)
+        (refl, refl)
     | inr (inr more) ↦
         rw (le-ltb k (n + 1) (omega arith), le-ltb k n (omega arith), ne_eqb k n (λ e. absurd (omega arith)))
-            (refl, refl)
+        (refl, refl)
   ]
 
   one_more : (n : ℕ) (xs : List ℕ)
       → IsPermutation (filter (λ i. ltb (key i) (n + 1)) xs)
-          (filter (λ i. ltb (key i) n) xs ++ filter (λ i. eqb (key i) n) xs)
+      (filter (λ i. ltb (key i) n) xs ++ filter (λ i. eqb (key i) n) xs)
   one_more n [] = IsPermutation-refl []
   one_more n (x ∷ xs) =
       let whole = filter (λ i. ltb (key i) (n + 1)) xs in
       let one = filter (λ i. ltb (key i) n) xs in
       let other = filter (λ i. eqb (key i) n) xs in
       subst
-          (λ b.
-              IsPermutation (cond b (x ∷ whole) whole)
-                  (cond (ltb (key x) n) (x ∷ one) one ++ cond (eqb (key x) n) (x ∷ other) other))
-          (sym (next_key (key x) n).0)
+      (λ b.
+      IsPermutation (cond b (x ∷ whole) whole)
+      (cond (ltb (key x) n) (x ∷ one) one ++ cond (eqb (key x) n) (x ∷ other) other))
+      (sym (next_key (key x) n).0)
       (join (ltb (key x) n) (eqb (key x) n) x whole one other (next_key (key x) n).1 (one_more n xs))
 
   none_below : (xs : List ℕ) → filter (λ i. ltb (key i) 0) xs ≡ []
@@ -122,10 +123,10 @@ module _ (key : ℕ → ℕ) where
       let P : ℕ → Type 0 = λ m. IsPermutation (filter (λ i. ltb (key i) m) xs) (by_key m xs) in
       let same = filter (λ i. eqb (key i) n) xs in
       let below = filter (λ i. ltb (key i) n) xs in
-      subst P (sym next) ( subst (IsPermutation (filter (λ i. ltb (key i) (n + 1)) xs))
-          (sym (by_key_more n xs))
+      subst P (sym next) (subst (IsPermutation (filter (λ i. ltb (key i) (n + 1)) xs))
+      (sym (by_key_more n xs))
       (IsPermutation-trans (filter (λ i. ltb (key i) (n + 1)) xs) (below ++ same) (by_key n xs ++ same)
-          (one_more n xs) (IsPermutation-append_left same below (by_key n xs) (part_permuted n xs))))
+      (one_more n xs) (IsPermutation-append_left same below (by_key n xs) (part_permuted n xs))))
 
   all_below : (n : ℕ) (xs : List ℕ) → Every (λ i. key i < n) xs → filter (λ i. ltb (key i) n) xs ≡ xs
   all_below n [] each = refl
@@ -144,10 +145,10 @@ module _ (key : ℕ → ℕ) where
       subst P (sym next) (subst (Every (λ i. key i < n + 1)) (sym (by_key_more n xs))
       (every_append (λ i. key i < n + 1) (by_key n xs) (filter (λ i. key i == n) xs)
       (every_weaker (λ i. key i < n) (λ i. key i < n + 1) (λ i less. omega arith) (by_key n xs)
-          (keyed_below n xs))
+      (keyed_below n xs))
       (every_weaker (λ i. (key i == n) ≡ true) (λ i. key i < n + 1)
-          (λ i same. let is = eqb-true (key i) n same in omega arith) (filter (λ i. key i == n) xs)
-          (every_passes (λ i. key i == n) xs))))
+      (λ i same. let is = eqb-true (key i) n same in omega arith) (filter (λ i. key i == n) xs)
+      (every_passes (λ i. key i == n) xs))))
 
   -- by key, and then by size
   abbrev pub Comes : ℕ → ℕ → Type 0
@@ -168,14 +169,14 @@ module _ (key : ℕ → ℕ) where
       let P : ℕ → Type 0 = λ m. Ranked Comes (by_key m xs) in
       let same = filter (λ i. key i == n) xs in
       let of_key : Every (λ i. key i ≡ n) same =
-          every_weaker (λ i. (key i == n) ≡ true) (λ i. key i ≡ n) (λ i is. eqb-true (key i) n is) same
-              (every_passes (λ i. key i == n) xs) in
+      every_weaker (λ i. (key i == n) ≡ true) (λ i. key i ≡ n) (λ i is. eqb-true (key i) n is) same
+      (every_passes (λ i. key i == n) xs) in
       subst P (sym next) (subst (Ranked Comes) (sym (by_key_more n xs))
-      ( ranked_append Comes (by_key n xs) same (by_key_ranked n xs ranked)
-          (same_key n same (ranked_filter (λ i k. i < k) (λ i. key i == n) xs ranked) of_key)
+      (ranked_append Comes (by_key n xs) same (by_key_ranked n xs ranked)
+      (same_key n same (ranked_filter (λ i k. i < k) (λ i. key i == n) xs ranked) of_key)
       (every_weaker (λ i. key i < n) (λ i. Every (Comes i) same)
-          (λ i less. every_weaker (λ k. key k ≡ n) (Comes i) (λ k is. inl (omega arith)) same of_key)
-          (by_key n xs) (keyed_below n xs))))
+      (λ i less. every_weaker (λ k. key k ≡ n) (Comes i) (λ k is. inl (omega arith)) same of_key)
+      (by_key n xs) (keyed_below n xs))))
 
 -- ---- where a number stands
 
@@ -187,15 +188,15 @@ stands_at (x ∷ xs) i less = elim (cases_eq x i) [
   | inr apart ↦
       let later : eqb x i ≡ false = ne_eqb x i apart in
       let P : Bool → Type 0 =
-          λ b.
-              cond (not b) (1 + position_or_len (λ k. k == i) xs) 0 < suc (length xs)
-                  → slice_get (x ∷ xs) (cond (not b) (1 + position_or_len (λ k. k == i) xs) 0) ≡ Some i in
+      λ b.
+      cond (not b) (1 + position_or_len (λ k. k == i) xs) 0 < suc (length xs)
+      → slice_get (x ∷ xs) (cond (not b) (1 + position_or_len (λ k. k == i) xs) 0) ≡ Some i in
       subst P (sym later)
-          (λ below.
-              let next : 1 + position_or_len (λ k. k == i) xs ≡ suc (position_or_len (λ k. k == i) xs) =
-                  omega arith in
-              ap (slice_get (x ∷ xs)) next ∙ stands_at xs i (omega arith))
-          less
+      (λ below.
+      let next : 1 + position_or_len (λ k. k == i) xs ≡ suc (position_or_len (λ k. k == i) xs) =
+      omega arith in
+      ap (slice_get (x ∷ xs)) next ∙ stands_at xs i (omega arith))
+      less
 ]
 
 pub stands_below : (xs : List ℕ) (i n : ℕ) → slice_get xs n ≡ Some i → position_or_len (λ k. k == i) xs ≤ n

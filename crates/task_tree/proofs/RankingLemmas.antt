@@ -42,14 +42,16 @@ range_within ids rank inside =
 pub permutation_within : (ids order : List ℕ) → IsPermutation (range_with_len 0 (length ids)) order
     → AreWithin ids order
 permutation_within ids order moved rank inside =
-    let has : Contains order (slice_index order rank) =
-        (rank, inside,
-            same_Some _ _
-                (sym (slice_get-get_or order rank (slice_index order rank) inside)
-                    ∙ slice_get-get_or order rank 0 inside)) in
+    let has : Contains order (slice_index order rank) = (
+      rank,
+      inside,
+      same_Some _ _
+          (sym (slice_get-get_or order rank (slice_index order rank) inside)
+          ∙ slice_get-get_or order rank 0 inside),
+    ) in
     below_range (length ids) (slice_index order rank)
-        (Contains-permutation order (range_with_len 0 (length ids)) (slice_index order rank)
-            (IsPermutation-sym (range_with_len 0 (length ids)) order moved) has)
+    (Contains-permutation order (range_with_len 0 (length ids)) (slice_index order rank)
+    (IsPermutation-sym (range_with_len 0 (length ids)) order moved) has)
 
 pub range_ranked : (ids : List ℕ)
     → IsRising ids (range_with_len 0 (length ids)) (length (range_with_len 0 (length ids)))
@@ -65,8 +67,8 @@ permutation_ranked ids order moved rising = record {
   known = record { within = permutation_within ids order moved; rising = rising };
   all =
       λ index low.
-          Contains-permutation (range_with_len 0 (length ids)) order index moved
-              (contains_range (length ids) index low);
+      Contains-permutation (range_with_len 0 (length ids)) order index moved
+      (contains_range (length ids) index low);
 }
 
 -- one id more is greater than the last, and so than all before it
@@ -94,16 +96,18 @@ at_rank : (ids order : List ℕ) (index id rank : ℕ) → slice_index order ran
     → slice_get ids index ≡ Some id → ranked_id ids order rank ≡ id
 at_rank ids order index id rank here is =
     ap (slice_index ids) here
-        ∙ same_Some (slice_index ids index) id
-            (sym (slice_get-get_or ids index 0 (slice_get_within ids index id is)) ∙ is)
+    ∙ same_Some (slice_index ids index) id
+    (sym (slice_get-get_or ids index 0 (slice_get_within ids index id is)) ∙ is)
 
 -- the rank of an index
 rank_of : (order : List ℕ) (index : ℕ) → Contains order index
     → (rank : ℕ) × (rank < length order) × (slice_index order rank ≡ index)
-rank_of order index (rank, inside, is) =
-    (rank, inside,
-        same_Some _ _ (sym (slice_get-get_or order rank 0 inside) ∙ slice_get-get_or order rank index inside)
-            ∙ is)
+rank_of order index (rank, inside, is) = (
+  rank,
+  inside,
+  same_Some _ _ (sym (slice_get-get_or order rank 0 inside) ∙ slice_get-get_or order rank index inside)
+      ∙ is,
+)
 
 -- an id that is ranked stands at one index
 pub ranked_apart : (ids order : List ℕ) → IsRanked ids order → AreApart ids
@@ -125,10 +129,10 @@ pub order_kept : (ids order : List ℕ) (id : ℕ) → IsOrder ids order → IsO
 order_kept ids order id are = record {
   within =
       λ rank inside.
-          let low = are.within rank inside in let longer = length_push ids id in omega (arith, low, longer);
+      let low = are.within rank inside in let longer = length_push ids id in omega (arith, low, longer);
   rising =
       λ a b less inside.
-          rw (same a (omega (arith, less, inside)), same b inside) (are.rising a b less inside);
+      rw (same a (omega (arith, less, inside)), same b inside) (are.rising a b less inside);
 }
   where
     same : (rank : ℕ) → rank < length order → ranked_id (ids ++ id ∷ []) order rank ≡ ranked_id ids order rank

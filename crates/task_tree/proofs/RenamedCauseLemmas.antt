@@ -23,9 +23,14 @@ pub moved_order : {rs ss : List Record} {to back : ℕ → ℕ} → IsReordered 
     → HasCause rs i RegionOrder → HasCause ss (to i) RegionOrder
 moved_order r i (region_order (task, kind, is)) = region_order (task, kind, moved_no_region r i task kind is)
 moved_order r i (barrier_order (task, kind, endpoint, says, called, explicit)) =
-    barrier_order
-        (task, kind, endpoint, moved_at region blind_region (task, kind, endpoint) r i says, called,
-            moved_explicit r task explicit)
+    barrier_order (
+      task,
+      kind,
+      endpoint,
+      moved_at region blind_region (task, kind, endpoint) r i says,
+      called,
+      moved_explicit r task explicit,
+    )
 
 pub order_within : (rs : List Record) (i : ℕ) → HasCause rs i RegionOrder → i < length rs
 order_within rs i (region_order (task, kind, is)) = at_within region rs i (task, kind, End) is.ends
@@ -49,10 +54,10 @@ moved_is_short r i (other_size m e joins has different) =
 moved_is_short r i (few m joins less) =
     let P : List Membership → Type 0 = λ l. length l < m.actual in
     few m (moved_at joined blind_joined m r i joins) (subst P (sym (same_members r m.parallel)) less)
-moved_is_short { to = to } { back = back } r i
+moved_is_short {to = to} {back = back} r i
     (missed task member begin number kind ends barrier numbered mate never) =
     missed task member (to begin) number kind (moved_region r i task kind begin ends) barrier
-        (moved_barrier_begin r task number begin numbered) (moved_teammate r task member mate)
+    (moved_barrier_begin r task number begin numbered) (moved_teammate r task member mate)
     (λ start starts. never (back start) (moved_barrier_begin (reordered_back r) member number start starts))
 
 pub short_within : (rs : List Record) (i : ℕ) → IsShort rs i → i < length rs
@@ -80,10 +85,14 @@ moved_claim r task claimed right = record {
 pub moved_share : {rs ss : List Record} {to back : ℕ → ℕ} → IsReordered rs ss to back → (i : ℕ)
     → HasCause rs i ShareWrong → HasCause ss (to i) ShareWrong
 moved_share r i (share_wrong (task, part, claimed, finishes, claims, wrong)) =
-    share_wrong
-        (task, part, claimed, moved_at finish blind_finish (task, part) r i finishes,
-            moved_at claim blind_claim claimed r i claims,
-            λ right. wrong (moved_claim (reordered_back r) task claimed right))
+    share_wrong (
+      task,
+      part,
+      claimed,
+      moved_at finish blind_finish (task, part) r i finishes,
+      moved_at claim blind_claim claimed r i claims,
+      λ right. wrong (moved_claim (reordered_back r) task claimed right),
+    )
 
 pub share_within : (rs : List Record) (i : ℕ) → HasCause rs i ShareWrong → i < length rs
 share_within rs i (share_wrong (task, part, claimed, finishes, claims, wrong)) =

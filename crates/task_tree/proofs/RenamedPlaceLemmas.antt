@@ -73,24 +73,27 @@ rises_back p q to back rises passes to_back j l j_is l_is below = elim (cases_lt
     | inl same ↦ absurd (omega (arith, to_back j j_is, to_back l l_is, ap to same, below))
     | inr apart ↦
         absurd
-            (omega
-                (arith, to_back j j_is, to_back l l_is,
-                    rises (back l) (back j) (passes l l_is) (passes j j_is) (omega (arith, more, apart)),
-                    below))
+        (omega (
+          arith,
+          to_back j j_is,
+          to_back l l_is,
+          rises (back l) (back j) (passes l l_is) (passes j j_is) (omega (arith, more, apart)),
+          below,
+        ))
   ]
 ]
 
 same_back : {X : Type 0} (f : Body → Option X) → IsBlind f → {rs ss : List Record} {to back : ℕ → ℕ}
     → IsReordered rs ss to back → (j : ℕ) → j < length ss → at f rs (back j) ≡ at f ss j
-same_back f blind { ss = ss } { back = back } r j within =
+same_back f blind {ss = ss} {back = back} r j within =
     sym (same_at f blind r (back j) (r.back_within j within)) ∙ ap (at f ss) (r.to_back j within)
 
 own_back : {rs ss : List Record} {to back : ℕ → ℕ} → IsReordered rs ss to back → (task j : ℕ)
     → is_own ss task j ≡ true → is_own rs task (back j) ≡ true
-own_back { ss = ss } r task j own =
+own_back {ss = ss} r task j own =
     ap (λ (o : Option ℕ). option_map_or (λ t. t == task) o false)
-        (same_back running blind_running r j (own_within ss task j own))
-        ∙ own
+    (same_back running blind_running r j (own_within ss task j own))
+    ∙ own
 
 pub reordered_back : {rs ss : List Record} {to back : ℕ → ℕ} → IsReordered rs ss to back
     → IsReordered ss rs back to
@@ -101,16 +104,16 @@ reordered_back {rs} {ss} {to} {back} r = record {
   to_back = r.back_to;
   alike =
       λ j within.
-          sym (r.alike (back j) (r.back_within j within))
-              ∙ ap (at (λ body. Some (untold body)) ss) (r.to_back j within);
+      sym (r.alike (back j) (r.back_within j within))
+      ∙ ap (at (λ body. Some (untold body)) ss) (r.to_back j within);
   own_rise =
       λ task.
-          rises_back (is_own rs task) (is_own ss task) to back (r.own_rise task) (own_back r task)
-              (λ j own. r.to_back j (own_within ss task j own));
+      rises_back (is_own rs task) (is_own ss task) to back (r.own_rise task) (own_back r task)
+      (λ j own. r.to_back j (own_within ss task j own));
   members_rise =
       rises_back (λ i. is_some (at joined rs i)) (λ j. is_some (at joined ss j)) to back r.members_rise
-          (λ j joins. ap is_some (same_back joined blind_joined r j (some_within joined ss j joins)) ∙ joins)
-          (λ j joins. r.to_back j (some_within joined ss j joins));
+      (λ j joins. ap is_some (same_back joined blind_joined r j (some_within joined ss j joins)) ∙ joins)
+      (λ j joins. r.to_back j (some_within joined ss j joins));
 }
 
 -- ---- a task's own records

@@ -39,11 +39,11 @@ after_mapped to opened k (Some (task, kind, BeginEnd)) = refl
 opened_mapped : (to : ℕ → ℕ) (g h : ℕ → Option (ℕ × SyncKind × Endpoint)) (opened xs : List ℕ)
     → ((k : ℕ) → IsIn k xs → g (to k) ≡ h k)
     → fold (λ o k. after_region o k (g k)) (map to opened) (map to xs)
-        ≡ map to (fold (λ o k. after_region o k (h k)) opened xs)
+    ≡ map to (fold (λ o k. after_region o k (h k)) opened xs)
 opened_mapped to g h opened [] same = refl
 opened_mapped to g h opened (x ∷ xs) same =
     ap (λ l. fold (λ o k. after_region o k (g k)) l (map to xs))
-        (ap (after_region (map to opened) (to x)) (same x (inl refl)) ∙ after_mapped to opened x (h x))
+    (ap (after_region (map to opened) (to x)) (same x (inl refl)) ∙ after_mapped to opened x (h x))
     ∙ opened_mapped to g h (after_region opened x (h x)) xs (λ k is. same k (inr is))
 
 pub open_cut : {rs ss : List Record} {to back : ℕ → ℕ} → IsReordered rs ss to back → (task n m : ℕ)
@@ -51,7 +51,7 @@ pub open_cut : {rs ss : List Record} {to back : ℕ → ℕ} → IsReordered rs 
 open_cut {rs} {ss} {to} r task n m cut =
     ap (fold (λ opened k. after_region opened k (at region ss k)) []) (own_before_cut r task n m cut)
     ∙ opened_mapped to (at region ss) (at region rs) [] (own_before rs task n)
-        (λ k is. same_at region blind_region r k (own_within rs task k (own_in rs task n k is)))
+    (λ k is. same_at region blind_region r k (own_within rs task k (own_in rs task n k is)))
 
 -- an open region began at one of the places
 after_in : (z k : ℕ) (opened : List ℕ) (o : Option (ℕ × SyncKind × Endpoint))
@@ -86,18 +86,18 @@ pub region_own : (rs : List Record) (i task : ℕ) (kind : SyncKind) (endpoint :
     → at region rs i ≡ Some (task, kind, endpoint) → is_own rs task i ≡ true
 region_own rs i task kind endpoint says =
     ap (λ (o : Option ℕ). option_map_or (λ t. t == task) o false)
-        (at_through region running (task, kind, endpoint) task rs i (region_running task kind endpoint) says)
-        ∙ eq-eqb task task refl
+    (at_through region running (task, kind, endpoint) task rs i (region_running task kind endpoint) says)
+    ∙ eq-eqb task task refl
 
 begin_own : (rs : List Record) (i task : ℕ) (kind : SyncKind) (begin : ℕ) → EndsRegion rs i task kind begin
     → is_own rs task begin ≡ true
 begin_own rs i task kind begin is_end =
     elim
-        (opened_in (at region rs) begin [] (own_before rs task i)
-            (get_in begin 0 (open_regions rs task i) is_end.innermost)) [
-  | inl none ↦ absurd none
-  | inr is ↦ own_in rs task i begin is
-]
+    (opened_in (at region rs) begin [] (own_before rs task i)
+    (get_in begin 0 (open_regions rs task i) is_end.innermost)) [
+      | inl none ↦ absurd none
+      | inr is ↦ own_in rs task i begin is
+    ]
 
 -- the begin of a region is a record of its task's own, and so is its end
 pub begin_of_region : (rs : List Record) (i task : ℕ) (kind : SyncKind) (begin : ℕ)
@@ -124,12 +124,12 @@ moved_end {rs} {ss} {to} r i task kind begin is_end = record {
   ends = moved_at region blind_region (task, kind, End) r i is_end.ends;
   innermost =
       ap (λ l. slice_get l 0)
-          (open_cut r task i (to i) (own_cut r task i (region_own rs i task kind End is_end.ends)))
+      (open_cut r task i (to i) (own_cut r task i (region_own rs i task kind End is_end.ends)))
       ∙ slice_get-map to (open_regions rs task i) 0
       ∙ ap (option_map to) is_end.innermost;
   same_kind =
       same_kind_at r begin (own_within rs task begin (begin_own rs i task kind begin is_end))
-          ∙ is_end.same_kind;
+      ∙ is_end.same_kind;
 }
 
 pub moved_region : {rs ss : List Record} {to back : ℕ → ℕ} → IsReordered rs ss to back
@@ -156,10 +156,10 @@ moved_no_region {rs} {ss} {to} {back} r i task kind is = record { ends = ends; n
           same_kind = same;
         } in
         let moved : EndsRegion rs (back (to i)) task kind (back begin) =
-            moved_end (reordered_back r) (to i) task kind begin there in
+        moved_end (reordered_back r) (to i) task kind begin there in
         let P : ℕ → Type 0 = λ k. EndsRegion rs k task kind (back begin) in
         let here : EndsRegion rs i task kind (back begin) =
-            subst P (r.back_to i (at_within region rs i (task, kind, End) is.ends)) moved in
+        subst P (r.back_to i (at_within region rs i (task, kind, End) is.ends)) moved in
         is.none (back begin) here.innermost here.same_kind
 
 -- ---- barriers
@@ -168,32 +168,32 @@ pub same_barriers : {rs ss : List Record} {to back : ℕ → ℕ} → IsReordere
     → barrier_begins ss task ≡ map to (barrier_begins rs task)
 same_barriers {rs} {ss} {to} r task =
     ap (filter (begins_barrier ss task))
-        (own_before_cut r task (length rs) (length ss)
-            (past_cut r task (length rs) (length ss) (omega arith) (omega arith)))
+    (own_before_cut r task (length rs) (length ss)
+    (past_cut r task (length rs) (length ss) (omega arith) (omega arith)))
     ∙ filter-map to (begins_barrier rs task) (begins_barrier ss task) (own_before rs task (length rs)) (
-        λ k is.
+    λ k is.
     ap (λ (o : Option (ℕ × SyncKind × Endpoint)). option_map_or (λ t. t == task) (barrier_begun o) false)
-        (same_at region blind_region r k (own_within rs task k (own_in rs task (length rs) k is))))
+    (same_at region blind_region r k (own_within rs task k (own_in rs task (length rs) k is))))
 
 pub moved_barrier_begin : {rs ss : List Record} {to back : ℕ → ℕ} → IsReordered rs ss to back
     → (task number start : ℕ) → IsBarrierBegin rs task number start → IsBarrierBegin ss task number (to start)
 moved_barrier_begin {rs} {ss} {to} r task number start is =
     ap (λ l. slice_get l number) (same_barriers r task) ∙ slice_get-map to (barrier_begins rs task) number
-        ∙ ap (option_map to) is
+    ∙ ap (option_map to) is
 
 pub barrier_own : (rs : List Record) (task number start : ℕ) → IsBarrierBegin rs task number start
     → is_own rs task start ≡ true
 barrier_own rs task number start is =
     own_in rs task (length rs) start
-        (filter_in (begins_barrier rs task) start (own_before rs task (length rs))
-            (get_in start number (barrier_begins rs task) is)).0
+    (filter_in (begins_barrier rs task) start (own_before rs task (length rs))
+    (get_in start number (barrier_begins rs task) is)).0
 
 -- ---- which tasks the end of a region waits for
 
 moved_children_before : {rs ss : List Record} {to back : ℕ → ℕ} → IsReordered rs ss to back
     → (parent i task : ℕ) → is_own rs parent i ≡ true → Contains (children_before rs parent i) task
     → Contains (children_before ss parent (to i)) task
-moved_children_before { to = to } r parent i task own has =
+moved_children_before {to = to} r parent i task own has =
     let P : List ℕ → Type 0 = λ l. Contains l task in
     subst P (sym (children_cut r parent i (to i) (own_cut r parent i own))) has
 
@@ -202,29 +202,29 @@ pub same_children_between : {rs ss : List Record} {to back : ℕ → ℕ} → Is
     → children_between ss parent (to begin) (to i) ≡ children_between rs parent begin i
 same_children_between {rs} {ss} {to} r parent begin i own_begin own =
     ap (λ l. drop (length l) (children_before ss parent (to i)))
-        (children_cut r parent begin (to begin) (own_cut r parent begin own_begin))
+    (children_cut r parent begin (to begin) (own_cut r parent begin own_begin))
     ∙ ap (drop (length (children_before rs parent begin)))
-        (children_cut r parent i (to i) (own_cut r parent i own))
+    (children_cut r parent i (to i) (own_cut r parent i own))
 
 pub moved_covers : {rs ss : List Record} {to back : ℕ → ℕ} → IsReordered rs ss to back → (i task : ℕ)
     → Covers rs i task → Covers ss (to i) task
 moved_covers {rs} r i task (waited {parent = parent} {begin = begin} ends has) =
     waited (moved_region r i parent Taskwait begin ends)
-        (moved_children_before r parent begin task (begin_of_region rs i parent Taskwait begin ends) has)
+    (moved_children_before r parent begin task (begin_of_region rs i parent Taskwait begin ends) has)
 moved_covers {rs} r i task (grouped {parent = parent} {begin = begin} {child = child} ends has family) =
     let P : List ℕ → Type 0 = λ l. Contains l child in
     grouped (moved_region r i parent Taskgroup begin ends)
-        (subst P
-            (sym
-                (same_children_between r parent begin i (begin_of_region rs i parent Taskgroup begin ends)
-                    (end_of_region rs i parent Taskgroup begin ends)))
-            has)
-        (moved_family r child task family)
+    (subst P
+    (sym
+    (same_children_between r parent begin i (begin_of_region rs i parent Taskgroup begin ends)
+    (end_of_region rs i parent Taskgroup begin ends)))
+    has)
+    (moved_family r child task family)
 moved_covers {rs} r i task
-    (synchronised { own = own } { begin = begin } { member = member } { start = start } { child = child }
-        { kind = kind } number ends barrier numbered mate starts has family) =
+    (synchronised {own = own} {begin = begin} {member = member} {start = start} {child = child}
+    {kind = kind} number ends barrier numbered mate starts has family) =
     synchronised number (moved_region r i own kind begin ends) barrier
-        (moved_barrier_begin r own number begin numbered) (moved_teammate r own member mate)
-        (moved_barrier_begin r member number start starts)
-        (moved_children_before r member start child (barrier_own rs member number start starts) has)
-        (moved_family r child task family)
+    (moved_barrier_begin r own number begin numbered) (moved_teammate r own member mate)
+    (moved_barrier_begin r member number start starts)
+    (moved_children_before r member start child (barrier_own rs member number start starts) has)
+    (moved_family r child task family)

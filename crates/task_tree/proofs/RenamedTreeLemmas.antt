@@ -26,20 +26,20 @@ same_child : {rs ss : List Record} {to back : ℕ → ℕ} → IsReordered rs ss
     → is_own rs parent i ≡ true → child_at ss parent (to i) ≡ child_at rs parent i
 same_child {rs} r parent i own =
     ap (option_and_then (λ (p : ℕ × ℕ). if p.0 == parent then Some p.1 else None))
-        (same_at creation blind_creation r i (own_within rs parent i own))
+    (same_at creation blind_creation r i (own_within rs parent i own))
 
 pub children_cut : {rs ss : List Record} {to back : ℕ → ℕ} → IsReordered rs ss to back → (parent n m : ℕ)
     → IsCut (is_own rs parent) to n m → children_before ss parent m ≡ children_before rs parent n
 children_cut {rs} {ss} {to} r parent n m cut =
     ap (filter_map (child_at ss parent)) (own_before_cut r parent n m cut)
     ∙ filter_map-map to (child_at ss parent) (child_at rs parent) (own_before rs parent n)
-        (λ i is. same_child r parent i (own_in rs parent n i is))
+    (λ i is. same_child r parent i (own_in rs parent n i is))
 
 pub same_children : {rs ss : List Record} {to back : ℕ → ℕ} → IsReordered rs ss to back → (parent : ℕ)
     → children ss parent ≡ children rs parent
 same_children {rs} {ss} r parent =
     children_cut r parent (length rs) (length ss)
-        (past_cut r parent (length rs) (length ss) (omega arith) (omega arith))
+    (past_cut r parent (length rs) (length ss) (omega arith) (omega arith))
 
 pub moved_root : {rs ss : List Record} {to back : ℕ → ℕ} → IsReordered rs ss to back → (task : ℕ)
     → IsRoot rs task → IsRoot ss task
@@ -56,14 +56,14 @@ moved_creation r i parent task says = moved_at creation blind_creation (parent, 
 pub moved_rooted : {rs ss : List Record} {to back : ℕ → ℕ} → IsReordered rs ss to back → (task : ℕ)
     → IsRooted rs task → IsRooted ss task
 moved_rooted r task (root is) = root (moved_root r task is)
-moved_rooted { to = to } r task (child i { parent = parent } creates above) =
+moved_rooted {to = to} r task (child i {parent = parent} creates above) =
     child (to i) (moved_creation r i parent task creates) (moved_rooted r parent above)
 
 pub moved_descendant : {rs ss : List Record} {to back : ℕ → ℕ} → IsReordered rs ss to back
     → (ancestor task : ℕ) → IsDescendant rs ancestor task → IsDescendant ss ancestor task
-moved_descendant { to = to } r ancestor task (child i creates) =
+moved_descendant {to = to} r ancestor task (child i creates) =
     child (to i) (moved_creation r i ancestor task creates)
-moved_descendant { to = to } r ancestor task (deeper i { parent = parent } above creates) =
+moved_descendant {to = to} r ancestor task (deeper i {parent = parent} above creates) =
     deeper (to i) (moved_descendant r ancestor parent above) (moved_creation r i parent task creates)
 
 pub moved_family : {rs ss : List Record} {to back : ℕ → ℕ} → IsReordered rs ss to back → (elder task : ℕ)
@@ -78,14 +78,14 @@ moved_child r parent number task is = ap (λ l. slice_get l number) (same_childr
 pub moved_path : {rs ss : List Record} {to back : ℕ → ℕ} → IsReordered rs ss to back
     → (first task : ℕ) (path : List ℕ) → HasPath rs first task path → HasPath ss first task path
 moved_path r first task path (top is) = top (moved_root r first is)
-moved_path r first task path (below number { parent = parent } { path = above } stands is) =
+moved_path r first task path (below number {parent = parent} {path = above} stands is) =
     below number (moved_path r first parent above stands) (moved_child r parent number task is)
 
 -- ---- dependences
 
 pub moved_depends : {rs ss : List Record} {to back : ℕ → ℕ} → IsReordered rs ss to back
     → (task : ℕ) (dep : Dep) → DependsOn rs task dep → DependsOn ss task dep
-moved_depends { to = to } r task dep (i, list, says, has) =
+moved_depends {to = to} r task dep (i, list, says, has) =
     (to i, list, moved_at dependences blind_dependences (task, list) r i says, has)
 
 pub moved_predecessor : {rs ss : List Record} {to back : ℕ → ℕ} → IsReordered rs ss to back
@@ -113,7 +113,7 @@ member_test {rs} {ss} r = record {
   kept = λ k says. ap is_some (same_at joined blind_joined r k (some_within joined rs k says)) ∙ says;
   given =
       λ j says.
-          ap is_some (same_at joined blind_joined (reordered_back r) j (some_within joined ss j says)) ∙ says;
+      ap is_some (same_at joined blind_joined (reordered_back r) j (some_within joined ss j says)) ∙ says;
   to_back = λ j says. r.to_back j (some_within joined ss j says);
   rises = r.members_rise;
 }
@@ -125,11 +125,11 @@ members_cut {rs} {ss} {to} r parallel n m cut = ap (filter (λ (m : Membership).
     sym (filter_map-filter (at joined ss) (range_with_len 0 m))
     ∙ ap (filter_map (at joined ss)) (cut_places (member_test r) n m cut)
     ∙ filter_map-map to (at joined ss) (at joined rs)
-        (filter (λ i. is_some (at joined rs i)) (range_with_len 0 n))
-        (λ i is.
-            same_at joined blind_joined r i
-                (some_within joined rs i
-                    (filter_in (λ i. is_some (at joined rs i)) i (range_with_len 0 n) is).1))
+    (filter (λ i. is_some (at joined rs i)) (range_with_len 0 n))
+    (λ i is.
+    same_at joined blind_joined r i
+    (some_within joined rs i
+    (filter_in (λ i. is_some (at joined rs i)) i (range_with_len 0 n) is).1))
     ∙ filter_map-filter (at joined rs) (range_with_len 0 n)
     )
 
@@ -137,7 +137,7 @@ members_cut {rs} {ss} {to} r parallel n m cut = ap (filter (λ (m : Membership).
 pub same_members_before : {rs ss : List Record} {to back : ℕ → ℕ} → IsReordered rs ss to back
     → (parallel i : ℕ) → is_some (at joined rs i) ≡ true
     → members_before ss parallel (to i) ≡ members_before rs parallel i
-same_members_before { to = to } r parallel i says =
+same_members_before {to = to} r parallel i says =
     members_cut r parallel i (to i) (cut_at (member_test r) i says)
 
 pub same_members : {rs ss : List Record} {to back : ℕ → ℕ} → IsReordered rs ss to back → (parallel : ℕ)

@@ -35,7 +35,7 @@ from_within {rs} r i inside = elim (cases_lt i (length rs)) [
 both_ways : {rs ss : List Record} {to back : ℕ → ℕ} → IsRenaming rs ss to back → (P Q : ℕ → Type 0)
     → ((i : ℕ) → P i → Q (to i)) → ((j : ℕ) → Q j → P (back j)) → ((j : ℕ) → Q j → j < length ss) → (i : ℕ)
     → P i ↔ Q (to i)
-both_ways { to = to } r P Q forth other within i =
+both_ways {to = to} r P Q forth other within i =
     (forth i, λ there. subst P (r.back_to i (from_within r i (within (to i) there))) (other (to i) there))
 
 -- ---- the tree
@@ -65,20 +65,20 @@ region_within rs i task kind begin is = own_within rs task i (end_of_region rs i
 -- ---- which tasks the end of a region waits for
 
 covers_within : (rs : List Record) (i task : ℕ) → Covers rs i task → i < length rs
-covers_within rs i task (waited { parent = parent } { begin = begin } ends has) =
+covers_within rs i task (waited {parent = parent} {begin = begin} ends has) =
     region_within rs i parent Taskwait begin ends
-covers_within rs i task (grouped { parent = parent } { begin = begin } ends has family) =
+covers_within rs i task (grouped {parent = parent} {begin = begin} ends has family) =
     region_within rs i parent Taskgroup begin ends
 covers_within rs i task
-        (synchronised { own = own } { begin = begin } { kind = kind } number ends barrier numbered mate starts
-            has family) =
+    (synchronised {own = own} {begin = begin} {kind = kind} number ends barrier numbered mate starts
+    has family) =
     region_within rs i own kind begin ends
 
 pub renamed_covers : {rs ss : List Record} {to back : ℕ → ℕ} → IsRenaming rs ss to back → (i task : ℕ)
     → Covers rs i task ↔ Covers ss (to i) task
 renamed_covers {rs} {ss} r i task =
     both_ways r (λ i. Covers rs i task) (λ j. Covers ss j task) (λ i. moved_covers (reordered r) i task)
-        (λ j. moved_covers (turned r) j task) (λ j. covers_within ss j task) i
+    (λ j. moved_covers (turned r) j task) (λ j. covers_within ss j task) i
 
 -- ---- causes of a refusal
 
@@ -86,16 +86,16 @@ pub renamed_order : {rs ss : List Record} {to back : ℕ → ℕ} → IsRenaming
     → HasCause rs i RegionOrder ↔ HasCause ss (to i) RegionOrder
 renamed_order {rs} {ss} r i =
     both_ways r (λ i. HasCause rs i RegionOrder) (λ j. HasCause ss j RegionOrder) (moved_order (reordered r))
-        (moved_order (turned r)) (order_within ss) i
+    (moved_order (turned r)) (order_within ss) i
 
 pub renamed_short : {rs ss : List Record} {to back : ℕ → ℕ} → IsRenaming rs ss to back → (i : ℕ)
     → HasCause rs i TeamShort ↔ HasCause ss (to i) TeamShort
 renamed_short {rs} {ss} r i =
     both_ways r (λ i. HasCause rs i TeamShort) (λ j. HasCause ss j TeamShort) (moved_short (reordered r))
-        (moved_short (turned r)) (team_within ss) i
+    (moved_short (turned r)) (team_within ss) i
 
 pub renamed_share : {rs ss : List Record} {to back : ℕ → ℕ} → IsRenaming rs ss to back → (i : ℕ)
     → HasCause rs i ShareWrong ↔ HasCause ss (to i) ShareWrong
 renamed_share {rs} {ss} r i =
     both_ways r (λ i. HasCause rs i ShareWrong) (λ j. HasCause ss j ShareWrong) (moved_share (reordered r))
-        (moved_share (turned r)) (share_within ss) i
+    (moved_share (turned r)) (share_within ss) i

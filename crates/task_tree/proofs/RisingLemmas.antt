@@ -48,9 +48,9 @@ joined_zero rs i some = by (slice_get rs i) some
     by None is = refl
     by (Some r) is =
         ap
-            (λ (t : Option ℕ).
-                option_map_or (λ task. turn_in task (filter (λ q. q.thread == r.thread) (take i rs))) t 0)
-            (joined_none r.body is)
+        (λ (t : Option ℕ).
+        option_map_or (λ task. turn_in task (filter (λ q. q.thread == r.thread) (take i rs))) t 0)
+        (joined_none r.body is)
 
 -- ---- the renaming
 
@@ -69,11 +69,11 @@ own_renaming rs rise = record {
   alike = λ i within. alike_same (in_own_order rs) (own_place rs i) rs i (arranged_get rs i within);
   own_rise =
       λ task i k one other less.
-          up i k (some_own task i one) (some_own task k other) less (rise task i k one other less);
+      up i k (some_own task i one) (some_own task k other) less (rise task i k one other less);
   members_rise =
       λ i k one other less.
-          up i k (some_within joined rs i one) (some_within joined rs k other) less
-              (let first = joined_zero rs i one in omega arith);
+      up i k (some_within joined rs i one) (some_within joined rs k other) less
+      (let first = joined_zero rs i one in omega arith);
 }
   where
     item : (j : ℕ) → j < length (in_own_order rs)
@@ -101,7 +101,7 @@ untold_zero r untold = by (started r.body)
     zero_next = ap (λ (t : Option Turns). option_map_or (λ (u : Turns). u.next) t 0) untold
 
     by : (s : Option ℕ)
-        → option_map_or (λ (b : ℕ × ℕ). b.1) (option_map { U = ℕ × ℕ } (λ t. (t, next_turn r.body)) s) 0 ≤ 0
+        → option_map_or (λ (b : ℕ × ℕ). b.1) (option_map {U = ℕ × ℕ} (λ t. (t, next_turn r.body)) s) 0 ≤ 0
     by None = omega arith
     by (Some t) = omega (arith, zero_next)
 

@@ -38,9 +38,9 @@ rising_equal (x ∷ xs) [] rising_x rising_y forth back = absurd (forth x (inl r
 rising_equal (x ∷ xs) (y ∷ ys) rising_x rising_y forth back =
     let same : x ≡ y = same_heads x y xs ys rising_x.0 rising_y.0 (forth x (inl refl)) (back y (inl refl)) in
     let rest : xs ≡ ys =
-        rising_equal xs ys rising_x.1 rising_y.1
-            (λ z is. in_tail x y z ys same (rising_x.0 z is) (forth z (inr is)))
-            (λ z is. in_tail y x z xs (sym same) (rising_y.0 z is) (back z (inr is))) in
+    rising_equal xs ys rising_x.1 rising_y.1
+    (λ z is. in_tail x y z ys same (rising_x.0 z is) (forth z (inr is)))
+    (λ z is. in_tail y x z xs (sym same) (rising_y.0 z is) (back z (inr is))) in
     ap (λ l. x ∷ l) rest ∙ ap (λ h. h ∷ ys) same
 
 -- ---- numbers from one on
@@ -117,7 +117,7 @@ rising_map f [] rises rising = tt
 rising_map f (x ∷ xs) rises rising = (
   λ z is. let from =
       map_in f z xs is in
-          omega (arith, from.2, rises x from.0 (inl refl) (inr from.1) (rising.0 from.0 from.1)),
+      omega (arith, from.2, rises x from.0 (inl refl) (inr from.1) (rising.0 from.0 from.1)),
   rising_map f xs (λ i k i_is k_is. rises i k (inr i_is) (inr k_is)) rising.1,
 )
 
@@ -138,7 +138,7 @@ filter-map f p q (x ∷ xs) same =
   where
     split : (b c : Bool) → b ≡ c → filter q (map f xs) ≡ map f (filter p xs)
         → cond b (f x ∷ filter q (map f xs)) (filter q (map f xs))
-            ≡ map f (cond c (x ∷ filter p xs) (filter p xs))
+        ≡ map f (cond c (x ∷ filter p xs) (filter p xs))
     split true true e rest = ap (λ l. f x ∷ l) rest
     split false false e rest = rest
     split true false e rest = cc
@@ -152,8 +152,8 @@ filter_map-filter {X} h (x ∷ xs) = split (h x) refl (filter_map-filter h xs)
   where
     split : (o : Option X) → h x ≡ o → filter_map h (filter (λ x. is_some (h x)) xs) ≡ filter_map h xs
         → filter_map h
-            (cond (is_some o) (x ∷ filter (λ x. is_some (h x)) xs) (filter (λ x. is_some (h x)) xs))
-            ≡ cons_option o (filter_map h xs)
+        (cond (is_some o) (x ∷ filter (λ x. is_some (h x)) xs) (filter (λ x. is_some (h x)) xs))
+        ≡ cons_option o (filter_map h xs)
     split None e rest = rest
     split (Some y) e rest =
         ap (λ o. cons_option o (filter_map h (filter (λ x. is_some (h x)) xs))) e ∙ ap (λ l. y ∷ l) rest
@@ -192,10 +192,10 @@ cut_places {p} {q} {to} {back} same n m cut =
     rising_equal (filter q (range_with_len 0 m)) (map to (filter p (range_with_len 0 n)))
     (rising_filter q (range_with_len 0 m) (rising_range 0 m))
     (rising_map to (filter p (range_with_len 0 n))
-        (λ i k i_is k_is.
-            same.rises i k (filter_in p i (range_with_len 0 n) i_is).1
-                (filter_in p k (range_with_len 0 n) k_is).1)
-        (rising_filter p (range_with_len 0 n) (rising_range 0 n)))
+    (λ i k i_is k_is.
+    same.rises i k (filter_in p i (range_with_len 0 n) i_is).1
+    (filter_in p k (range_with_len 0 n) k_is).1)
+    (rising_filter p (range_with_len 0 n) (rising_range 0 n)))
     forth
     other
   where
@@ -207,9 +207,9 @@ cut_places {p} {q} {to} {back} same n m cut =
         let below : back j < n = cut.back (back j) passes (omega (arith, low.1, same.to_back j here.1)) in
         let P : ℕ → Type 0 = λ z. IsIn z (map to (filter p (range_with_len 0 n))) in
         subst P (same.to_back j here.1)
-            (in_map to (back j) (filter p (range_with_len 0 n))
-                (in_filter p (back j) (range_with_len 0 n)
-                    (in_range 0 n (back j) (omega arith) (omega (arith, below))) passes))
+        (in_map to (back j) (filter p (range_with_len 0 n))
+        (in_filter p (back j) (range_with_len 0 n)
+        (in_range 0 n (back j) (omega arith) (omega (arith, below))) passes))
 
     other : (j : ℕ) → IsIn j (map to (filter p (range_with_len 0 n))) → IsIn j (filter q (range_with_len 0 m))
     other j is =
@@ -219,5 +219,5 @@ cut_places {p} {q} {to} {back} same n m cut =
         let below : to from.0 < m = cut.forth from.0 here.1 (omega (arith, low.1)) in
         let P : ℕ → Type 0 = λ z. IsIn z (filter q (range_with_len 0 m)) in
         subst P (sym from.2)
-            (in_filter q (to from.0) (range_with_len 0 m)
-                (in_range 0 m (to from.0) (omega arith) (omega (arith, below))) (same.kept from.0 here.1))
+        (in_filter q (to from.0) (range_with_len 0 m)
+        (in_range 0 m (to from.0) (omega arith) (omega (arith, below))) (same.kept from.0 here.1))

@@ -73,7 +73,7 @@ root_there rs i task is = by (slice_get rs i) is
   where
     by : (o : Option Record) → option_and_then (λ (r : Record). begun_root r.body) o ≡ Some task
         → (option_and_then (λ (r : Record). begun_turn r.body) o ≡ None)
-            × (option_and_then (λ (r : Record). told_turns r.body) o ≡ None)
+        × (option_and_then (λ (r : Record). told_turns r.body) o ≡ None)
     by None none = absurd (none-some task none)
     by (Some r) begins = root_silent task r.body begins
 
@@ -97,7 +97,7 @@ told_later rs i task turn begins more none = by (slice_get rs i) begins none
     by None is untold = none-some (task, turn) is
     by (Some r) is untold = of_next (started r.body) is
       where
-        of_next : (s : Option ℕ) → option_map { U = ℕ × ℕ } (λ t. (t, next_turn r.body)) s ≡ Some (task, turn)
+        of_next : (s : Option ℕ) → option_map {U = ℕ × ℕ} (λ t. (t, next_turn r.body)) s ≡ Some (task, turn)
             → ⊥
         of_next None is' = none-some (task, turn) is'
         of_next (Some t) is' =
@@ -165,7 +165,7 @@ silent rs i task thread r within read other = elim (cases_eq thread r.thread) [
       ap (λ t. turn_in task (part_of rs t (i + 1))) same
       ∙ turn_own rs i r task within read
       ∙ after_other task (turn_in task (part_of rs r.thread i)) r
-          (λ next begins. other next (body_begins rs i r within read ∙ begins))
+      (λ next begins. other next (body_begins rs i r within read ∙ begins))
       ∙ ap (λ t. turn_in task (part_of rs t i)) (sym same)
   | inr apart ↦ turn_other rs i r thread task within read apart
 ]
@@ -187,8 +187,8 @@ keep_one rs i task r known within read old other = record {
   ];
   now =
       λ thread turn on.
-          silent rs i task thread r within read (λ next begins. other next (runs begins))
-              ∙ old.now thread turn on;
+      silent rs i task thread r within read (λ next begins. other next (runs begins))
+      ∙ old.now thread turn on;
 }
 
 -- a task that begins one
@@ -197,9 +197,12 @@ start_one : (rs : List Record) (i task next : ℕ) (r : Record) (known : Latest)
     → IsLatest rs (i + 1) task (record { turn = Some next; thread = r.thread })
 start_one rs i task next r known within read old begins later = record {
   begun =
-      λ turn e.
-          (i, omega arith, subst (BeginsTurn rs i task) (same_Some next turn e) begins,
-              inr (ap (option_map (λ (q : Record). q.thread)) (read_get rs i r within read)));
+      λ turn e. (
+        i,
+        omega arith,
+        subst (BeginsTurn rs i task) (same_Some next turn e) begins,
+        inr (ap (option_map (λ (q : Record). q.thread)) (read_get rs i r within read)),
+      );
   none = λ e. absurd (none-some next (sym e));
   bound = λ k turn below b. elim (cases_eq k i) [
     | inl same ↦
@@ -217,15 +220,15 @@ start_one rs i task next r known within read old begins later = record {
         let zero_now : turn_now known ≡ 0 = omega (arith, later, first) in
         let is = on.0 in
         silent rs i task thread r within read
-            (λ turn' is'. none-some (task, turn') (sym (root_there rs i task root).0 ∙ is'))
+        (λ turn' is'. none-some (task, turn') (sym (root_there rs i task root).0 ∙ is'))
         ∙ old.now thread turn (omega (arith, is, first, zero_now), inl zero_now)
     by (inl is) thread turn on = elim (cases_eq thread r.thread) [
       | inl same ↦
           ap (λ t. turn_in task (part_of rs t (i + 1))) same
           ∙ turn_own rs i r task within read
           ∙ after_own task (turn_in task (part_of rs r.thread i)) next r
-              (sym (body_begins rs i r within read) ∙ is)
-              ∙ sym on.0
+          (sym (body_begins rs i r within read) ∙ is)
+          ∙ sym on.0
       | inr apart ↦ turn_other rs i r thread task within read apart ∙ elsewhere apart on.0 on.1
     ]
       where
@@ -241,7 +244,7 @@ start_one rs i task next r known within read old begins later = record {
 latest_put : (rs : List Record) (n m index : ℕ) (tasks : List ℕ) (latest : List Latest) (new : Latest)
     → AreLatest rs n tasks latest → ((task : ℕ) → slice_get tasks index ≡ Some task → IsLatest rs m task new)
     → ((other task : ℕ) (known : Latest) → other ≢ index → slice_get tasks other ≡ Some task
-          → slice_get latest other ≡ Some known → IsLatest rs m task known)
+    → slice_get latest other ≡ Some known → IsLatest rs m task known)
     → AreLatest rs m tasks (set latest index new)
 latest_put rs n m index tasks latest new are here there = record {
   all = length-set latest index new ∙ are.all;
@@ -249,12 +252,12 @@ latest_put rs n m index tasks latest new are here there = record {
     | inl same ↦
         let at_index : slice_get tasks index ≡ Some task = ap (slice_get tasks) (sym same) ∙ stands in
         let low : index < length latest =
-            (let within = slice_get_within tasks index task at_index in
-             let long = are.all in omega (arith, within, long)) in
+        (let within = slice_get_within tasks index task at_index in
+        let long = are.all in omega (arith, within, long)) in
         let new_is : new ≡ known =
-            same_Some new known
-                (sym (get_set_same latest index new low) ∙ ap (slice_get (set latest index new)) (sym same)
-                    ∙ is) in
+        same_Some new known
+        (sym (get_set_same latest index new low) ∙ ap (slice_get (set latest index new)) (sym same)
+        ∙ is) in
         subst (IsLatest rs m task) new_is (here task at_index)
     | inr apart ↦ there other task known apart stands (sym (get_set_other latest index other new apart) ∙ is)
   ];
@@ -266,7 +269,7 @@ latest_keep rs i r tasks latest within read are none = record {
   all = are.all;
   each =
       λ index task known stands is.
-          keep_one rs i task r known within read (are.each index task known stands is) (none task);
+      keep_one rs i task r known within read (are.each index task known stands is) (none task);
 }
 
 latest_start : (rs : List Record) (i index task next : ℕ) (r : Record) (tasks : List ℕ) (latest : List Latest)
@@ -278,14 +281,14 @@ latest_start : (rs : List Record) (i index task next : ℕ) (r : Record) (tasks 
 latest_start rs i index task next r tasks latest known within read apart are begins stands is later =
     latest_put rs i (i + 1) index tasks latest (record { turn = Some next; thread = r.thread }) are
     (λ other other_is.
-        subst (λ t. IsLatest rs (i + 1) t (record { turn = Some next; thread = r.thread }))
-            (same_Some task other (sym stands ∙ other_is))
-            (start_one rs i task next r known within read (are.each index task known stands is) begins later))
+    subst (λ t. IsLatest rs (i + 1) t (record { turn = Some next; thread = r.thread }))
+    (same_Some task other (sym stands ∙ other_is))
+    (start_one rs i task next r known within read (are.each index task known stands is) begins later))
     (
-        λ other another some differ other_is some_is.
-            keep_one rs i another r some within read (are.each other another some other_is some_is)
+    λ other another some differ other_is some_is.
+    keep_one rs i another r some within read (are.each other another some other_is some_is)
     (λ turn begun.
-        differ (apart other index another other_is (stands ∙ ap Some (same_task another turn begun)))))
+    differ (apart other index another other_is (stands ∙ ap Some (same_task another turn begun)))))
   where
     same_task : (another turn : ℕ) → BeginsTurn rs i another turn → task ≡ another
     same_task another turn begun =
@@ -329,14 +332,14 @@ there_some rs i task turn r known stands old own on = record {
 -- a turn beyond 0 in which a task is on a thread began on the thread
 pub turn_began : (rs : List Record) (task thread n : ℕ) → 0 < turn_in task (part_of rs thread n)
     → (k : ℕ) × (k < n) × (thread_at rs k ≡ Some thread)
-        × (at begun_turn rs k ≡ Some (task, turn_in task (part_of rs thread n)))
+    × (at begun_turn rs k ≡ Some (task, turn_in task (part_of rs thread n)))
 turn_began rs task thread n = part_keeps rs thread P (λ more. absurd (omega (arith, more))) own other n
   where
     P : ℕ → List Record → Type 0
     P m l =
         0 < turn_in task l
-            → (k : ℕ) × (k < m) × (thread_at rs k ≡ Some thread)
-                × (at begun_turn rs k ≡ Some (task, turn_in task l))
+        → (k : ℕ) × (k < m) × (thread_at rs k ≡ Some thread)
+        × (at begun_turn rs k ≡ Some (task, turn_in task l))
 
     later : (m turn : ℕ)
         → (k : ℕ) × (k < m) × (thread_at rs k ≡ Some thread) × (at begun_turn rs k ≡ Some (task, turn))
@@ -355,28 +358,31 @@ turn_began rs task thread n = part_keeps rs thread P (λ more. absurd (omega (ar
         Q : ℕ → Type 0
         Q turn =
             0 < turn
-                → (k : ℕ) × (k < m + 1) × (thread_at rs k ≡ Some thread)
-                    × (at begun_turn rs k ≡ Some (task, turn))
+            → (k : ℕ) × (k < m + 1) × (thread_at rs k ≡ Some thread)
+            × (at begun_turn rs k ≡ Some (task, turn))
 
         kept : Q (turn_in task (part_of rs thread m))
         kept more = later m (turn_in task (part_of rs thread m)) (before more)
 
         by : (o : Option (ℕ × ℕ)) → begun_turn r.body ≡ o
             → Q
-                (option_map_or (λ (b : ℕ × ℕ). cond (b.0 == task) b.1 (turn_in task (part_of rs thread m))) o
-                    (turn_in task (part_of rs thread m)))
+            (option_map_or (λ (b : ℕ × ℕ). cond (b.0 == task) b.1 (turn_in task (part_of rs thread m))) o
+            (turn_in task (part_of rs thread m)))
         by None e = kept
         by (Some b) e = elim (cases_eq b.0 task) [
           | inl is ↦
               subst Q (sym (ap (λ c. cond c b.1 (turn_in task (part_of rs thread m))) (eq-eqb b.0 task is)))
-                  (λ more.
-                      (m, omega arith, ap (option_map (λ (q : Record). q.thread)) stands ∙ ap Some same,
-                          ap (option_and_then (λ (q : Record). begun_turn q.body)) stands ∙ e
-                              ∙ ap (λ (t : ℕ). Some (t, b.1)) is))
+              (λ more. (
+                m,
+                omega arith,
+                ap (option_map (λ (q : Record). q.thread)) stands ∙ ap Some same,
+                ap (option_and_then (λ (q : Record). begun_turn q.body)) stands ∙ e
+                    ∙ ap (λ (t : ℕ). Some (t, b.1)) is,
+              ))
           | inr apart ↦
               subst Q
-                  (sym (ap (λ c. cond c b.1 (turn_in task (part_of rs thread m))) (ne_eqb b.0 task apart)))
-                  kept
+              (sym (ap (λ c. cond c b.1 (turn_in task (part_of rs thread m))) (ne_eqb b.0 task apart)))
+              kept
         ]
 
 -- ---- no gap
@@ -398,16 +404,16 @@ keeps_gapless rs i turn r stands is right none = by (told_turns r.body) refl
     by None untold = untold_none rs i r stands untold
     by (Some told) tells =
         no_start_none rs i r told stands tells (told_right (told_turns r.body) turn told right tells ∙ is)
-            (sym (ap (option_and_then (λ (q : Record). begun_turn q.body)) stands) ∙ none)
+        (sym (ap (option_and_then (λ (q : Record). begun_turn q.body)) stands) ∙ none)
 
 pub explicit_not_root : (rs : List Record) (task : ℕ) → IsFreeOf rs CreatedTwice → IsExplicit rs task
     → IsRoot rs task → ⊥
 explicit_not_root rs task once explicit root =
     by (slice_get rs explicit.0) explicit.1
-        (ap (at begun_root rs)
-            (made_once rs task explicit.0 root.0 once (created_at_made task rs explicit.0 explicit.1)
-                (begun_at_made task rs root.0 root.1))
-            ∙ root.1)
+    (ap (at begun_root rs)
+    (made_once rs task explicit.0 root.0 once (created_at_made task rs explicit.0 explicit.1)
+    (begun_at_made task rs root.0 root.1))
+    ∙ root.1)
   where
     by : (o : Option Record) → option_and_then (λ (r : Record). created r.body) o ≡ Some task
         → option_and_then (λ (r : Record). begun_root r.body) o ≡ Some task → ⊥
@@ -427,7 +433,7 @@ starts_gapless rs i task next turn r known once stands old is right begins (may_
     pair_is other later tells = of (begins_cases rs i task next begins)
       where
         of : (at begun_turn rs i ≡ Some (task, next)) ⊎ ((next ≡ 0) × (at begun_root rs i ≡ Some task))
-            → ◌≡◌ { A = ℕ × ℕ } (other, later) (task, next)
+            → ◌≡◌ {A = ℕ × ℕ} (other, later) (task, next)
         of (inl is') = same_Some (other, later) (task, next) (sym tells.1 ∙ is')
         of (inr (first, root)) = absurd (tells.0 (root_there rs i task root).1)
 
@@ -444,9 +450,9 @@ starts_gapless rs i task next turn r known once stands old is right begins (may_
     by : HasTurnGap rs i → ⊥
     by (other_turn told says other) =
         other
-            (told_right (told_turns r.body) turn told right
-                (sym (ap (option_and_then (λ (q : Record). told_turns q.body)) stands) ∙ says)
-                ∙ is)
+        (told_right (told_turns r.body) turn told right
+        (sym (ap (option_and_then (λ (q : Record). told_turns q.body)) stands) ∙ says)
+        ∙ is)
     by (begun_again other later k tells below began) =
         let less = before k next below (began ∙ ap (λ (p : ℕ × ℕ). Some p) (pair_is other later tells)) in
         absurd (omega (arith, less))
@@ -458,7 +464,7 @@ starts_gapless rs i task next turn r known once stands old is right begins (may_
     by (of_root other tells root) =
         let same = pair_is other 0 tells in
         explicit_not_root rs task once (explicit (sym (ap (λ (p : ℕ × ℕ). p.1) same)))
-            (subst (IsRoot rs) (ap (λ (p : ℕ × ℕ). p.0) same) root)
+        (subst (IsRoot rs) (ap (λ (p : ℕ × ℕ). p.0) same) root)
     by (missing other before_it tells never) = lacks follows
       where
         same : ◌≡◌ {A = ℕ × ℕ} (other, before_it + 1) (task, next)
@@ -472,8 +478,8 @@ starts_gapless rs i task next turn r known once stands old is right begins (may_
             let last_is : last ≡ before_it = omega (arith, e, more) in
             let began = old.begun last is_last in
             never began.0
-                (subst (λ t. BeginsTurn rs began.0 t before_it) (sym (ap (λ (p : ℕ × ℕ). p.0) same))
-                    (subst (BeginsTurn rs began.0 task) last_is began.2))
+            (subst (λ t. BeginsTurn rs began.0 t before_it) (sym (ap (λ (p : ℕ × ℕ). p.0) same))
+            (subst (BeginsTurn rs began.0 task) last_is began.2))
 
 -- where turns are told, only the next one may
 pub may_follow : (rs : List Record) (task next : ℕ) (b : Body) (known : Latest) → told_turns b ≢ None
@@ -518,14 +524,15 @@ pub step_starts : (rs : List Record) (i index next turn : ℕ) (r : Record) (fam
     → IsStepOn rs i family.tasks (set latest index (record { turn = Some next; thread = r.thread }))
 step_starts rs i index next turn r family latest known within read is_family are there right is begin may =
     record {
-  known =
-      latest_start rs i index begin.task next r family.tasks latest known within read is_family.makers.apart
+      known =
+          latest_start rs i index begin.task next r family.tasks latest known within read
+          is_family.makers.apart
           are begin.begins begin.indexed is (may_later rs begin.task next r.body known may);
-  gapless =
-      starts_gapless rs i begin.task next turn r known is_family.once (read_get rs i r within read) old
+      gapless =
+          starts_gapless rs i begin.task next turn r known is_family.once (read_get rs i r within read) old
           there.is right begin.begins may;
-  in_order = record { own = own_in_order rs i turn there; begins = begins };
-}
+      in_order = record { own = own_in_order rs i turn there; begins = begins };
+    }
   where
     old : IsLatest rs i begin.task known
     old = are.each index begin.task known begin.indexed is
@@ -545,7 +552,7 @@ step_starts rs i index next turn r family latest known within read is_family are
             → (at begun_turn rs i ≡ Some (task, turn')) ⊎ ((turn' ≡ 0) × (at begun_root rs i ≡ Some task))
             → later ≤ turn'
         by (inl one) (inl other) =
-            let e = same_Some { A = ℕ × ℕ } (begin.task, next) (task, turn') (sym one ∙ other) in
+            let e = same_Some {A = ℕ × ℕ} (begin.task, next) (task, turn') (sym one ∙ other) in
             alike (ap (λ (p : ℕ × ℕ). p.0) e) (ap (λ (p : ℕ × ℕ). p.1) e)
         by (inl one) (inr (first, root)) =
             absurd (none-some (begin.task, next) (sym (root_there rs i task root).0 ∙ one))
@@ -563,10 +570,10 @@ begun_once rs task turn a b free more one other = elim (cases_order a b) [
   | inl same ↦ same
   | inr (inl less) ↦
       absurd
-          (free b (turn_gap (begun_again task turn a (told_later rs b task turn other more, other) less one)))
+      (free b (turn_gap (begun_again task turn a (told_later rs b task turn other more, other) less one)))
   | inr (inr above) ↦
       absurd
-          (free a (turn_gap (begun_again task turn b (told_later rs a task turn one more, one) above other)))
+      (free a (turn_gap (begun_again task turn b (told_later rs a task turn one more, one) above other)))
 ]
 
 pub off_thread : (rs : List Record) (i task : ℕ) (r : Record) (known : Latest) → slice_get rs i ≡ Some r
@@ -591,8 +598,8 @@ off_thread rs i task r known stands old own later apart order free = by known.tu
             | inr (first, root) ↦ absurd (omega (arith, first, now_is, later))
             | inl begins ↦
                 let e =
-                    begun_once rs task turn last.0 began.0 free (omega (arith, now_is, later))
-                        (last.3 ∙ ap (λ (t : ℕ). Some (task, t)) same) begins in
+                begun_once rs task turn last.0 began.0 free (omega (arith, now_is, later))
+                (last.3 ∙ ap (λ (t : ℕ). Some (task, t)) same) begins in
                 absurd (apart (same_Some r.thread known.thread (sym last.2 ∙ ap (thread_at rs) e ∙ made)))
           ]
         ]
@@ -605,9 +612,9 @@ other_told rs i turn r stands is other free = by (told_turns r.body) refl other
     by None e never = absurd never
     by (Some told) e apart =
         free i
-            (turn_gap
-                (other_turn told (ap (option_and_then (λ (q : Record). told_turns q.body)) stands ∙ e)
-                    (λ same. apart (same ∙ sym is))))
+        (turn_gap
+        (other_turn told (ap (option_and_then (λ (q : Record). told_turns q.body)) stands ∙ e)
+        (λ same. apart (same ∙ sym is))))
 
 pub root_or_explicit : (rs : List Record) (family : FamilyView) (index task : ℕ) → IsFamilyOf rs family
     → slice_get family.tasks index ≡ Some task → IsRoot rs task ⊎ IsExplicit rs task
@@ -622,13 +629,15 @@ root_or_explicit rs family index task is stands =
     by None e none = absurd (none-some task none)
     by (Some r) e makes = elim (made_cases task r.body makes) [
       | inl root ↦
-          inl
-              ((is.noted.only task (get_contains family.tasks task index stands)).0,
-                  ap (option_and_then (λ (q : Record). begun_root q.body)) e ∙ root)
+          inl (
+            (is.noted.only task (get_contains family.tasks task index stands)).0,
+            ap (option_and_then (λ (q : Record). begun_root q.body)) e ∙ root,
+          )
       | inr creates ↦
-          inr
-              ((is.noted.only task (get_contains family.tasks task index stands)).0,
-                  ap (option_and_then (λ (q : Record). created q.body)) e ∙ creates)
+          inr (
+            (is.noted.only task (get_contains family.tasks task index stands)).0,
+            ap (option_and_then (λ (q : Record). created q.body)) e ∙ creates,
+          )
     ]
 
 pub must_begin : (rs : List Record) (i index next : ℕ) (r : Record) (family : FamilyView) (known : Latest)
@@ -651,8 +660,8 @@ must_begin rs i index next r family known stands is_family begin old order free 
     not_before turn is never k begins = elim (cases_order k i) [
       | inl same ↦
           let e =
-              one_begin rs i task turn next (subst (λ j. BeginsTurn rs j task turn) same begins)
-                  begin.begins in
+          one_begin rs i task turn next (subst (λ j. BeginsTurn rs j task turn) same begins)
+          begin.begins in
           absurd (omega (arith, e, is))
       | inr (inl below) ↦ never k below begins
       | inr (inr above) ↦
@@ -673,19 +682,20 @@ must_begin rs i index next r family known stands is_family begin old order free 
             → MayBegin rs task r.body known next
         of (inr (first, root)) =
             absurd
-                (none-some told
-                    (sym (root_there rs i task root).1
-                        ∙ ap (option_and_then (λ (q : Record). told_turns q.body)) stands ∙ tells))
+            (none-some told
+            (sym (root_there rs i task root).1
+            ∙ ap (option_and_then (λ (q : Record). told_turns q.body)) stands ∙ tells))
         of (inl begins) =
             may_next (follows known.turn refl)
-                (λ first. not_root first (root_or_explicit rs family index task is_family begin.indexed))
+            (λ first. not_root first (root_or_explicit rs family index task is_family begin.indexed))
           where
             start : TellsStart rs i task next
-            start =
-                (λ none.
-                    none-some told
-                        (sym none ∙ ap (option_and_then (λ (q : Record). told_turns q.body)) stands ∙ tells),
-                        begins)
+            start = (
+              λ none.
+                  none-some told
+                  (sym none ∙ ap (option_and_then (λ (q : Record). told_turns q.body)) stands ∙ tells),
+              begins,
+            )
 
             not_root : next ≡ 0 → IsRoot rs task ⊎ IsExplicit rs task → IsExplicit rs task
             not_root first (inl root) =
@@ -695,9 +705,9 @@ must_begin rs i index next r family known stands is_family begin old order free 
             lacks : (turn : ℕ) → next ≡ turn + 1 → ((k : ℕ) → k < i → BeginsTurn rs k task turn → ⊥) → ⊥
             lacks turn is never =
                 free i
-                    (turn_gap
-                        (missing task turn (subst (TellsStart rs i task) is start)
-                            (not_before turn is never)))
+                (turn_gap
+                (missing task turn (subst (TellsStart rs i task) is start)
+                (not_before turn is never)))
 
             not_again : (turn : ℕ) → known.turn ≡ Some turn → turn ≡ next → ⊥
             not_again turn is same =
@@ -705,14 +715,14 @@ must_begin rs i index next r family known stands is_family begin old order free 
                 elim (begins_cases rs began.0 task turn began.2) [
                   | inl before ↦
                       free i
-                          (turn_gap
-                              (begun_again task next began.0 start began.1
-                                  (before ∙ ap (λ (t : ℕ). Some (task, t)) same)))
+                      (turn_gap
+                      (begun_again task next began.0 start began.1
+                      (before ∙ ap (λ (t : ℕ). Some (task, t)) same)))
                   | inr (first, root) ↦
                       free i
-                          (turn_gap
-                              (of_root task (subst (TellsStart rs i task) (sym same ∙ first) start)
-                                  (began.0, root)))
+                      (turn_gap
+                      (of_root task (subst (TellsStart rs i task) (sym same ∙ first) start)
+                      (began.0, root)))
                 ]
 
             follows : (o : Option ℕ) → known.turn ≡ o → IsNext known next
@@ -720,8 +730,8 @@ must_begin rs i index next r family known stands is_family begin old order free 
               | inl first ↦ next_first is first
               | inr more ↦
                   absurd
-                      (lacks (next - 1) (omega (arith, more))
-                          (λ k below begun. old.none is k (next - 1) below begun))
+                  (lacks (next - 1) (omega (arith, more))
+                  (λ k below begun. old.none is k (next - 1) below begun))
             ]
             follows (Some turn) is = elim (cases_order next (turn + 1)) [
               | inl same ↦ next_later turn is same
@@ -729,10 +739,10 @@ must_begin rs i index next r family known stands is_family begin old order free 
                   absurd (not_again turn is (let low = known_low turn is in omega (arith, less, low)))
               | inr (inr above) ↦
                   absurd
-                      (lacks (next - 1) (omega (arith, above))
-                          (λ k below begun.
-                              let low = old.bound k (next - 1) below begun in
-                              let e = some_now known turn is in absurd (omega (arith, low, e, above))))
+                  (lacks (next - 1) (omega (arith, above))
+                  (λ k below begun.
+                  let low = old.bound k (next - 1) below begun in
+                  let e = some_now known turn is in absurd (omega (arith, low, e, above))))
             ]
 
 -- ---- all records
@@ -742,7 +752,7 @@ untold_in_order rs untold i = record {
   own = λ task own k later below begins. let first = zero_turn k task later begins in omega (arith, first);
   begins =
       λ task turn begins k later below before.
-          let first = zero_turn k task later before in omega (arith, first);
+      let first = zero_turn k task later before in omega (arith, first);
 }
   where
     zero_turn : (k task turn : ℕ) → BeginsTurn rs k task turn → turn ≡ 0
@@ -765,9 +775,9 @@ in_order_rise rs order task i k one other less = by (slice_get rs i) refl
           | inl more ↦
               let began = turn_began rs task r.thread i more in
               let low =
-                  (order k).own task (own_running rs task k other) began.0
-                      (turn_in task (part_of rs r.thread i))
-                      (let below = began.1 in omega (arith, below, less)) (runs began.3) in
+              (order k).own task (own_running rs task k other) began.0
+              (turn_in task (part_of rs r.thread i))
+              (let below = began.1 in omega (arith, below, less)) (runs began.3) in
               omega (arith, low, here)
           | inr first ↦ omega (arith, first, here)
         ]
@@ -780,7 +790,7 @@ all_in_order rs n past order i = elim (cases_lt i n) [
   | inr beyond ↦ record {
     own =
         λ task own.
-            let within = at_within running rs i task own in absurd (omega (arith, within, past, beyond));
+        let within = at_within running rs i task own in absurd (omega (arith, within, past, beyond));
     begins = λ task turn begins. absurd (nothing task turn (begins_cases rs i task turn begins) beyond);
   }
 ]

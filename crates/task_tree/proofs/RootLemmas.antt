@@ -65,15 +65,15 @@ reach_keeps tasks task r roots order roots_now order_now (known h) = record {
 reach_keeps tasks task r roots order roots_now order_now (new index is only no_root) =
     let within = slice_get_within roots index None no_root in
     let fewer =
-        missing_set roots index r within
-            (same_Some (get_or roots index None) None
-                (sym (slice_get-get_or roots index None within) ∙ no_root)) in
+    missing_set roots index r within
+    (same_Some (get_or roots index None) None
+    (sym (slice_get-get_or roots index None within) ∙ no_root)) in
     let longer = length_push order (record { index = index; standing = r }) in
     record {
       same_length = length-set roots index (Some r);
       stays =
           λ k other here.
-              get_set_other roots index k (Some r) (not_known roots index k other no_root here) ∙ here;
+          get_set_other roots index k (Some r) (not_known roots index k other no_root here) ∙ here;
       prefix = λ k entry here. get_pushed order (record { index = index; standing = r }) entry k here;
       longer = omega (arith, longer);
       total = omega (arith, fewer, longer);
@@ -85,10 +85,11 @@ pub reach_done : (tasks : List ℕ) (task : ℕ) (r : Standing) (roots : List (O
     → Reaches tasks task r roots order roots_now order_now → (index : ℕ) → slice_get tasks index ≡ Some task
     → (other : Standing) × (slice_get roots_now index ≡ Some (Some other))
 reach_done tasks task r roots order roots_now order_now (known h) index is = h index is
-reach_done tasks task r roots order roots_now order_now (new found is_found only no_root) index is =
-    (r,
-        ap (slice_get (set roots found (Some r))) (only index is)
-            ∙ get_set_same roots found (Some r) (slice_get_within roots found None no_root))
+reach_done tasks task r roots order roots_now order_now (new found is_found only no_root) index is = (
+  r,
+  ap (slice_get (set roots found (Some r))) (only index is)
+      ∙ get_set_same roots found (Some r) (slice_get_within roots found None no_root),
+)
 
 -- and what is known is still right
 pub reach_is : (rs : List Record) (tasks : List ℕ) (task : ℕ) (r : Standing) (roots : List (Option Standing))
@@ -98,47 +99,53 @@ pub reach_is : (rs : List Record) (tasks : List ℕ) (task : ℕ) (r : Standing)
 reach_is rs tasks task r roots order roots_now order_now are stands deep (known h) = are
 reach_is rs tasks task r roots order roots_now order_now are stands deep (new index is only no_root) =
     record {
-  all = length-set roots index (Some r) ∙ are.all;
-  sound = λ k other found is_other has. elim (cases_eq k index) [
-    | inl same ↦
-        let same_task : other ≡ task = same_Some other task (sym is_other ∙ ap (slice_get tasks) same ∙ is) in
-        let same_root = root_here k found same has in
-        let P : Standing → Type 0 = StandsAt rs other in
-        let Q : ℕ → Type 0 = λ t. StandsAt rs t r in
-        subst P same_root (subst Q (sym same_task) stands)
-    | inr apart ↦ are.sound k other found is_other (sym (get_set_other roots index k (Some r) apart) ∙ has)
-  ];
-  listed = λ k found has. elim (cases_eq k index) [
-    | inl same ↦
-        let P : Reached → Type 0 = Contains (order ++ record { index = index; standing = r } ∷ []) in
-        subst P (here k found same has) (Contains-push order (record { index = index; standing = r }))
-    | inr apart ↦
-        Contains-append_left order (record { index = index; standing = r } ∷ [])
+      all = length-set roots index (Some r) ∙ are.all;
+      sound = λ k other found is_other has. elim (cases_eq k index) [
+        | inl same ↦
+            let same_task : other ≡ task =
+            same_Some other task (sym is_other ∙ ap (slice_get tasks) same ∙ is) in
+            let same_root = root_here k found same has in
+            let P : Standing → Type 0 = StandsAt rs other in
+            let Q : ℕ → Type 0 = λ t. StandsAt rs t r in
+            subst P same_root (subst Q (sym same_task) stands)
+        | inr apart ↦
+            are.sound k other found is_other (sym (get_set_other roots index k (Some r) apart) ∙ has)
+      ];
+      listed = λ k found has. elim (cases_eq k index) [
+        | inl same ↦
+            let P : Reached → Type 0 = Contains (order ++ record { index = index; standing = r } ∷ []) in
+            subst P (here k found same has) (Contains-push order (record { index = index; standing = r }))
+        | inr apart ↦
+            Contains-append_left order (record { index = index; standing = r } ∷ [])
             (record { index = k; standing = found })
             (are.listed k found (sym (get_set_other roots index k (Some r) apart) ∙ has))
-  ];
-  known = λ entry has. elim (Contains-push_cases order (record { index = index; standing = r }) entry has) [
-    | inl before ↦
-        let there = are.known entry before in
-        get_set_other roots index entry.index (Some r)
-            (not_known roots index entry.index entry.standing no_root there)
-            ∙ there
-    | inr last ↦
-        let P : Reached → Type 0 =
-            λ e. slice_get (set roots index (Some r)) e.index ≡ Some (Some e.standing) in
-        subst P last (get_set_same roots index (Some r) within)
-  ];
-  total =
-      (reach_keeps tasks task r roots order (set roots index (Some r))
+      ];
+      known =
+          λ entry has.
+          elim (Contains-push_cases order (record { index = index; standing = r }) entry has) [
+            | inl before ↦
+                let there = are.known entry before in
+                get_set_other roots index entry.index (Some r)
+                (not_known roots index entry.index entry.standing no_root there)
+                ∙ there
+            | inr last ↦
+                let P : Reached → Type 0 =
+                λ e. slice_get (set roots index (Some r)) e.index ≡ Some (Some e.standing) in
+                subst P last (get_set_same roots index (Some r) within)
+          ];
+      total =
+          (reach_keeps tasks task r roots order (set roots index (Some r))
           (order ++ record { index = index; standing = r } ∷ []) (new index is only no_root)).total
           ∙ are.total;
-  shallow = λ k entry has. elim (pushed_cases order (record { index = index; standing = r }) entry k has) [
-    | inl before ↦ are.shallow k entry before
-    | inr last ↦
-        let P : Reached → Type 0 = λ e. e.standing.depth ≤ k in
-        subst P last.1 (let at_end = last.0 in omega (arith, deep, at_end))
-  ];
-}
+      shallow =
+          λ k entry has.
+          elim (pushed_cases order (record { index = index; standing = r }) entry k has) [
+            | inl before ↦ are.shallow k entry before
+            | inr last ↦
+                let P : Reached → Type 0 = λ e. e.standing.depth ≤ k in
+                subst P last.1 (let at_end = last.0 in omega (arith, deep, at_end))
+          ];
+    }
   where
     within : index < length roots
     within = slice_get_within roots index None no_root
@@ -147,12 +154,12 @@ reach_is rs tasks task r roots order roots_now order_now are stands deep (new in
         → slice_get (set roots index (Some r)) k ≡ Some (Some found) → r ≡ found
     root_here k found same has =
         same_Some r found
-            (same_Some (Some r) (Some found)
-                (sym (get_set_same roots index (Some r) within)
-                    ∙ ap (slice_get (set roots index (Some r))) (sym same) ∙ has))
+        (same_Some (Some r) (Some found)
+        (sym (get_set_same roots index (Some r) within)
+        ∙ ap (slice_get (set roots index (Some r))) (sym same) ∙ has))
 
     here : (k : ℕ) (found : Standing) → k ≡ index → slice_get (set roots index (Some r)) k ≡ Some (Some found)
-        → ◌≡◌ { A = Reached } (record { index = index; standing = r }) (record {
+        → ◌≡◌ {A = Reached} (record { index = index; standing = r }) (record {
           index = k;
           standing = found;
         })
@@ -186,10 +193,10 @@ spreads_keeps tasks r roots order list roots_now order_now none = record {
   total = refl;
 }
 spreads_keeps tasks r roots order list roots_now order_now
-    (more { before = before } { roots_then = roots_then } { order_then = order_then } task spreads reaches) =
+    (more {before = before} {roots_then = roots_then} {order_then = order_then} task spreads reaches) =
     keeps_both roots order roots_then order_then roots_now order_now
-        (spreads_keeps tasks r roots order before roots_then order_then spreads)
-        (reach_keeps tasks task r roots_then order_then roots_now order_now reaches)
+    (spreads_keeps tasks r roots order before roots_then order_then spreads)
+    (reach_keeps tasks task r roots_then order_then roots_now order_now reaches)
 
 pub spreads_done : (tasks : List ℕ) (r : Standing) (roots : List (Option Standing)) (order : List Reached)
     (list : List ℕ) (roots_now : List (Option Standing)) (order_now : List Reached)
@@ -198,20 +205,21 @@ pub spreads_done : (tasks : List ℕ) (r : Standing) (roots : List (Option Stand
 spreads_done tasks r roots order list roots_now order_now none task index has is =
     absurd (let low = has.1 in omega arith)
 spreads_done tasks r roots order list roots_now order_now
-        (more { before = before } { roots_then = roots_then } { order_then = order_then } last spreads
-            reaches)
-        task index has is =
+    (more {before = before} {roots_then = roots_then} {order_then = order_then} last spreads
+    reaches)
+    task index has is =
     elim (Contains-push_cases before last task has) [
-  | inl earlier ↦
-      let found =
-          spreads_done tasks r roots order before roots_then order_then spreads task index earlier is in
-      (found.0,
-          (reach_keeps tasks last r roots_then order_then roots_now order_now reaches).stays index found.0
-              found.1)
-  | inr same ↦
-      reach_done tasks last r roots_then order_then roots_now order_now reaches index
+      | inl earlier ↦
+          let found =
+          spreads_done tasks r roots order before roots_then order_then spreads task index earlier is in (
+            found.0,
+            (reach_keeps tasks last r roots_then order_then roots_now order_now reaches).stays index found.0
+                found.1,
+          )
+      | inr same ↦
+          reach_done tasks last r roots_then order_then roots_now order_now reaches index
           (is ∙ ap Some (sym same))
-]
+    ]
 
 pub spreads_is : (rs : List Record) (tasks : List ℕ) (r : Standing) (roots : List (Option Standing))
     (order : List Reached) (list : List ℕ) (roots_now : List (Option Standing)) (order_now : List Reached)
@@ -220,14 +228,14 @@ pub spreads_is : (rs : List Record) (tasks : List ℕ) (r : Standing) (roots : L
     → IsReach rs tasks roots_now order_now
 spreads_is rs tasks r roots order list roots_now order_now are stand deep none = are
 spreads_is rs tasks r roots order list roots_now order_now are stand deep
-    (more { before = before } { roots_then = roots_then } { order_then = order_then } last spreads reaches) =
+    (more {before = before} {roots_then = roots_then} {order_then = order_then} last spreads reaches) =
     reach_is rs tasks last r roots_then order_then roots_now order_now
     (spreads_is rs tasks r roots order before roots_then order_then are
-        (λ task has. stand task (Contains-append_left before (last ∷ []) task has)) deep spreads)
+    (λ task has. stand task (Contains-append_left before (last ∷ []) task has)) deep spreads)
     (stand last (Contains-push before last))
-        (let longer = (spreads_keeps tasks r roots order before roots_then order_then spreads).longer in
-         omega (arith, deep, longer))
-        reaches
+    (let longer = (spreads_keeps tasks r roots order before roots_then order_then spreads).longer in
+    omega (arith, deep, longer))
+    reaches
 
 -- ---- the roots themselves
 
@@ -248,9 +256,9 @@ reach_start rs tasks roots order is empty = record {
   shallow = λ k entry has. absurd (none-some entry (ap (λ l. slice_get l k) (sym empty) ∙ has));
   known =
       λ entry has.
-          absurd
-              (let P : List Reached → Type 0 = λ l. Contains l entry in
-               let here : Contains [] entry = subst P empty has in let low = here.1 in omega arith);
+      absurd
+      (let P : List Reached → Type 0 = λ l. Contains l entry in
+      let here : Contains [] entry = subst P empty has in let low = here.1 in omega arith);
 }
   where
     nothing : Option Standing
@@ -259,15 +267,15 @@ reach_start rs tasks roots order is empty = record {
     no_root : (index : ℕ) (r : Standing) → slice_get roots index ≡ Some (Some r) → ⊥
     no_root index r has =
         let there : slice_get (replicate (length tasks) None) index ≡ Some (Some r) =
-            ap (λ l. slice_get l index) (sym is) ∙ has in
+        ap (λ l. slice_get l index) (sym is) ∙ has in
         let within = slice_get_within (replicate (length tasks) None) index (Some r) there in
         let short : index < length tasks = rw (length-replicate (length tasks) nothing) at within in
         none-some r
-            (same_Some None (Some r)
-                (sym
-                    (slice_get-get_or (replicate (length tasks) None) index None within
-                        ∙ ap Some (get_or-replicate (length tasks) index None None short))
-                    ∙ there))
+        (same_Some None (Some r)
+        (sym
+        (slice_get-get_or (replicate (length tasks) None) index None within
+        ∙ ap Some (get_or-replicate (length tasks) index None None short))
+        ∙ there))
 
 pub seeded_other : (rs : List Record) (n : ℕ) (tasks : List ℕ) (roots : List (Option Standing))
     (order : List Reached)
@@ -288,18 +296,19 @@ pub seeded_more : (rs : List Record) (n task : ℕ) (tasks : List ℕ) (roots : 
 seeded_more rs n task tasks roots order roots_now order_now are begins reaches = record {
   reach =
       reach_is rs tasks task (at_root task) roots order roots_now order_now are.reach
-          ([], top (n, begins), refl) (omega arith) reaches;
+      ([], top (n, begins), refl) (omega arith) reaches;
   seeded = λ i other index low begins_other is. elim (cases_eq i n) [
     | inl same ↦
         let same_task : other ≡ task =
-            same_Some other task (sym begins_other ∙ ap (at begun_root rs) same ∙ begins) in
+        same_Some other task (sym begins_other ∙ ap (at begun_root rs) same ∙ begins) in
         reach_done tasks task (at_root task) roots order roots_now order_now reaches index
-            (is ∙ ap Some same_task)
+        (is ∙ ap Some same_task)
     | inr apart ↦
-        let found = are.seeded i other index (omega arith) begins_other is in
-        (found.0,
-            (reach_keeps tasks task (at_root task) roots order roots_now order_now reaches).stays index
-                found.0 found.1)
+        let found = are.seeded i other index (omega arith) begins_other is in (
+          found.0,
+          (reach_keeps tasks task (at_root task) roots order roots_now order_now reaches).stays index
+              found.0 found.1,
+        )
   ];
 }
 
@@ -318,14 +327,14 @@ child_stands rs r parent task (path, stands, deep) has =
 -- a task with a root is made
 pub rooted_made : (rs : List Record) (task : ℕ) → IsRooted rs task → (i : ℕ) × (at made rs i ≡ Some task)
 rooted_made rs task (root (i, begins)) = (i, begun_at_made task rs i begins)
-rooted_made rs task (child i { parent = parent } creates up) =
+rooted_made rs task (child i {parent = parent} creates up) =
     (i, created_at_made task rs i (creation_at_created parent task rs i creates))
 
 -- the children of each task that was reached were reached
 abbrev pub IsClosed : List Record → List ℕ → List (Option Standing) → List Reached → ℕ → Type 0
 IsClosed rs tasks roots order n =
     (k task child_task index : ℕ) (entry : Reached) → k < n → slice_get order k ≡ Some entry
-        → slice_get tasks entry.index ≡ Some task
+    → slice_get tasks entry.index ≡ Some task
     → Contains (children rs task) child_task → slice_get tasks index ≡ Some child_task
     → (r : Standing) × (slice_get roots index ≡ Some (Some r))
 
@@ -339,27 +348,27 @@ pub closed_more : (rs : List Record) (tasks : List ℕ) (roots : List (Option St
 closed_more rs tasks roots order roots_now order_now n own entry within here is_own closed spreads k task
     child_task index found low there is_task has is =
     let keeps =
-        spreads_keeps tasks (below_it entry.standing) roots order (children rs own) roots_now order_now
-            spreads in
+    spreads_keeps tasks (below_it entry.standing) roots order (children rs own) roots_now order_now
+    spreads in
     elim (cases_eq k n) [
       | inl same ↦
           let same_entry : found ≡ entry =
-              same_Some found entry (sym there ∙ ap (slice_get order_now) same ∙ keeps.prefix n entry here) in
+          same_Some found entry (sym there ∙ ap (slice_get order_now) same ∙ keeps.prefix n entry here) in
           let same_task : task ≡ own =
-              same_Some task own
-                  (sym is_task ∙ ap (λ (e : Reached). slice_get tasks e.index) same_entry ∙ is_own) in
+          same_Some task own
+          (sym is_task ∙ ap (λ (e : Reached). slice_get tasks e.index) same_entry ∙ is_own) in
           let P : ℕ → Type 0 = λ t. Contains (children rs t) child_task in
           spreads_done tasks (below_it entry.standing) roots order (children rs own) roots_now order_now
-              spreads child_task index (subst P same_task has) is
+          spreads child_task index (subst P same_task has) is
       | inr apart ↦
           let inside : k < length order = omega (arith, low, within, apart) in
           let old : slice_get order k ≡ Some (get_or order k entry) = slice_get-get_or order k entry inside in
           let same_entry : get_or order k entry ≡ found =
-              same_Some (get_or order k entry) found
-                  (sym (keeps.prefix k (get_or order k entry) old) ∙ there) in
+          same_Some (get_or order k entry) found
+          (sym (keeps.prefix k (get_or order k entry) old) ∙ there) in
           let was =
-              closed k task child_task index found (omega (arith, low, apart)) (old ∙ ap Some same_entry)
-                  is_task has is in
+          closed k task child_task index found (omega (arith, low, apart)) (old ∙ ap Some same_entry)
+          is_task has is in
           (was.0, keeps.stays index was.0 was.1)
     ]
 
@@ -383,15 +392,15 @@ all_reached rs tasks roots order noted are closed task (root (i, begins)) index 
 all_reached rs tasks roots order noted are closed task (child i {parent = parent} creates up) index is =
     let maker = rooted_made rs parent up in
     let parent_at =
-        contains_get tasks parent
-            (noted.each maker.0 parent (at_within made rs maker.0 parent maker.1) maker.1) in
+    contains_get tasks parent
+    (noted.each maker.0 parent (at_within made rs maker.0 parent maker.1) maker.1) in
     let found = all_reached rs tasks roots order noted are closed parent up parent_at.0 parent_at.1 in
     let entry : Reached = record { index = parent_at.0; standing = found.0 } in
     let stands = contains_get order entry (are.reach.listed parent_at.0 found.0 found.1) in
     closed stands.0 parent task index entry (slice_get_within order stands.0 entry stands.1) stands.1
-        parent_at.1
-        (child_before rs parent task (length rs) i (at_within creation rs i (parent, task) creates) creates)
-        is
+    parent_at.1
+    (child_before rs parent task (length rs) i (at_within creation rs i (parent, task) creates) creates)
+    is
 
 pub roots_found : (rs : List Record) (tasks : List ℕ) (roots : List (Option Standing)) (order : List Reached)
     (n : ℕ)
@@ -402,10 +411,10 @@ roots_found rs tasks roots order n noted are closed all = record {
   rooted = are.reach.sound;
   unrooted = λ index task is no_root rooted.
       let found =
-          all_reached rs tasks roots order noted are
-              (λ k other child_task at_index entry low.
-                  closed k other child_task at_index entry (omega arith))
-              task rooted index is in
+      all_reached rs tasks roots order noted are
+      (λ k other child_task at_index entry low.
+      closed k other child_task at_index entry (omega arith))
+      task rooted index is in
       none-some found.0 (same_Some None (Some found.0) (sym no_root ∙ found.1));
 }
 
@@ -426,35 +435,36 @@ pub turned : (rs : List Record) (tasks : List ℕ) (roots : List (Option Standin
     → Spreads tasks (below_it entry.standing) roots order list roots_now order_now
     → IsTurned rs tasks roots_now order order_now next
 turned rs tasks roots order list roots_now order_now next own entry are closed within here is_own is_list
-        spreads_list =
+    spreads_list =
     record {
-  reach = record {
-    reach =
-        spreads_is rs tasks (below_it entry.standing) roots order (children rs own) roots_now order_now
+      reach = record {
+        reach =
+            spreads_is rs tasks (below_it entry.standing) roots order (children rs own) roots_now order_now
             are.reach
             (λ task has.
-                child_stands rs entry.standing own task
-                    (are.reach.sound entry.index own entry.standing is_own known) has)
+            child_stands rs entry.standing own task
+            (are.reach.sound entry.index own entry.standing is_own known) has)
             (let deep = are.reach.shallow next entry here in omega (arith, deep, within)) spreads;
-    seeded =
-        λ i task index low begins is.
+        seeded =
+            λ i task index low begins is.
             let found = are.seeded i task index low begins is in (found.0, keeps.stays index found.0 found.1);
-  };
-  closed =
-      closed_more rs tasks roots order roots_now order_now next own entry within here is_own closed spreads;
-  longer = keeps.longer;
-}
+      };
+      closed =
+          closed_more rs tasks roots order roots_now order_now next own entry within here is_own closed
+          spreads;
+      longer = keeps.longer;
+    }
   where
     spreads : Spreads tasks (below_it entry.standing) roots order (children rs own) roots_now order_now
     spreads =
         let P : List ℕ → Type 0 =
-            λ l. Spreads tasks (below_it entry.standing) roots order l roots_now order_now in
+        λ l. Spreads tasks (below_it entry.standing) roots order l roots_now order_now in
         subst P is_list spreads_list
 
     keeps : Keeps roots order roots_now order_now
     keeps =
         spreads_keeps tasks (below_it entry.standing) roots order (children rs own) roots_now order_now
-            spreads
+        spreads
 
     known : slice_get roots entry.index ≡ Some (Some entry.standing)
     known = are.reach.known entry (get_contains order entry next here)
@@ -474,9 +484,10 @@ pub reach_known : (tasks : List ℕ) (task : ℕ) (r : Standing) (found : ℕ) (
     → is_some (get_or roots found None) ≡ true → Reaches tasks task r roots order roots order
 reach_known tasks task r found roots order is within has = known (λ index is_task.
     let same : found ≡ index = same_Some found index ((is index).1 is_task) in
-    let root_there = some_of (get_or roots found None) has in
-    (root_there.0,
-        ap (slice_get roots) (sym same) ∙ slice_get-get_or roots found None within ∙ ap Some root_there.1))
+    let root_there = some_of (get_or roots found None) has in (
+      root_there.0,
+      ap (slice_get roots) (sym same) ∙ slice_get-get_or roots found None within ∙ ap Some root_there.1,
+    ))
   where
     some_of : (o : Option Standing) → is_some o ≡ true → (x : Standing) × (o ≡ Some x)
     some_of None e = absurd (false≢true e)
@@ -487,10 +498,10 @@ pub reach_new : (tasks : List ℕ) (task : ℕ) (r : Standing) (found : ℕ) (ro
     → ((k : ℕ) → (Some found ≡ Some k) ↔ (slice_get tasks k ≡ Some task)) → found < length roots
     → is_some (get_or roots found None) ≡ false
     → Reaches tasks task r roots order (set roots found (Some r))
-        (order ++ record { index = found; standing = r } ∷ [])
+    (order ++ record { index = found; standing = r } ∷ [])
 reach_new tasks task r found roots order is within has_none =
     new found ((is found).0 refl) (λ other is_task. sym (same_Some found other ((is other).1 is_task)))
-        (slice_get-get_or roots found None within ∙ ap Some (none_of (get_or roots found None) has_none))
+    (slice_get-get_or roots found None within ∙ ap Some (none_of (get_or roots found None) has_none))
   where
     none_of : (o : Option Standing) → is_some o ≡ false → o ≡ None
     none_of None e = refl

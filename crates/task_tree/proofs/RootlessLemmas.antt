@@ -70,17 +70,17 @@ pub rootless_here : (rs : List Record) (tasks regions : List ℕ) (roots : List 
     → HasNoRoot rs i
 rootless_here rs tasks regions roots i r noted begun are within read (inl (k, task, low, is, fresh)) =
     unmade task (r, read_get rs i r within read, (k, low, is))
-        (λ is_made. fresh (made_noted rs tasks task noted is_made))
+    (λ is_made. fresh (made_noted rs tasks task noted is_made))
 rootless_here rs tasks regions roots i r noted begun are within read (inr (inl h)) =
     let found = some_and (created r.body) _ h in
     let creates : at created rs i ≡ Some found.0 = at_read created rs i r within read ∙ found.1 in
     let index =
-        contains_get tasks found.0 (noted.each i found.0 within (created_at_made found.0 rs i creates)) in
+    contains_get tasks found.0 (noted.each i found.0 within (created_at_made found.0 rs i creates)) in
     unrooted found.0 creates (are.unrooted index.0 found.0 index.1 (found.2 index.0 index.1))
 rootless_here rs tasks regions roots i r noted begun are within read (inr (inr h)) =
     let found = some_and (region_named r.body) _ h in
     no_region found.0 (at_read region_named rs i r within read ∙ found.1)
-        (λ forks. found.2 (forked_noted rs regions found.0 begun forks))
+    (λ forks. found.2 (forked_noted rs regions found.0 begun forks))
 
 -- and back
 pub here_rootless : (rs : List Record) (tasks regions : List ℕ) (roots : List (Option Standing)) (i : ℕ)
@@ -96,17 +96,17 @@ here_rootless rs tasks regions roots i r noted begun are within read (unmade tas
     inl (here.0, task, here.1, here.2, λ is_noted. fresh (noted_made rs tasks task noted is_noted))
 here_rootless rs tasks regions roots i r noted begun are within read (unrooted task creates none) =
     inr
-        (inl
-            (and_some (created r.body)
-                (λ t. (index : ℕ) → slice_get tasks index ≡ Some t → slice_get roots index ≡ Some None) task
-                (sym (at_read created rs i r within read) ∙ creates) (no_root task none)))
+    (inl
+    (and_some (created r.body)
+    (λ t. (index : ℕ) → slice_get tasks index ≡ Some t → slice_get roots index ≡ Some None) task
+    (sym (at_read created rs i r within read) ∙ creates) (no_root task none)))
   where
     no_root : (t : ℕ) → (IsRooted rs t → ⊥) → (index : ℕ) → slice_get tasks index ≡ Some t
         → slice_get roots index ≡ Some None
     no_root t never index is =
         of (get_or roots index None)
-            (slice_get-get_or roots index None
-                (let inside = slice_get_within tasks index t is in omega (arith, inside, are.all)))
+        (slice_get-get_or roots index None
+        (let inside = slice_get_within tasks index t is in omega (arith, inside, are.all)))
       where
         of : (o : Option Standing) → slice_get roots index ≡ Some o → slice_get roots index ≡ Some None
         of None e = e
@@ -115,10 +115,10 @@ here_rootless rs tasks regions roots i r noted begun are within read (unrooted t
             absurd (never (path_rooted rs standing.root t stands.0 stands.1))
 here_rootless rs tasks regions roots i r noted begun are within read (no_region region names none) =
     inr
-        (inr
-            (and_some (region_named r.body) (λ g. Contains regions g → ⊥) region
-                (sym (at_read region_named rs i r within read) ∙ names)
-                (λ has. none (noted_forked rs regions region begun has))))
+    (inr
+    (and_some (region_named r.body) (λ g. Contains regions g → ⊥) region
+    (sym (at_read region_named rs i r within read) ∙ names)
+    (λ has. none (noted_forked rs regions region begun has))))
 
 pub no_root_at : (rs : List Record) (i : ℕ) → HasCause rs i Rootless → HasNoRoot rs i
 no_root_at rs i (rootless h) = h
@@ -168,22 +168,23 @@ named_parts : (P : ℕ → Type 0) (x : ℕ) (second third : Option ℕ)
     → Any P (x ∷ option_to_list second ++ option_to_list third)
     → P x ⊎ (IsSomeAnd second P ⊎ IsSomeAnd third P)
 named_parts P x None None has =
-    elim (any_head P x [] has) [inl first ↦ inl first | inr rest ↦ absurd (any_none P rest)]
+    elim (any_head P x [] has) [ inl first ↦ inl first | inr rest ↦ absurd (any_none P rest) ]
 named_parts P x (Some y) None has = elim (any_head P x (y ∷ []) has) [
   | inl first ↦ inl first
   | inr rest ↦
-      elim (any_head P y [] rest) [inl second ↦ inr (inl second) | inr none ↦ absurd (any_none P none)]
+      elim (any_head P y [] rest) [ inl second ↦ inr (inl second) | inr none ↦ absurd (any_none P none) ]
 ]
 named_parts P x None (Some z) has = elim (any_head P x (z ∷ []) has) [
   | inl first ↦ inl first
-  | inr rest ↦ elim (any_head P z [] rest) [inl third ↦ inr (inr third) | inr none ↦ absurd (any_none P none)]
+  | inr rest ↦
+      elim (any_head P z [] rest) [ inl third ↦ inr (inr third) | inr none ↦ absurd (any_none P none) ]
 ]
 named_parts P x (Some y) (Some z) has = elim (any_head P x (y ∷ z ∷ []) has) [
   | inl first ↦ inl first
   | inr rest ↦ elim (any_head P y (z ∷ []) rest) [
     | inl second ↦ inr (inl second)
     | inr more ↦
-        elim (any_head P z [] more) [inl third ↦ inr (inr third) | inr none ↦ absurd (any_none P none)]
+        elim (any_head P z [] more) [ inl third ↦ inr (inr third) | inr none ↦ absurd (any_none P none) ]
   ]
 ]
 
@@ -215,8 +216,8 @@ fresh_missing tasks (Some task) (Some index) (other, is, stands) fresh =
 
 named_by : (P : ℕ → Type 0) (b : Body)
     → Any P (named b)
-        ↔ (IsSomeAnd (subject b) P
-              ⊎ (IsSomeAnd (object b) P ⊎ IsSomeAnd (option_map (λ (c : Claim). c.root) (claim b)) P))
+    ↔ (IsSomeAnd (subject b) P
+    ⊎ (IsSomeAnd (object b) P ⊎ IsSomeAnd (option_map (λ (c : Claim). c.root) (claim b)) P))
 named_by P (ParallelBegin requested task parallel) =
     (named_parts P task None None, parts_named P task None None)
 named_by P (ParallelEnd task parallel) = (named_parts P task None None, parts_named P task None None)
@@ -225,22 +226,27 @@ named_by P (ImplicitTask endpoint actual index given parallel task) =
 named_by P (TaskCreate deps given task child) =
     (named_parts P task (Some child) None, parts_named P task (Some child) None)
 named_by P (Dependences task list) = (named_parts P task None None, parts_named P task None None)
-named_by P (TaskSchedule status turns prior next share) =
-    (named_parts P prior next (option_map (λ (c : Claim). c.root) share),
-        parts_named P prior next (option_map (λ (c : Claim). c.root) share))
+named_by P (TaskSchedule status turns prior next share) = (
+  named_parts P prior next (option_map (λ (c : Claim). c.root) share),
+  parts_named P prior next (option_map (λ (c : Claim). c.root) share),
+)
 named_by P (SyncRegion kind endpoint parallel task) =
     (named_parts P task None None, parts_named P task None None)
-named_by P (Cancel given task share) =
-    (named_parts P task None (option_map (λ (c : Claim). c.root) share),
-        parts_named P task None (option_map (λ (c : Claim). c.root) share))
-named_by P _ =
-    (λ has.
-        absurd (any_none P has),
-            λ parts.
-                elim parts
-                    [inl first ↦
-                        absurd first | inr more ↦
-                            elim more [inl second ↦ absurd second | inr third ↦ absurd third]])
+named_by P (Cancel given task share) = (
+  named_parts P task None (option_map (λ (c : Claim). c.root) share),
+  parts_named P task None (option_map (λ (c : Claim). c.root) share),
+)
+named_by P _ = (
+  λ has.
+      absurd (any_none P has),
+  λ parts.
+      elim parts [
+        | inl first ↦
+            absurd first
+        | inr more ↦
+            elim more [ inl second ↦ absurd second | inr third ↦ absurd third ]
+      ],
+)
 
 claim_root : (P : ℕ → Type 0) (share : Option Claim)
     → IsSomeAnd share (λ c. P c.root) ↔ IsSomeAnd (option_map (λ (c : Claim). c.root) share) P
@@ -266,8 +272,8 @@ pub missing_subject : (tasks regions : List ℕ) (roots : List (Option Standing)
 missing_subject tasks regions roots b task first finds is none =
     let P : Option ℕ → Type 0 = λ o. IsMissing o first in
     inl
-        ((named_by (λ t. Contains tasks t → ⊥) b).1
-            (inl (missing_fresh tasks (subject b) first finds (subst P (sym is) none))))
+    ((named_by (λ t. Contains tasks t → ⊥) b).1
+    (inl (missing_fresh tasks (subject b) first finds (subst P (sym is) none))))
 
 missing_object : (tasks regions : List ℕ) (roots : List (Option Standing)) (b : Body) (task : ℕ)
     (second : Option ℕ)
@@ -275,8 +281,8 @@ missing_object : (tasks regions : List ℕ) (roots : List (Option Standing)) (b 
 missing_object tasks regions roots b task second finds is none =
     let P : Option ℕ → Type 0 = λ o. IsMissing o second in
     inl
-        ((named_by (λ t. Contains tasks t → ⊥) b).1
-            (inr (inl (missing_fresh tasks (object b) second finds (subst P (sym is) none)))))
+    ((named_by (λ t. Contains tasks t → ⊥) b).1
+    (inr (inl (missing_fresh tasks (object b) second finds (subst P (sym is) none)))))
 
 pub missing_next : (tasks regions : List ℕ) (roots : List (Option Standing)) (b : Body)
     (next second : Option ℕ)
@@ -295,16 +301,16 @@ rest_of : (tasks regions : List ℕ) (roots : List (Option Standing)) (b : Body)
     → Finds tasks (subject b) first → Finds tasks (object b) second → (first ≡ None → ⊥)
     → (IsMissing (object b) second → ⊥) → IsRootless tasks regions roots b
     → IsSomeAnd (claim b) (λ c. Contains tasks c.root → ⊥)
-        ⊎ (CreatesUnrooted tasks roots b ⊎ NamesNoRegion regions b)
+    ⊎ (CreatesUnrooted tasks roots b ⊎ NamesNoRegion regions b)
 rest_of tasks regions roots b first second finds found full filled (inl has) =
     elim ((named_by (λ t. Contains tasks t → ⊥) b).0 has) [
-  | inl fresh ↦
-      absurd (full_missing (subject b) first full (fresh_missing tasks (subject b) first finds fresh))
-  | inr more ↦ elim more [
-    | inl fresh ↦ absurd (filled (fresh_missing tasks (object b) second found fresh))
-    | inr fresh ↦ inl ((claim_root (λ t. Contains tasks t → ⊥) (claim b)).1 fresh)
-  ]
-]
+      | inl fresh ↦
+          absurd (full_missing (subject b) first full (fresh_missing tasks (subject b) first finds fresh))
+      | inr more ↦ elim more [
+        | inl fresh ↦ absurd (filled (fresh_missing tasks (object b) second found fresh))
+        | inr fresh ↦ inl ((claim_root (λ t. Contains tasks t → ⊥) (claim b)).1 fresh)
+      ]
+    ]
 rest_of tasks regions roots b first second finds found full filled (inr rest) = inr rest
 
 -- a record that names one task and no region
@@ -317,14 +323,16 @@ subject_left tasks regions roots b task None second finds found is no_object no_
 subject_left tasks regions roots b task (Some index) second finds found is no_object no_claim no_child none
     has =
     elim
-        (rest_of tasks regions roots b (Some index) second finds found (λ e. none-some index (sym e))
-            (none_missing (object b) second no_object) has) [
+    (rest_of tasks regions roots b (Some index) second finds found (λ e. none-some index (sym e))
+    (none_missing (object b) second no_object) has) [
       | inl claimed ↦ absurd (no_and (claim b) _ no_claim claimed)
       | inr more ↦
-          elim more
-              [inl child ↦
-                  absurd (no_and (created b) _ no_child child) | inr region ↦
-                      absurd (no_and (region_named b) _ none region)]
+          elim more [
+            | inl child ↦
+                absurd (no_and (created b) _ no_child child)
+            | inr region ↦
+                absurd (no_and (region_named b) _ none region)
+          ]
     ]
 
 -- a record that names a region too
@@ -334,10 +342,11 @@ pub region_left : (tasks regions : List ℕ) (roots : List (Option Standing)) (b
     → claim b ≡ None → created b ≡ None → IsRootless tasks regions roots b → NamesNoRegion regions b
 region_left tasks regions roots b first second finds found full no_object no_claim no_child has =
     elim
-        (rest_of tasks regions roots b first second finds found full
-            (none_missing (object b) second no_object) has) [
+    (rest_of tasks regions roots b first second finds found full
+    (none_missing (object b) second no_object) has) [
       | inl claimed ↦ absurd (no_and (claim b) _ no_claim claimed)
-      | inr more ↦ elim more [inl child ↦ absurd (no_and (created b) _ no_child child) | inr region ↦ region]
+      | inr more ↦
+          elim more [ inl child ↦ absurd (no_and (created b) _ no_child child) | inr region ↦ region ]
     ]
 
 -- a record that may have a claim
@@ -352,10 +361,12 @@ claim_left tasks regions roots b first second share finds found full filled is n
           let P : Option Claim → Type 0 = λ o. IsSomeAnd o (λ c. Contains tasks c.root → ⊥) in
           subst P is claimed
       | inr more ↦
-          elim more
-              [inl child ↦
-                  absurd (no_and (created b) _ no_child child) | inr region ↦
-                      absurd (no_and (region_named b) _ none region)]
+          elim more [
+            | inl child ↦
+                absurd (no_and (created b) _ no_child child)
+            | inr region ↦
+                absurd (no_and (region_named b) _ none region)
+          ]
     ]
 
 pub claim_rootless : (tasks regions : List ℕ) (roots : List (Option Standing)) (b : Body)
@@ -364,8 +375,8 @@ pub claim_rootless : (tasks regions : List ℕ) (roots : List (Option Standing))
 claim_rootless tasks regions roots b share is has =
     let P : Option Claim → Type 0 = λ o. IsSomeAnd o (λ c. Contains tasks c.root → ⊥) in
     inl
-        ((named_by (λ t. Contains tasks t → ⊥) b).1
-            (inr (inr ((claim_root (λ t. Contains tasks t → ⊥) (claim b)).0 (subst P (sym is) has)))))
+    ((named_by (λ t. Contains tasks t → ⊥) b).1
+    (inr (inr ((claim_root (λ t. Contains tasks t → ⊥) (claim b)).0 (subst P (sym is) has)))))
 
 -- a record that creates a task
 pub child_left : (tasks regions : List ℕ) (roots : List (Option Standing)) (b : Body) (child : ℕ)
@@ -378,15 +389,15 @@ child_left tasks regions roots b child first None finds found full names makes n
 child_left tasks regions roots b child first (Some at) finds found full names makes no_claim none has index is
     =
     elim
-        (rest_of tasks regions roots b first (Some at) finds found full
-            (full_missing (object b) (Some at) (λ e. none-some at (sym e))) has) [
+    (rest_of tasks regions roots b first (Some at) finds found full
+    (full_missing (object b) (Some at) (λ e. none-some at (sym e))) has) [
       | inl claimed ↦ absurd (no_and (claim b) _ no_claim claimed)
       | inr more ↦ elim more [
         | inl unrooted_child ↦
             let it = some_and (created b) _ unrooted_child in
             it.2 index
-                (ap (slice_get tasks) (sym (same_Some at index is)) ∙ found.2 ∙ sym found.1 ∙ names
-                    ∙ sym makes ∙ it.1)
+            (ap (slice_get tasks) (sym (same_Some at index is)) ∙ found.2 ∙ sym found.1 ∙ names
+            ∙ sym makes ∙ it.1)
         | inr region ↦ absurd (no_and (region_named b) _ none region)
       ]
     ]
@@ -401,15 +412,15 @@ child_rootless tasks regions roots b child None apart finds names makes none =
 child_rootless tasks regions roots b child (Some at) apart (other, says, stands) names makes none =
     let same : other ≡ child = same_Some other child (sym says ∙ names) in
     inr
-        (inl
-            (and_some (created b)
-                (λ t. (index : ℕ) → slice_get tasks index ≡ Some t → slice_get roots index ≡ Some None) child
-                makes (λ index is. none index (ap Some (apart at index child (stands ∙ ap Some same) is)))))
+    (inl
+    (and_some (created b)
+    (λ t. (index : ℕ) → slice_get tasks index ≡ Some t → slice_get roots index ≡ Some None) child
+    makes (λ index is. none index (ap Some (apart at index child (stands ∙ ap Some same) is)))))
 
 -- a chain of parents ends at a root
 path_root : (rs : List Record) (root task : ℕ) (path : List ℕ) → HasPath rs root task path → IsRoot rs root
 path_root rs root task path (top is) = is
-path_root rs root task path (below number { parent = parent } { path = up } stands is) =
+path_root rs root task path (below number {parent = parent} {path = up} stands is) =
     path_root rs root parent up stands
 
 -- each root that is known is made
@@ -418,8 +429,8 @@ pub roots_made : (rs : List Record) (tasks : List ℕ) (roots : List (Option Sta
 roots_made rs tasks roots noted are index standing is =
     let low = slice_get_within roots index (Some standing) is in
     let stands =
-        are.rooted index (get_or tasks index 0) standing
-            (slice_get-get_or tasks index 0 (omega (arith, low, are.all))) is in
+    are.rooted index (get_or tasks index 0) standing
+    (slice_get-get_or tasks index 0 (omega (arith, low, are.all))) is in
     let top_is = path_root rs standing.root (get_or tasks index 0) stands.0 stands.1 in
     made_noted rs tasks standing.root noted (top_is.0, begun_at_made standing.root rs top_is.0 top_is.1)
 
@@ -433,9 +444,9 @@ slot_finds says rs tasks slots i r slot are within read here =
     let P : Option ℕ → Type 0 = λ o. Finds tasks (says r.body) o in
     let Q : Option ℕ → Type 0 = λ o. Finds tasks o found.0 in
     let same : found.0 ≡ slot =
-        same_Some found.0 slot
-            (sym found.1 ∙ slice_get-get_or slots i slot (omega (arith, within, are.all))
-                ∙ ap Some (sym here)) in
+    same_Some found.0 slot
+    (sym found.1 ∙ slice_get-get_or slots i slot (omega (arith, within, are.all))
+    ∙ ap Some (sym here)) in
     subst P same (subst Q (at_read says rs i r within read) found.2)
 
 -- ---- where all that the records name is known
@@ -472,20 +483,20 @@ known_free rs tasks regions roots noted begun are known full i has = never (no_r
     named_there region none low None e is = none-some region is
     named_there region none low (Some r) e is =
         (known i r low e).1
-            (and_some (region_named r.body) (λ g. Contains regions g → ⊥) region is
-                (λ noted_region. none (noted_forked rs regions region begun noted_region)))
+        (and_some (region_named r.body) (λ g. Contains regions g → ⊥) region is
+        (λ noted_region. none (noted_forked rs regions region begun noted_region)))
 
     never : HasNoRoot rs i → ⊥
     never (unmade task (r, stands, names) fresh) =
         (known i r (slice_get_within rs i r stands) stands).0
-            (names.0, task, names.1, names.2, λ is_noted. fresh (noted_made rs tasks task noted is_noted))
+        (names.0, task, names.1, names.2, λ is_noted. fresh (noted_made rs tasks task noted is_noted))
     never (unrooted task creates none) =
         let low = at_within created rs i task creates in
         let index = contains_get tasks task (noted.each i task low (created_at_made task rs i creates)) in
         none
-            (rooted index.0 task index.1 (get_or roots index.0 None)
-                (slice_get-get_or roots index.0 None
-                    (let inside = slice_get_within tasks index.0 task index.1 in
-                     omega (arith, inside, are.all))))
+        (rooted index.0 task index.1 (get_or roots index.0 None)
+        (slice_get-get_or roots index.0 None
+        (let inside = slice_get_within tasks index.0 task index.1 in
+        omega (arith, inside, are.all))))
     never (no_region region names none) =
         named_there region none (at_within region_named rs i region names) (slice_get rs i) refl names

@@ -93,14 +93,14 @@ same_row : (offsets : List ℕ) (one other a b : ℕ) → AreRising offsets → 
 same_row offsets one other a b rise low high first second same = elim (cases_lt one other) [
   | inl below ↦
       absurd
-          (let order = rows_order offsets (one + 1) other rise (omega (arith, below)) (omega (arith, high)) in
-           omega (arith, order, first, same))
+      (let order = rows_order offsets (one + 1) other rise (omega (arith, below)) (omega (arith, high)) in
+      omega (arith, order, first, same))
   | inr above ↦ elim (cases_lt other one) [
     | inl below ↦
         absurd
-            (let order =
-                 rows_order offsets (other + 1) one rise (omega (arith, below)) (omega (arith, low)) in
-             omega (arith, order, second, same))
+        (let order =
+        rows_order offsets (other + 1) one rise (omega (arith, below)) (omega (arith, low)) in
+        omega (arith, order, second, same))
     | inr not_above ↦ omega (arith, above, not_above)
   ]
 ]
@@ -121,7 +121,7 @@ pub filled_other : (n : ℕ) (tasks : List ℕ) (links : List (Option Link)) (of
 filled_other n tasks links offsets ids filled none index task link below is stands = elim (cases_eq index n) [
   | inl same ↦
       absurd
-          (none-some link (same_Some None (Some link) (sym none ∙ ap (slice_get links) (sym same) ∙ stands)))
+      (none-some link (same_Some None (Some link) (sym none ∙ ap (slice_get links) (sym same) ∙ stands)))
   | inr apart ↦ filled index task link (omega (arith, below, apart)) is stands
 ]
 
@@ -132,25 +132,25 @@ pub filled_more : (n task : ℕ) (link : Link) (tasks : List ℕ) (links : List 
     → slice_get tasks n ≡ Some task → slice_get links n ≡ Some (Some link)
     → AreFilled (n + 1) tasks links offsets (set ids (slice_index offsets link.parent + link.number) task)
 filled_more n task link tasks links offsets ids rise fitting single within filled is_task is_link index other
-        found below is stands =
+    found below is stands =
     elim (cases_eq index n) [
-  | inl same ↦
-      let same_link : link ≡ found =
+      | inl same ↦
+          let same_link : link ≡ found =
           same_Some link found
-              (same_Some (Some link) (Some found) (sym is_link ∙ ap (slice_get links) (sym same) ∙ stands)) in
-      ap (λ (l : Link). slice_get (set ids place task) (slice_index offsets l.parent + l.number))
+          (same_Some (Some link) (Some found) (sym is_link ∙ ap (slice_get links) (sym same) ∙ stands)) in
+          ap (λ (l : Link). slice_get (set ids place task) (slice_index offsets l.parent + l.number))
           (sym same_link)
           ∙ get_set_same ids place task within ∙ sym is_task ∙ ap (slice_get tasks) (sym same) ∙ is
-  | inr apart ↦
-      get_set_other ids place (slice_index offsets found.parent + found.number) task
+      | inr apart ↦
+          get_set_other ids place (slice_index offsets found.parent + found.number) task
           (λ same.
-              apart
-                  (single index n found stands
-                      (is_link
-                          ∙ ap (λ l. Some (Some l))
-                              (sym (one_place found (fitting index found stands) same)))))
-      ∙ filled index other found (omega (arith, below, apart)) is stands
-]
+          apart
+          (single index n found stands
+          (is_link
+          ∙ ap (λ l. Some (Some l))
+          (sym (one_place found (fitting index found stands) same)))))
+          ∙ filled index other found (omega (arith, below, apart)) is stands
+    ]
   where
     place : ℕ
     place = slice_index offsets link.parent + link.number
@@ -163,13 +163,13 @@ filled_more n task link tasks links offsets ids rise fitting single within fille
 
     one_place : (found : Link)
         → (found.parent + 1 < length offsets)
-            × (slice_index offsets found.parent + found.number < slice_index offsets (found.parent + 1))
+        × (slice_index offsets found.parent + found.number < slice_index offsets (found.parent + 1))
         → slice_index offsets found.parent + found.number ≡ place → found ≡ link
     one_place found fits same =
         let own = fitting n link is_link in
         let parents =
-            same_row offsets found.parent link.parent found.number link.number rise fits.0 own.0 fits.1 own.1
-                same in
+        same_row offsets found.parent link.parent found.number link.number rise fits.0 own.0 fits.1 own.1
+        same in
         let begins = ap (slice_index offsets) parents in
         links_same found parents (omega (arith, begins, same))
 
@@ -181,12 +181,12 @@ row_is : (ids list : List ℕ) (begin end : ℕ) → begin + length list ≡ end
     → slice_range ids begin end ≡ list
 row_is ids list begin end ends low each =
     ap (λ k. take k (drop begin ids)) (omega (arith, ends))
-        ∙ ext_get_or 0 (take (length list) (drop begin ids)) list long entry
+    ∙ ext_get_or 0 (take (length list) (drop begin ids)) list long entry
   where
     long : length (take (length list) (drop begin ids)) ≡ length list
     long =
         length-take-le (length list) (drop begin ids)
-            (let rest = length-drop begin ids in omega (arith, rest, low, ends))
+        (let rest = length-drop begin ids in omega (arith, rest, low, ends))
 
     entry : (k : ℕ) → k < length (take (length list) (drop begin ids))
         → get_or (take (length list) (drop begin ids)) k 0 ≡ get_or list k 0
@@ -194,16 +194,16 @@ row_is ids list begin end ends low each =
         let inside : k < length list = omega (arith, below, long) in
         let there = each k (get_or list k 0) (slice_get-get_or list k 0 inside) in
         get_or-take (length list) (drop begin ids) k 0 inside ∙ get_or-drop begin ids k 0
-            ∙ same_Some _ _
-                (sym (slice_get-get_or ids (begin + k) 0 (omega (arith, inside, low, ends))) ∙ there)
+        ∙ same_Some _ _
+        (sym (slice_get-get_or ids (begin + k) 0 (omega (arith, inside, low, ends))) ∙ there)
 
 pub links_counted : (rs : List Record) (tasks counts : List ℕ) (links : List (Option Link))
     → AreCounts rs (length rs) tasks counts → AreLinks rs (length rs) tasks links → AreCounted counts links
 links_counted rs tasks counts links are links_are index link stands =
     let within = slice_get_within links index (Some link) stands in
     let of =
-        links_are.only index (get_or tasks index 0) link
-            (slice_get-get_or tasks index 0 (omega (arith, within, links_are.all))) stands in
+    links_are.only index (get_or tasks index 0) link
+    (slice_get-get_or tasks index 0 (omega (arith, within, links_are.all))) stands in
     let inside = slice_get_within tasks link.parent of.0 of.1 in
     let number = slice_get_within (children rs of.0) link.number (get_or tasks index 0) of.2 in
     let count = are.each link.parent of.0 of.1 in
@@ -216,7 +216,7 @@ links_single rs tasks links apart are one other link here there =
     let second = are.only other (get_or tasks other 0) link (task_at other there) there in
     let parents : first.0 ≡ second.0 = same_Some first.0 second.0 (sym first.1 ∙ second.1) in
     let tasks_same : get_or tasks one 0 ≡ get_or tasks other 0 =
-        same_Some _ _ (sym first.2 ∙ ap (λ p. slice_get (children rs p) link.number) parents ∙ second.2) in
+    same_Some _ _ (sym first.2 ∙ ap (λ p. slice_get (children rs p) link.number) parents ∙ second.2) in
     apart one other (get_or tasks other 0) (task_at one here ∙ ap Some tasks_same) (task_at other there)
   where
     task_at : (k : ℕ) → slice_get links k ≡ Some (Some link) → slice_get tasks k ≡ Some (get_or tasks k 0)
@@ -236,8 +236,8 @@ rows_children rs tasks counts links rows noted apart once are links_are inside o
       let next = offsets.next index (omega (arith, low, are.all)) in
       let count = are.each index task is in
       row_is rows.ids (children rs task) (slice_index rows.offsets index)
-          (slice_index rows.offsets (index + 1)) (omega (arith, next, count))
-          (inside.within (index + 1) (omega (arith, low, are.all, offsets.all))) (child_there index task is);
+      (slice_index rows.offsets (index + 1)) (omega (arith, next, count))
+      (inside.within (index + 1) (omega (arith, low, are.all, offsets.all))) (child_there index task is);
 }
   where
     child_there : (index task : ℕ) → slice_get tasks index ≡ Some task → (number child : ℕ)
@@ -246,8 +246,8 @@ rows_children rs tasks counts links rows noted apart once are links_are inside o
     child_there index task is number child stands =
         let place = child_place rs task (length rs) number child stands in
         let own =
-            contains_get tasks child
-                (noted.each place.0 child place.1 (creation_made rs task child place.0 place.2)) in
+        contains_get tasks child
+        (noted.each place.0 child place.1 (creation_made rs task child place.0 place.2)) in
         let found = links_are.linked place.0 task child own.0 index place.1 place.2 own.1 is in
         let of = links_are.only own.0 child found.0 own.1 found.1 in
         let same = one_number rs child of.0 task found.0.number number once of.2 stands in

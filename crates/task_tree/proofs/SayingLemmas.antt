@@ -26,14 +26,14 @@ required_owed rs rise i task = (there, back)
   where
     there : MustBeComplete rs i task → IsRequired rs i task
     there (wait_ends c) = covered ((renamed_covers (own_renaming rs rise) i task).1 c)
-    there (dependent_starts { dependent = d } explicit start before) =
+    there (dependent_starts {dependent = d} explicit start before) =
         preceding explicit start ((renamed_predecessor (own_renaming rs rise) d task).1 before)
-    there (taskwait_completes { dependent = d } completes before) =
+    there (taskwait_completes {dependent = d} completes before) =
         awaited completes ((renamed_predecessor (own_renaming rs rise) d task).1 before)
 
     back : IsRequired rs i task → MustBeComplete rs i task
     back (covered c) = wait_ends ((renamed_covers (own_renaming rs rise) i task).0 c)
-    back (preceding { dependent = d } explicit start before) =
+    back (preceding {dependent = d} explicit start before) =
         dependent_starts explicit start ((renamed_predecessor (own_renaming rs rise) d task).0 before)
-    back (awaited { dependent = d } completes before) =
+    back (awaited {dependent = d} completes before) =
         taskwait_completes completes ((renamed_predecessor (own_renaming rs rise) d task).0 before)

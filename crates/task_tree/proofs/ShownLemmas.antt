@@ -23,7 +23,7 @@ pub own_record : (rs : List Record) (own : OwnView) → IsOwnOf rs own → (numb
     → slice_get own.places number ≡ Some place → slice_get own.run.records number ≡ slice_get rs place
 own_record rs own (own_in_file records order rise) number place is =
     ap (λ (l : List Record). slice_get l number) records
-        ∙ ap (slice_get rs) (file_place rs number place (rw order at is))
+    ∙ ap (slice_get rs) (file_place rs number place (rw order at is))
 own_record rs own (own_by_turn records order) number place is =
     ap (λ (l : List Record). slice_get l number) records ∙ arranged_at rs number place (rw order at is)
 
@@ -72,8 +72,8 @@ own_first rs own cause place is of all first = record {
   shown = (shown_there rs own cause is of first.has.0 place first.has.1).1 first.has.2;
   first = λ k less shown.
       let there =
-          all.each k
-              (let inside = within place first.has.0 first.has.1 in omega (arith, less, inside, long)) in
+      all.each k
+      (let inside = within place first.has.0 first.has.1 in omega (arith, less, inside, long)) in
       first.first k less (there.0, there.1, (shown_there rs own cause is of there.0 k there.1).0 shown);
 }
   where

@@ -61,7 +61,7 @@ permuted_in xs ys moved z is =
 pub map_range : (f : ℕ → ℕ) (n i : ℕ) → i < n → slice_get (map f (range_with_len 0 n)) i ≡ Some (f i)
 map_range f n i below =
     let stands : slice_get (range_with_len 0 n) i ≡ Some (get_or (range_with_len 0 n) i i) =
-        slice_get-get_or (range_with_len 0 n) i i (rw (length-range_with_len 0 n) below) in
+    slice_get-get_or (range_with_len 0 n) i i (rw (length-range_with_len 0 n) below) in
     let same : get_or (range_with_len 0 n) i i ≡ i = get_or-range_with_len 0 n i i below ∙ omega arith in
     slice_get-map f (range_with_len 0 n) i ∙ ap (option_map f) (stands ∙ ap Some same)
 
@@ -69,8 +69,8 @@ pub same_by_index : (xs ys : List ℕ) → length xs ≡ length ys
     → ((i : ℕ) → i < length xs → slice_get xs i ≡ slice_get ys i) → xs ≡ ys
 same_by_index xs ys long same = ext_get_or 0 xs ys long (λ i below.
     same_Some (get_or xs i 0) (get_or ys i 0)
-        (sym (slice_get-get_or xs i 0 below) ∙ same i below
-            ∙ slice_get-get_or ys i 0 (omega (arith, below, long))))
+    (sym (slice_get-get_or xs i 0 below) ∙ same i below
+    ∙ slice_get-get_or ys i 0 (omega (arith, below, long))))
 
 -- ---- two ranked lists
 
@@ -94,19 +94,19 @@ ranked_alike R apart [] (y ∷ ys) ranked_x ranked_y forth back = absurd (back y
 ranked_alike R apart (x ∷ xs) [] ranked_x ranked_y forth back = absurd (forth x (inl refl))
 ranked_alike R apart (x ∷ xs) (y ∷ ys) ranked_x ranked_y forth back =
     let same : x ≡ y =
-        same_head R apart x y xs ys ranked_x.0 ranked_y.0 (forth x (inl refl)) (back y (inl refl)) in
+    same_head R apart x y xs ys ranked_x.0 ranked_y.0 (forth x (inl refl)) (back y (inl refl)) in
     let rest : xs ≡ ys =
-        ranked_alike R apart xs ys ranked_x.1 ranked_y.1
-            (λ z is. in_rest R apart x y z ys same (every_in (R x) xs ranked_x.0 z is) (forth z (inr is)))
-            (λ z is.
-                in_rest R apart y x z xs (sym same) (every_in (R y) ys ranked_y.0 z is) (back z (inr is))) in
+    ranked_alike R apart xs ys ranked_x.1 ranked_y.1
+    (λ z is. in_rest R apart x y z ys same (every_in (R x) xs ranked_x.0 z is) (forth z (inr is)))
+    (λ z is.
+    in_rest R apart y x z xs (sym same) (every_in (R y) ys ranked_y.0 z is) (back z (inr is))) in
     ap (λ l. x ∷ l) rest ∙ ap (λ h. h ∷ ys) same
 
 pub ranked_equal : (R : ℕ → ℕ → Type 0) → ((x y : ℕ) → R x y → R y x → ⊥) → (xs ys : List ℕ) → Ranked R xs
     → Ranked R ys → IsPermutation xs ys → xs ≡ ys
 ranked_equal R apart xs ys ranked_x ranked_y moved =
     ranked_alike R apart xs ys ranked_x ranked_y (permuted_in xs ys moved)
-        (permuted_in ys xs (IsPermutation-sym xs ys moved))
+    (permuted_in ys xs (IsPermutation-sym xs ys moved))
 
 -- ---- pairs in order
 
@@ -143,14 +143,14 @@ pub apart_in_order : (n : ℕ) (xs : List ℕ) → IsPermutation (range_with_len
     → slice_get xs a ≡ Some x → slice_get xs b ≡ Some y → x ≢ y
 apart_in_order n xs moved a b x y less one other same =
     let distinct : IsDistinct eqb xs =
-        IsDistinct-IsPermutation eqb flips (range_with_len 0 n) xs moved
-            (IsDistinct-from_apart eqb (range_with_len 0 n) each) in
+    IsDistinct-IsPermutation eqb flips (range_with_len 0 n) xs moved
+    (IsDistinct-from_apart eqb (range_with_len 0 n) each) in
     let differ = apart_from_distinct eqb xs a b 0 distinct less (slice_get_within xs b y other) in
     true≢false
-        (sym
-            (eq-eqb (get_or xs a 0) (get_or xs b 0)
-                (get_or_from_slice_get xs a x 0 one ∙ same ∙ sym (get_or_from_slice_get xs b y 0 other)))
-            ∙ differ)
+    (sym
+    (eq-eqb (get_or xs a 0) (get_or xs b 0)
+    (get_or_from_slice_get xs a x 0 one ∙ same ∙ sym (get_or_from_slice_get xs b y 0 other)))
+    ∙ differ)
   where
     flips : (x y : ℕ) → eqb x y ≡ eqb y x
     flips x y = elim (cases_order x y) [
@@ -168,14 +168,14 @@ apart_in_order n xs moved a b x y less one other same =
         let first = get_or-range_with_len 0 n i d (omega (arith, less, inside)) in
         let second = get_or-range_with_len 0 n j d inside in
         ne_eqb (get_or (range_with_len 0 n) i d) (get_or (range_with_len 0 n) j d)
-            (λ e. absurd (omega (arith, e, first, second, less)))
+        (λ e. absurd (omega (arith, e, first, second, less)))
 
 -- of two pairs that were sorted
 pub sorted_order : (pairs : List (ℕ × ℕ)) → IsSorted pair_cmp pairs → (a b : ℕ) (p q : ℕ × ℕ) → a < b
     → slice_get pairs a ≡ Some p → slice_get pairs b ≡ Some q → is_lt (pair_cmp q p) ≡ false
 sorted_order pairs sorted a b p q less one other =
     let far =
-        sorted_far (λ x y. is_lt (pair_cmp x y)) (ranks_by pair_total (λ (x : ℕ × ℕ). x)) pairs sorted a b p
-            (omega (arith, less)) (slice_get_within pairs b q other) in
+    sorted_far (λ x y. is_lt (pair_cmp x y)) (ranks_by pair_total (λ (x : ℕ × ℕ). x)) pairs sorted a b p
+    (omega (arith, less)) (slice_get_within pairs b q other) in
     ap (λ x. is_lt (pair_cmp x p)) (sym (get_or_from_slice_get pairs b q p other))
-        ∙ ap (λ x. is_lt (pair_cmp (get_or pairs b p) x)) (sym (get_or_from_slice_get pairs a p p one)) ∙ far
+    ∙ ap (λ x. is_lt (pair_cmp (get_or pairs b p) x)) (sym (get_or_from_slice_get pairs a p p one)) ∙ far

@@ -84,12 +84,13 @@ pub up_to_more : (says : Body → Option ℕ) (rs : List Record) (n : ℕ) (task
 up_to_more says rs n tasks slots slot within are finds = record {
   all = length-set slots n slot ∙ are.all;
   each = λ i below. elim (cases_eq i n) [
-    | inl same ↦
-        (slot,
-                ap (slice_get (set slots n slot)) same
-                    ∙ get_set_same slots n slot (let all = are.all in omega (arith, all, within)),
-                let P : ℕ → Type 0 =
-            λ k. Finds tasks (at says rs k) slot in subst P (sym same) finds)
+    | inl same ↦ (
+      slot,
+      ap (slice_get (set slots n slot)) same
+          ∙ get_set_same slots n slot (let all = are.all in omega (arith, all, within)),
+      let P : ℕ → Type 0 =
+          λ k. Finds tasks (at says rs k) slot in subst P (sym same) finds,
+    )
     | inr apart ↦
         let old = are.each i (omega arith) in (old.0, get_set_other slots n i slot apart ∙ old.1, old.2)
   ];
@@ -114,9 +115,11 @@ created_names _ parent child is = absurd (none-some (parent, child) is)
 pub finds_slot : (tasks : List ℕ) (found slot : Option ℕ) (task : ℕ) → AreApart tasks → Finds tasks found slot
     → found ≡ Some task → IsSlotOf tasks task slot
 finds_slot tasks found None task apart finds is =
-    λ k.
-        (λ holds.
-            absurd (none-some k holds), λ stands. absurd (finds task is (get_contains tasks task k stands)))
+    λ k. (
+      λ holds.
+          absurd (none-some k holds),
+      λ stands. absurd (finds task is (get_contains tasks task k stands)),
+    )
 finds_slot tasks found (Some index) task apart (other, names, stands) is =
     index_is tasks task index apart (stands ∙ sym names ∙ is)
 

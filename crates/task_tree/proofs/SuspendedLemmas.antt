@@ -41,10 +41,10 @@ pub no_misfit_below : (rs : List Record) → IsFreeOf rs NotCurrent → (n i : �
 no_misfit_below rs none zero i below misfits = absurd (omega arith)
 no_misfit_below rs none (suc n) i below misfits =
     none i
-        (not_current (record {
-          misfits = misfits;
-          first = λ k less same earlier. no_misfit_below rs none n k (omega arith) earlier;
-        }))
+    (not_current (record {
+      misfits = misfits;
+      first = λ k less same earlier. no_misfit_below rs none n k (omega arith) earlier;
+    }))
 
 pub no_misfit : (rs : List Record) (i : ℕ) → IsFreeOf rs NotCurrent → MisfitsAt rs i → ⊥
 no_misfit rs i none misfits = no_misfit_below rs none (i + 1) i (omega arith) misfits
@@ -80,25 +80,25 @@ part_more : (rs : List Record) (thread n : ℕ) (r : Record) → slice_get rs n 
 part_more rs thread n r stands =
     filter_more (λ q. q.thread == thread) rs n r (slice_get_within rs n r stands)
     ∙ ap (λ (q : Record). part_of rs thread n ++ cond (q.thread == thread) (q ∷ []) [])
-        (get_or_from_slice_get rs n r r stands)
+    (get_or_from_slice_get rs n r r stands)
 
 pub part_own : (rs : List Record) (thread n : ℕ) (r : Record) → slice_get rs n ≡ Some r → r.thread ≡ thread
     → part_of rs thread (n + 1) ≡ part_of rs thread n ++ r ∷ []
 part_own rs thread n r stands same =
     part_more rs thread n r stands
-        ∙ ap (λ b. part_of rs thread n ++ cond b (r ∷ []) []) (eq-eqb r.thread thread same)
+    ∙ ap (λ b. part_of rs thread n ++ cond b (r ∷ []) []) (eq-eqb r.thread thread same)
 
 pub part_other : (rs : List Record) (thread n : ℕ) (r : Record) → slice_get rs n ≡ Some r → r.thread ≢ thread
     → part_of rs thread (n + 1) ≡ part_of rs thread n
 part_other rs thread n r stands apart =
     part_more rs thread n r stands
-        ∙ ap (λ b. part_of rs thread n ++ cond b (r ∷ []) []) (ne_eqb r.thread thread apart)
-        ∙ append-nil (part_of rs thread n)
+    ∙ ap (λ b. part_of rs thread n ++ cond b (r ∷ []) []) (ne_eqb r.thread thread apart)
+    ∙ append-nil (part_of rs thread n)
 
 -- what holds at the start and is kept by each record of the thread holds of all that it has recorded
 pub part_keeps : (rs : List Record) (thread : ℕ) (P : ℕ → List Record → Type 0) → P 0 []
     → ((n : ℕ) (r : Record) → slice_get rs n ≡ Some r → r.thread ≡ thread → P n (part_of rs thread n)
-          → P (n + 1) (part_of rs thread n ++ r ∷ []))
+    → P (n + 1) (part_of rs thread n ++ r ∷ []))
     → ((n : ℕ) → thread_at rs n ≢ Some thread → P n (part_of rs thread n) → P (n + 1) (part_of rs thread n))
     → (n : ℕ) → P n (part_of rs thread n)
 part_keeps rs thread P start own other zero = start
@@ -108,22 +108,22 @@ part_keeps rs thread P start own other (suc n) =
       | inl (r, within, stands, read) ↦ elim (cases_eq r.thread thread) [
         | inl same ↦
             subst (P (n + 1)) (sym (part_own rs thread n r stands same))
-                (own n r stands same (part_keeps rs thread P start own other n))
+            (own n r stands same (part_keeps rs thread P start own other n))
         | inr apart ↦
             subst (P (n + 1)) (sym (part_other rs thread n r stands apart))
-                (other n
-                    (λ is.
-                        apart
-                            (same_Some r.thread thread
-                                (sym (ap (option_map (λ (q : Record). q.thread)) stands) ∙ is)))
-                    (part_keeps rs thread P start own other n))
+            (other n
+            (λ is.
+            apart
+            (same_Some r.thread thread
+            (sym (ap (option_map (λ (q : Record). q.thread)) stands) ∙ is)))
+            (part_keeps rs thread P start own other n))
       ]
       | inr (past, stands) ↦
           subst (P (n + 1))
-              (ap (filter (λ q. q.thread == thread))
-                  (take_past rs n past ∙ sym (take_past rs (n + 1) (omega arith))))
-              (other n (λ is. none-some thread (sym (ap (option_map (λ (q : Record). q.thread)) stands) ∙ is))
-                  (part_keeps rs thread P start own other n))
+          (ap (filter (λ q. q.thread == thread))
+          (take_past rs n past ∙ sym (take_past rs (n + 1) (omega arith))))
+          (other n (λ is. none-some thread (sym (ap (option_map (λ (q : Record). q.thread)) stands) ∙ is))
+          (part_keeps rs thread P start own other n))
     ])
 
 -- ---- the walk by one record
@@ -162,17 +162,17 @@ after_current walk (TaskSchedule status turns prior next share) task fits is =
   where
     by : (d : Bool) → demands_next status ≡ d → (o : Option ℕ) → is_some o ≡ demands_next status
         → (if demands_next status then (record { roots = walk.roots; current = o }) else walk).current
-            ≡ Some task
+        ≡ Some task
         → Runs walk (TaskSchedule status turns prior o share) task
     by true e o fits' is' =
         is_started
-            (sym (ap (λ d. (if d then (record { roots = walk.roots; current = o }) else walk).current) e)
-                ∙ is')
+        (sym (ap (λ d. (if d then (record { roots = walk.roots; current = o }) else walk).current) e)
+        ∙ is')
     by false e None fits' is' =
         goes_on
-            (sym (ap (λ d. (if d then (record { roots = walk.roots; current = None }) else walk).current) e)
-                ∙ is')
-            refl (ap (λ d. if d then Some prior else None) e)
+        (sym (ap (λ d. (if d then (record { roots = walk.roots; current = None }) else walk).current) e)
+        ∙ is')
+        refl (ap (λ d. if d then Some prior else None) e)
     by false e (Some t) fits' is' = cc
 after_current walk b task fits is = goes_on is refl refl
 
@@ -189,7 +189,7 @@ roots_are rs thread n =
     (λ m r stands same before.
     subst (λ (w : Walk). Every (IsRoot rs) w.roots) (sym (walked at_start (part_of rs thread m) r))
     (after_roots (IsRoot rs) (walk_of thread (take m rs)) r.body
-        (λ task is. (m, ap (option_and_then (λ (q : Record). begun_root q.body)) stands ∙ is)) before))
+    (λ task is. (m, ap (option_and_then (λ (q : Record). begun_root q.body)) stands ∙ is)) before))
     (λ m apart before. before) n
 
 -- the last record before n that changed what the thread runs begins this turn of the task
@@ -209,7 +209,7 @@ last_start rs thread sound once n =
     P : ℕ → List Record → Type 0
     P m l =
         (task : ℕ) → IsExplicit rs task → (fold after_record at_start l).current ≡ Some task
-            → LastStart rs thread m task (turn_in task l)
+        → LastStart rs thread m task (turn_in task l)
 
     -- a record that starts nothing leaves the turn
     kept : (task m : ℕ) (r : Record) → started r.body ≡ None
@@ -217,11 +217,11 @@ last_start rs thread sound once n =
     kept task m r none =
         fold-append (turn_after task) 0 (part_of rs thread m) (r ∷ [])
         ∙ ap
-            (λ (s : Option ℕ).
-                option_map_or (λ (p : ℕ × ℕ). if p.0 == task then p.1 else turn_in task (part_of rs thread m))
-                    (option_map { U = ℕ × ℕ } (λ t. (t, next_turn r.body)) s)
-                    (turn_in task (part_of rs thread m)))
-            none
+        (λ (s : Option ℕ).
+        option_map_or (λ (p : ℕ × ℕ). if p.0 == task then p.1 else turn_in task (part_of rs thread m))
+        (option_map {U = ℕ × ℕ} (λ t. (t, next_turn r.body)) s)
+        (turn_in task (part_of rs thread m)))
+        none
 
     -- one that starts the task begins the turn in which it is
     begun_here : (task m : ℕ) (r : Record) → started r.body ≡ Some task
@@ -229,11 +229,11 @@ last_start rs thread sound once n =
     begun_here task m r starts =
         fold-append (turn_after task) 0 (part_of rs thread m) (r ∷ [])
         ∙ ap
-            (λ (s : Option ℕ).
-                option_map_or (λ (p : ℕ × ℕ). if p.0 == task then p.1 else turn_in task (part_of rs thread m))
-                    (option_map { U = ℕ × ℕ } (λ t. (t, next_turn r.body)) s)
-                    (turn_in task (part_of rs thread m)))
-            starts
+        (λ (s : Option ℕ).
+        option_map_or (λ (p : ℕ × ℕ). if p.0 == task then p.1 else turn_in task (part_of rs thread m))
+        (option_map {U = ℕ × ℕ} (λ t. (t, next_turn r.body)) s)
+        (turn_in task (part_of rs thread m)))
+        starts
         ∙ ap (λ b. cond b (next_turn r.body) (turn_in task (part_of rs thread m))) (eq-eqb task task refl)
 
     on_thread : (m : ℕ) (r : Record) → slice_get rs m ≡ Some r → r.thread ≡ thread
@@ -258,12 +258,12 @@ last_start rs thread sound once n =
         → LastStart rs thread (m + 1) task (turn_in task (part_of rs thread m ++ r ∷ []))
     step m r stands same before task explicit (root_begins is) =
         absurd
-            (explicit_not_root rs task once explicit
-                (m, ap (option_and_then (λ (q : Record). begun_root q.body)) stands ∙ is))
+        (explicit_not_root rs task once explicit
+        (m, ap (option_and_then (λ (q : Record). begun_root q.body)) stands ∙ is))
     step m r stands same before task explicit (uncovered is) =
         absurd
-            (explicit_not_root rs task once explicit
-                (every_get (IsRoot rs) (walk_of thread (take m rs)).roots 1 task (roots_are rs thread m) is))
+        (explicit_not_root rs task once explicit
+        (every_get (IsRoot rs) (walk_of thread (take m rs)).roots 1 task (roots_are rs thread m) is))
     step m r stands same before task explicit (is_started is) = record {
       place = m;
       earlier = omega arith;
@@ -277,21 +277,21 @@ last_start rs thread sound once n =
     step m r stands same before task explicit (goes_on is none silent) =
         subst (LastStart rs thread (m + 1) task) (sym (kept task m r none))
         (later m task (turn_in task (part_of rs thread m)) (before task explicit is)
-            (λ at_thread. ap (option_and_then (λ (q : Record). stopped q.body)) stands ∙ silent))
+        (λ at_thread. ap (option_and_then (λ (q : Record). stopped q.body)) stands ∙ silent))
 
     own : (m : ℕ) (r : Record) → slice_get rs m ≡ Some r → r.thread ≡ thread → P m (part_of rs thread m)
         → P (m + 1) (part_of rs thread m ++ r ∷ [])
     own m r stands same before task explicit is =
         let fits : IsSound r.body = all_get (λ (q : Record). IsSound q.body) rs m r sound stands in
         step m r stands same before task explicit
-            (after_current (walk_of thread (take m rs)) r.body task fits.next
-                (sym (ap (λ (w : Walk). w.current) (walked at_start (part_of rs thread m) r)) ∙ is))
+        (after_current (walk_of thread (take m rs)) r.body task fits.next
+        (sym (ap (λ (w : Walk). w.current) (walked at_start (part_of rs thread m) r)) ∙ is))
 
     other : (m : ℕ) → thread_at rs m ≢ Some thread → P m (part_of rs thread m)
         → P (m + 1) (part_of rs thread m)
     other m apart before task explicit is =
         later m task (turn_in task (part_of rs thread m)) (before task explicit is)
-            (λ at_thread. absurd (apart at_thread))
+        (λ at_thread. absurd (apart at_thread))
 
 -- ---- suspensions
 
@@ -344,24 +344,24 @@ suspension rs trace once current gap task turn i explicit suspends = by (slice_g
     by None stands is = absurd (none-some (task, turn) is)
     by (Some r) stands is =
         let fits : IsSound r.body =
-            all_get (λ (q : Record). IsSound q.body) rs i r trace.is_trace.sound stands in
+        all_get (λ (q : Record). IsSound q.body) rs i r trace.is_trace.sound stands in
         let turned : HasItsTurns 2 r.body =
-            all_get (λ (q : Record). HasItsTurns 2 q.body) rs i r trace.turns stands in
+        all_get (λ (q : Record). HasItsTurns 2 q.body) rs i r trace.turns stands in
         let parts = suspended_parts r.body task turn fits.next turned is in
         let same : turn_in task (part_of rs r.thread i) ≡ turn =
         sym (turn_here rs i task r stands parts.runs)
         ∙ sym
-            (told_right rs i parts.told gap
-                (ap (option_and_then (λ (q : Record). told_turns q.body)) stands ∙ parts.tells))
-            ∙ parts.turn_told in
+        (told_right rs i parts.told gap
+        (ap (option_and_then (λ (q : Record). told_turns q.body)) stands ∙ parts.tells))
+        ∙ parts.turn_told in
         record {
           thread = r.thread;
           on = ap (option_map (λ (q : Record). q.thread)) stands;
           stops = ap (option_and_then (λ (q : Record). stopped q.body)) stands ∙ parts.stops;
           last =
               subst (LastStart rs r.thread i task) same
-                  (last_start rs r.thread trace.is_trace.sound once i task explicit
-                      (runs_there rs i task r current stands parts.runs));
+              (last_start rs r.thread trace.is_trace.sound once i task explicit
+              (runs_there rs i task r current stands parts.runs));
         }
 
 -- in version 2 each record that begins a turn tells it
@@ -376,7 +376,7 @@ begun_told rs i task turn trace begins untold =
     by None stands starts none = none-some task starts
     by (Some r) stands starts none =
         let turned : is_some (told_turns r.body) ≡ is_some (started r.body) =
-            all_get (λ (q : Record). HasItsTurns 2 q.body) rs i r trace.turns stands in
+        all_get (λ (q : Record). HasItsTurns 2 q.body) rs i r trace.turns stands in
         true≢false (sym (turned ∙ ap is_some starts) ∙ ap is_some none)
 
 -- no two records begin the same turn
@@ -386,10 +386,10 @@ begun_once rs trace gap task turn a b one other = elim (cases_order a b) [
   | inl same ↦ same
   | inr (inl less) ↦
       absurd
-          (gap b (turn_gap (begun_again task turn a (begun_told rs b task turn trace other, other) less one)))
+      (gap b (turn_gap (begun_again task turn a (begun_told rs b task turn trace other, other) less one)))
   | inr (inr more) ↦
       absurd
-          (gap a (turn_gap (begun_again task turn b (begun_told rs a task turn trace one, one) more other)))
+      (gap a (turn_gap (begun_again task turn b (begun_told rs a task turn trace one, one) more other)))
 ]
 
 -- a thread that suspends a task runs it only after another start of it
@@ -397,10 +397,10 @@ not_again : (rs : List Record) → IsTraceOf 2 rs → IsFreeOf rs TurnGap → (t
     → Suspension rs a task turn → Suspension rs b task turn → a < b → ⊥
 not_again rs trace gap task turn a b one other less =
     let same : one.last.place ≡ other.last.place =
-        begun_once rs trace gap task turn one.last.place other.last.place one.last.begins_turn
-            other.last.begins_turn in
+    begun_once rs trace gap task turn one.last.place other.last.place one.last.begins_turn
+    other.last.begins_turn in
     let threads : Some one.thread ≡ Some other.thread =
-        sym one.last.on ∙ ap (thread_at rs) same ∙ other.last.on in
+    sym one.last.on ∙ ap (thread_at rs) same ∙ other.last.on in
     let before : one.last.place < a = one.last.earlier in
     none-some task (sym (other.last.quiet a (omega arith) less (one.on ∙ threads)) ∙ one.stops)
 
@@ -422,11 +422,11 @@ pub awaited_once : (rs : List Record) → IsTraceOf 2 rs → IsFreeOf rs Created
     → IsResumption rs a i → IsResumption rs b i → a ≡ b
 awaited_once rs trace once current gap task a b i explicit starts one other =
     let mine : one.task ≡ task =
-        same_Some one.task task (sym (begun_started rs i one.task (one.turn + 1) one.resumes) ∙ starts) in
+    same_Some one.task task (sym (begun_started rs i one.task (one.turn + 1) one.resumes) ∙ starts) in
     let parts =
-        some_pair_parts one.task other.task (one.turn + 1) (other.turn + 1)
-            (sym one.resumes ∙ other.resumes) in
+    some_pair_parts one.task other.task (one.turn + 1) (other.turn + 1)
+    (sym one.resumes ∙ other.resumes) in
     let same : one.turn ≡ other.turn = omega (arith, parts.1) in
     suspended_once rs trace once current gap one.task one.turn a b (subst (IsExplicit rs) (sym mine) explicit)
-        one.suspends
+    one.suspends
     (other.suspends ∙ ap (λ t. Some (t, other.turn)) (sym parts.0) ∙ ap (λ t. Some (one.task, t)) (sym same))

@@ -70,7 +70,7 @@ both (there, back) (on, home) = (λ a. on (there a), λ c. back (home c))
 
 pub parent_found : (rs : List Record) (tree : TreeView) (task : ℕ) (found : Option ℕ) → IsTreeOf rs tree
     → ((records : List Record) → IsFamilyOf records (own_family tree.families) → (parent : ℕ)
-          → (found ≡ Some parent) ↔ IsParent records parent task)
+    → (found ≡ Some parent) ↔ IsParent records parent task)
     → (parent : ℕ) → (found ≡ Some parent) ↔ IsParent (in_own_order rs) parent task
 parent_found rs tree task found are known parent =
     let reading = reading_of rs tree.families are.families in
@@ -78,7 +78,7 @@ parent_found rs tree task found are known parent =
 
 pub number_found : (rs : List Record) (tree : TreeView) (task : ℕ) (found : Option ℕ) → IsTreeOf rs tree
     → ((records : List Record) → IsFamilyOf records (own_family tree.families) → (number : ℕ)
-          → (found ≡ Some number) ↔ ((parent : ℕ) × IsChild records parent number task))
+    → (found ≡ Some number) ↔ ((parent : ℕ) × IsChild records parent number task))
     → (number : ℕ) → (found ≡ Some number) ↔ ((parent : ℕ) × IsChild (in_own_order rs) parent number task)
 number_found rs tree task found are known number =
     let reading = reading_of rs tree.families are.families in
@@ -89,7 +89,7 @@ number_found rs tree task found are known number =
 
 pub root_found : (rs : List Record) (tree : TreeView) (task : ℕ) (found : Option ℕ) → IsTreeOf rs tree
     → ((records : List Record) → IsFamilyOf records (own_family tree.families) → (root : ℕ)
-          → (found ≡ Some root) ↔ ((path : List ℕ) × HasPath records root task path))
+    → (found ≡ Some root) ↔ ((path : List ℕ) × HasPath records root task path))
     → (root : ℕ) → (found ≡ Some root) ↔ ((path : List ℕ) × HasPath (in_own_order rs) root task path)
 root_found rs tree task found are known root =
     let reading = reading_of rs tree.families are.families in
@@ -100,7 +100,7 @@ root_found rs tree task found are known root =
 
 pub children_found : (rs : List Record) (tree : TreeView) (task : ℕ) (found : List ℕ) → IsTreeOf rs tree
     → ((records : List Record) → IsFamilyOf records (own_family tree.families)
-          → found ≡ children records task)
+    → found ≡ children records task)
     → found ≡ children (in_own_order rs) task
 children_found rs tree task found are known =
     let reading = reading_of rs tree.families are.families in
@@ -113,7 +113,7 @@ paths_alike rs ss tasks paths same are = record {
   all = are.all;
   each =
       λ index task root path is stands.
-          are.each index task root path is ((same.paths root task path).1 stands);
+      are.each index task root path is ((same.paths root task path).1 stands);
 }
 
 pub turned : {rs ss : List Record} → HaveOneTree rs ss → HaveOneTree ss rs
@@ -126,16 +126,16 @@ turned same = record {
 -- a path, and a task that stands at none
 pub path_found : (rs : List Record) (tree : TreeView) (task : ℕ) (found : Option (List ℕ)) → IsTreeOf rs tree
     → ((records : List Record) → IsFamilyOf records (own_family tree.families)
-          → ArePaths records (own_family tree.families).tasks tree.paths → (path : List ℕ)
-          → (found ≡ Some path) ↔ ((root : ℕ) × HasPath records root task path))
+    → ArePaths records (own_family tree.families).tasks tree.paths → (path : List ℕ)
+    → (found ≡ Some path) ↔ ((root : ℕ) × HasPath records root task path))
     → (path : List ℕ) → (found ≡ Some path) ↔ ((root : ℕ) × HasPath (in_own_order rs) root task path)
 path_found rs tree task found are known path =
     let reading = reading_of rs tree.families are.families in
     both
-        (known reading.records reading.family
-            (paths_alike (in_own_order rs) reading.records (own_family tree.families).tasks tree.paths
-                (turned reading.same) are.paths)
-            path) (
+    (known reading.records reading.family
+    (paths_alike (in_own_order rs) reading.records (own_family tree.families).tasks tree.paths
+    (turned reading.same) are.paths)
+    path) (
       λ (root, is). (root, (reading.same.paths root task path).0 is),
       λ (root, is). (root, (reading.same.paths root task path).1 is),
     )

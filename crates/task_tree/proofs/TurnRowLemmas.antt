@@ -22,7 +22,7 @@ slots_apart : (offsets : List ℕ) (a b s t slot : ℕ) → AreRising offsets �
 slots_apart offsets a b s t slot rising one other = elim (cases_order a b) [
   | inl same ↦
       let first_is =
-          same_Some one.first other.first (sym one.begins ∙ ap (slice_get offsets) same ∙ other.begins) in
+      same_Some one.first other.first (sym one.begins ∙ ap (slice_get offsets) same ∙ other.begins) in
       let at_one = one.is in
       let at_other = other.is in
       (same, omega (arith, first_is, at_one, at_other))
@@ -34,14 +34,14 @@ slots_apart offsets a b s t slot rising one other = elim (cases_order a b) [
     behind c d u v less before after = elim (cases_eq (c + 1) d) [
       | inl same ↦
           let end_is =
-              same_Some before.end after.first
-                  (sym before.ends ∙ ap (slice_get offsets) same ∙ after.begins) in
+          same_Some before.end after.first
+          (sym before.ends ∙ ap (slice_get offsets) same ∙ after.begins) in
           let low = before.inside in
           let high = after.is in
           absurd (omega (arith, end_is, low, high))
       | inr apart ↦
           let ordered =
-              rising (c + 1) d before.end after.first (omega (arith, less, apart)) before.ends after.begins in
+          rising (c + 1) d before.end after.first (omega (arith, less, apart)) before.ends after.begins in
           let low = before.inside in
           let high = after.is in
           absurd (omega (arith, ordered, low, high))
@@ -89,14 +89,14 @@ pub offsets_rise : (offsets : List ℕ) (end new : ℕ) → AreRising offsets
     → AreRising (offsets ++ new ∷ [])
 offsets_rise offsets end new rising low up a b first second less one other =
     elim (pushed_cases offsets new b second other) [
-  | inr (last, same) ↦
-      let under = offsets_last offsets end new a first low up one in omega (arith, under, same)
-  | inl after ↦ elim (pushed_cases offsets new a first one) [
-    | inl before ↦ rising a b first second less before after
-    | inr (last, same) ↦
-        let within = slice_get_within offsets b second after in absurd (omega (arith, within, last, less))
-  ]
-]
+      | inr (last, same) ↦
+          let under = offsets_last offsets end new a first low up one in omega (arith, under, same)
+      | inl after ↦ elim (pushed_cases offsets new a first one) [
+        | inl before ↦ rising a b first second less before after
+        | inr (last, same) ↦
+            let within = slice_get_within offsets b second after in absurd (omega (arith, within, last, less))
+      ]
+    ]
 
 -- ---- the marks
 
@@ -107,14 +107,15 @@ pub marked_more : (rs : List Record) (i index task turn slot : ℕ) (tasks offse
 marked_more rs i index task turn slot tasks offsets begun apart rising within are here indexed is = record {
   marked = λ k other another later below begins other_is. elim (cases_eq k i) [
     | inl same ↦
-        let pair : ◌≡◌ { A = ℕ × ℕ } (task, turn) (another, later) =
-            same_Some (task, turn) (another, later) (sym here ∙ ap (at begun_turn rs) (sym same) ∙ begins) in
+        let pair : ◌≡◌ {A = ℕ × ℕ} (task, turn) (another, later) =
+        same_Some (task, turn) (another, later) (sym here ∙ ap (at begun_turn rs) (sym same) ∙ begins) in
         let index_is : index ≡ other =
-            apart index other task indexed (other_is ∙ ap Some (sym (ap (λ (p : ℕ × ℕ). p.0) pair))) in
-        (slot,
-            subst (λ n. IsSlot offsets n later slot) index_is
-                (subst (λ t. IsSlot offsets index t slot) (ap (λ (p : ℕ × ℕ). p.1) pair) is),
-            get_set_same begun slot true within)
+        apart index other task indexed (other_is ∙ ap Some (sym (ap (λ (p : ℕ × ℕ). p.0) pair))) in (
+          slot,
+          subst (λ n. IsSlot offsets n later slot) index_is
+              (subst (λ t. IsSlot offsets index t slot) (ap (λ (p : ℕ × ℕ). p.1) pair) is),
+          get_set_same begun slot true within,
+        )
     | inr differ ↦
         let old = are.marked k other another later (omega (arith, below, differ)) begins other_is in (
           old.0,
@@ -128,14 +129,14 @@ marked_more rs i index task turn slot tasks offsets begun apart rising within ar
   begins = λ other another later spot spot_is other_is holds. elim (cases_eq spot slot) [
     | inl same ↦
         let alike =
-            slots_apart offsets index other turn later slot rising is
-                (subst (IsSlot offsets other later) same spot_is) in
+        slots_apart offsets index other turn later slot rising is
+        (subst (IsSlot offsets other later) same spot_is) in
         let task_is : task ≡ another =
-            same_Some task another (sym indexed ∙ ap (slice_get tasks) alike.0 ∙ other_is) in
+        same_Some task another (sym indexed ∙ ap (slice_get tasks) alike.0 ∙ other_is) in
         (i, here ∙ ap (λ (t : ℕ). Some (t, turn)) task_is ∙ ap (λ (t : ℕ). Some (another, t)) alike.1)
     | inr differ ↦
         are.begins other another later spot spot_is other_is
-            (sym (get_set_other begun slot spot true differ) ∙ holds)
+        (sym (get_set_other begun slot spot true differ) ∙ holds)
   ];
 }
 
@@ -146,8 +147,8 @@ pub anew_here : (rs : List Record) (i index task turn slot : ℕ) (tasks offsets
     → BeginsAnew rs i
 anew_here rs i index task turn slot tasks offsets begun are here indexed is empty k other later below there
     before =
-    let pair : ◌≡◌ { A = ℕ × ℕ } (other, later) (task, turn) =
-        same_Some (other, later) (task, turn) (sym there ∙ here) in
+    let pair : ◌≡◌ {A = ℕ × ℕ} (other, later) (task, turn) =
+    same_Some (other, later) (task, turn) (sym there ∙ here) in
     let old = are.marked k index task turn below (before ∙ ap (λ (p : ℕ × ℕ). Some p) pair) indexed in
     let same = slot_once offsets index turn old.0 slot old.1 is in
     true≢false (same_Some true false (sym old.2 ∙ ap (slice_get begun) same ∙ empty))

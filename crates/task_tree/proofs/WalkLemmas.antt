@@ -40,16 +40,16 @@ skipped rs thread n zero m is within none = ap (part_of rs thread) (omega (arith
 skipped rs thread n (suc d) m is within none =
     let last : m ≡ n + d + 1 = omega (arith, is) in
     ap (part_of rs thread) last ∙ one
-        ∙ skipped rs thread n d (n + d) refl (omega (arith, within, last))
-            (λ k low below. none k low (omega (arith, below, last)))
+    ∙ skipped rs thread n d (n + d) refl (omega (arith, within, last))
+    (λ k low below. none k low (omega (arith, below, last)))
   where
     one : part_of rs thread (n + d + 1) ≡ part_of rs thread (n + d)
     one = elim (slice_get_cases rs (n + d)).1 [
       | inl (r, inside, stands, read) ↦
           part_other rs thread (n + d) r stands
-              (λ same.
-                  none (n + d) (omega arith) (omega (arith, is))
-                      (ap (option_map (λ (q : Record). q.thread)) stands ∙ ap Some same))
+          (λ same.
+          none (n + d) (omega arith) (omega (arith, is))
+          (ap (option_map (λ (q : Record). q.thread)) stands ∙ ap Some same))
       | inr (past, stands) ↦ absurd (omega (arith, past, is, within))
     ]
 
@@ -60,8 +60,8 @@ marks_skip rs tasks thread n place marks first are = record {
   here = λ index task mark stands is.
       let low = first.behind in
       are.here index task mark stands is
-          ∙ ap (turn_in task)
-              (sym (skipped rs thread n (place - n) place (omega (arith, low)) first.within first.none));
+      ∙ ap (turn_in task)
+      (sym (skipped rs thread n (place - n) place (omega (arith, low)) first.within first.none));
   later = are.later;
 }
 
@@ -80,10 +80,10 @@ marks_keep rs tasks i r marks within read none are = record {
   all = are.all;
   here =
       λ index task mark stands is.
-          are.here index task mark stands is
-              ∙ sym
-                  (silent rs i task r.thread r within read
-                      (λ next begins. none-some (task, next) (sym none ∙ begins)));
+      are.here index task mark stands is
+      ∙ sym
+      (silent rs i task r.thread r within read
+      (λ next begins. none-some (task, next) (sym none ∙ begins)));
   later = are.later;
 }
 
@@ -96,29 +96,29 @@ marks_put rs tasks i index task next r marks within read apart begins stands are
   here = λ other another mark other_stands is. elim (cases_eq other index) [
     | inl same ↦
         let same_task : task ≡ another =
-            same_Some task another (sym stands ∙ ap (slice_get tasks) (sym same) ∙ other_stands) in
+        same_Some task another (sym stands ∙ ap (slice_get tasks) (sym same) ∙ other_stands) in
         ap (λ m. turn_on m r.thread) (sym (new_is other mark same is)) ∙ on_same next r.thread
         ∙ sym
-            (ap (λ t. turn_in t (part_of rs r.thread (i + 1))) (sym same_task)
-                ∙ ap (turn_in task) (part_own rs r.thread i r (read_get rs i r within read) refl)
-                ∙ fold_push (turn_after task) 0 (part_of rs r.thread i) r
-                ∙ after_own task (turn_in task (part_of rs r.thread i)) next r begins_here)
+        (ap (λ t. turn_in t (part_of rs r.thread (i + 1))) (sym same_task)
+        ∙ ap (turn_in task) (part_own rs r.thread i r (read_get rs i r within read) refl)
+        ∙ fold_push (turn_after task) 0 (part_of rs r.thread i) r
+        ∙ after_own task (turn_in task (part_of rs r.thread i)) next r begins_here)
     | inr differ ↦
         are.here other another mark other_stands (sym (get_set_other marks index other new differ) ∙ is)
         ∙ sym
-            (silent rs i another r.thread r within read
-                (λ turn begun.
-                    differ
-                        (apart other index another other_stands
-                            (stands
-                                ∙ ap (λ (p : ℕ × ℕ). Some p.0)
-                                    (same_Some { A = ℕ × ℕ } (task, next) (another, turn)
-                                        (sym begins ∙ begun))))))
+        (silent rs i another r.thread r within read
+        (λ turn begun.
+        differ
+        (apart other index another other_stands
+        (stands
+        ∙ ap (λ (p : ℕ × ℕ). Some p.0)
+        (same_Some {A = ℕ × ℕ} (task, next) (another, turn)
+        (sym begins ∙ begun))))))
   ];
   later = λ other thread mark is below. elim (cases_eq other index) [
     | inl same ↦
         ap (λ m. turn_on m thread) (sym (new_is other mark same is))
-            ∙ on_other next r.thread thread (λ e. absurd (omega (arith, e, below)))
+        ∙ on_other next r.thread thread (λ e. absurd (omega (arith, e, below)))
     | inr differ ↦ are.later other thread mark (sym (get_set_other marks index other new differ) ∙ is) below
   ];
 }
@@ -134,7 +134,7 @@ marks_put rs tasks i index task next r marks within read apart begins stands are
         → new ≡ mark
     new_is other mark same is =
         same_Some new mark
-            (sym (get_set_same marks index new inside) ∙ ap (slice_get (set marks index new)) (sym same) ∙ is)
+        (sym (get_set_same marks index new inside) ∙ ap (slice_get (set marks index new)) (sym same) ∙ is)
 
     begins_here : begun_turn r.body ≡ Some (task, next)
     begins_here =
@@ -178,10 +178,10 @@ walk_skip rs tasks thread n place walk first is = record {
   all = is.all;
   turns =
       λ i own by_thread passed.
-          is.turns i own by_thread (passed_skip rs thread n place own i first by_thread passed);
+      is.turns i own by_thread (passed_skip rs thread n place own i first by_thread passed);
   order =
       λ ordered i own by_thread passed.
-          is.order ordered i own by_thread (passed_skip rs thread n place own i first by_thread passed);
+      is.order ordered i own by_thread (passed_skip rs thread n place own i first by_thread passed);
 }
 
 -- the thread is gone over
@@ -213,19 +213,19 @@ passed_one rs thread n own i (inr (same, below)) = elim (cases_eq i n) [
 turns_put : (rs : List Record) (i turn : ℕ) (r : Record) (turns : List ℕ) → i < length rs
     → length turns ≡ length rs → turn ≡ turn_at rs i
     → ((k own : ℕ) → thread_at rs k ≡ Some own → IsPassed r.thread i own k
-          → slice_get turns k ≡ Some (turn_at rs k))
+    → slice_get turns k ≡ Some (turn_at rs k))
     → (k own : ℕ) → thread_at rs k ≡ Some own → IsPassed r.thread (i + 1) own k
     → slice_get (set turns i turn) k ≡ Some (turn_at rs k)
 turns_put rs i turn r turns within long is old k own by_thread passed = elim (cases_eq k i) [
   | inl same ↦
       ap (slice_get (set turns i turn)) same ∙ get_set_same turns i turn (omega (arith, within, long))
-          ∙ ap Some is ∙ ap (λ n. Some (turn_at rs n)) (sym same)
+      ∙ ap Some is ∙ ap (λ n. Some (turn_at rs n)) (sym same)
   | inr apart ↦
       get_set_other turns i k turn apart
-          ∙ old k own by_thread ( elim (passed_one rs r.thread i own k passed) [
-    | inl before ↦ before
-    | inr (thread_is, same) ↦ absurd (apart same)
-  ])
+      ∙ old k own by_thread (elim (passed_one rs r.thread i own k passed) [
+        | inl before ↦ before
+        | inr (thread_is, same) ↦ absurd (apart same)
+      ])
 ]
 
 -- a record that begins no turn
@@ -236,18 +236,18 @@ pub walk_keep : (rs : List Record) (tasks : List ℕ) (i turn : ℕ) (r : Record
 walk_keep rs tasks i turn r old new within read before is none turns marks order = record {
   marks =
       subst (AreMarks rs tasks r.thread (i + 1)) (sym marks)
-          (marks_keep rs tasks i r old.marks.items within read none before.marks);
+      (marks_keep rs tasks i r old.marks.items within read none before.marks);
   all = ap length turns ∙ length-set old.turns.items i turn ∙ before.all;
   turns =
       λ k own by_thread passed.
-          ap (λ l. slice_get l k) turns
-              ∙ turns_put rs i turn r old.turns.items within before.all is before.turns k own by_thread
-                  passed;
+      ap (λ l. slice_get l k) turns
+      ∙ turns_put rs i turn r old.turns.items within before.all is before.turns k own by_thread
+      passed;
   order = λ ordered k own by_thread passed. elim (passed_one rs r.thread i own k passed) [
     | inl earlier ↦ before.order (sym order ∙ ordered) k own by_thread earlier
     | inr (thread_is, same) ↦
         λ task next begins.
-            absurd (none-some (task, next) (sym none ∙ ap (at begun_turn rs) (sym same) ∙ begins))
+        absurd (none-some (task, next) (sym none ∙ ap (at begun_turn rs) (sym same) ∙ begins))
   ];
 }
 
@@ -261,33 +261,33 @@ pub walk_put : (rs : List Record) (tasks : List ℕ) (i turn index task next : �
     → (new.in_order ≡ true → (old.in_order ≡ true) × (turn_on mark r.thread ≤ next))
     → IsWalkAt rs tasks r.thread (i + 1) new
 walk_put rs tasks i turn index task next r mark old new within read before is apart begins indexed marked
-        turns marks order =
+    turns marks order =
     record {
-  marks =
-      subst (AreMarks rs tasks r.thread (i + 1)) (sym marks)
+      marks =
+          subst (AreMarks rs tasks r.thread (i + 1)) (sym marks)
           (marks_put rs tasks i index task next r old.marks.items within read apart begins indexed
-              before.marks);
-  all = ap length turns ∙ length-set old.turns.items i turn ∙ before.all;
-  turns =
-      λ k own by_thread passed.
+          before.marks);
+      all = ap length turns ∙ length-set old.turns.items i turn ∙ before.all;
+      turns =
+          λ k own by_thread passed.
           ap (λ l. slice_get l k) turns
-              ∙ turns_put rs i turn r old.turns.items within before.all is before.turns k own by_thread
-                  passed;
-  order = λ ordered k own by_thread passed. elim (passed_one rs r.thread i own k passed) [
-    | inl earlier ↦ before.order (order ordered).0 k own by_thread earlier
-    | inr (thread_is, same) ↦ λ other later begun.
-        let e : ◌≡◌ { A = ℕ × ℕ } (task, next) (other, later) =
+          ∙ turns_put rs i turn r old.turns.items within before.all is before.turns k own by_thread
+          passed;
+      order = λ ordered k own by_thread passed. elim (passed_one rs r.thread i own k passed) [
+        | inl earlier ↦ before.order (order ordered).0 k own by_thread earlier
+        | inr (thread_is, same) ↦ λ other later begun.
+            let e : ◌≡◌ {A = ℕ × ℕ} (task, next) (other, later) =
             same_Some (task, next) (other, later) (sym begins ∙ ap (at begun_turn rs) (sym same) ∙ begun) in
-        let low = (order ordered).1 in
-        let last = before.marks.here index task mark indexed marked in
-        let there : turn_in other (part_of rs own k) ≡ turn_in task (part_of rs r.thread i) =
+            let low = (order ordered).1 in
+            let last = before.marks.here index task mark indexed marked in
+            let there : turn_in other (part_of rs own k) ≡ turn_in task (part_of rs r.thread i) =
             ap (λ t. turn_in t (part_of rs own k)) (ap (λ (p : ℕ × ℕ). p.0) (sym e))
-                ∙ ap (λ t. turn_in task (part_of rs t k)) thread_is
-                ∙ ap (λ n. turn_in task (part_of rs r.thread n)) same in
-        let turn_is = ap (λ (p : ℕ × ℕ). p.1) e in
-        omega (arith, low, last, there, turn_is)
-  ];
-}
+            ∙ ap (λ t. turn_in task (part_of rs t k)) thread_is
+            ∙ ap (λ n. turn_in task (part_of rs r.thread n)) same in
+            let turn_is = ap (λ (p : ℕ × ℕ). p.1) e in
+            omega (arith, low, last, there, turn_is)
+      ];
+    }
 
 -- ---- all threads
 
@@ -308,13 +308,13 @@ walked_turns rs tasks walk narrow is =
     each i below =
         let within : i < length rs = (let long = is.all in omega (arith, below, long)) in
         elim (slice_get_cases rs i).1 [
-      | inl (r, inside, stands, read) ↦
-          let by_thread : thread_at rs i ≡ Some r.thread =
+          | inl (r, inside, stands, read) ↦
+              let by_thread : thread_at rs i ≡ Some r.thread =
               ap (option_map (λ (q : Record). q.thread)) stands in
-          is.turns i r.thread by_thread (passed_all i r.thread (narrow i r.thread by_thread))
+              is.turns i r.thread by_thread (passed_all i r.thread (narrow i r.thread by_thread))
               ∙ sym (map_range (turn_at rs) (length rs) i within)
-      | inr (past, stands) ↦ absurd (omega (arith, past, within))
-    ]
+          | inr (past, stands) ↦ absurd (omega (arith, past, within))
+        ]
 
 -- the greatest turn that began is the last one
 last_bound : (rs : List Record) (thread task : ℕ)
@@ -324,37 +324,37 @@ last_bound : (rs : List Record) (thread task : ℕ)
 last_bound rs thread task order zero within k later below by_thread begins = absurd (omega arith)
 last_bound rs thread task order (suc n) within k later below by_thread begins =
     elim (slice_get_cases rs n).1 [
-  | inl (r, inside, stands, read) ↦ elim (cases_eq r.thread thread) [
-    | inl same ↦
-        let grows : turn_in task (part_of rs thread (suc n))
-                ≡ turn_after task (turn_in task (part_of rs thread n)) r =
+      | inl (r, inside, stands, read) ↦ elim (cases_eq r.thread thread) [
+        | inl same ↦
+            let grows : turn_in task (part_of rs thread (suc n))
+            ≡ turn_after task (turn_in task (part_of rs thread n)) r =
             ap (λ m. turn_in task (part_of rs thread m)) next
-                ∙ ap (turn_in task) (part_own rs thread n r stands same)
-                ∙ fold_push (turn_after task) 0 (part_of rs thread n) r in
-        let low =
+            ∙ ap (turn_in task) (part_own rs thread n r stands same)
+            ∙ fold_push (turn_after task) 0 (part_of rs thread n) r in
+            let low =
             by r stands same
-                (λ differ.
-                    last_bound rs thread task order n (omega (arith, within)) k later
-                        (omega (arith, below, differ)) by_thread begins)
-                (begun_turn r.body) refl in
-        omega (arith, grows, low)
-    | inr apart ↦
-        let alike : turn_in task (part_of rs thread (suc n)) ≡ turn_in task (part_of rs thread n) =
+            (λ differ.
+            last_bound rs thread task order n (omega (arith, within)) k later
+            (omega (arith, below, differ)) by_thread begins)
+            (begun_turn r.body) refl in
+            omega (arith, grows, low)
+        | inr apart ↦
+            let alike : turn_in task (part_of rs thread (suc n)) ≡ turn_in task (part_of rs thread n) =
             ap (λ m. turn_in task (part_of rs thread m)) next
-                ∙ ap (turn_in task) (part_other rs thread n r stands apart) in
-        let differ : k ≢ n =
+            ∙ ap (turn_in task) (part_other rs thread n r stands apart) in
+            let differ : k ≢ n =
             λ e.
-                apart
-                    (same_Some r.thread thread
-                        (sym (ap (option_map (λ (q : Record). q.thread)) stands) ∙ ap (thread_at rs) (sym e)
-                            ∙ by_thread)) in
-        let low =
+            apart
+            (same_Some r.thread thread
+            (sym (ap (option_map (λ (q : Record). q.thread)) stands) ∙ ap (thread_at rs) (sym e)
+            ∙ by_thread)) in
+            let low =
             last_bound rs thread task order n (omega (arith, within)) k later (omega (arith, below, differ))
-                by_thread begins in
-        omega (arith, alike, low)
-  ]
-  | inr (past, stands) ↦ absurd (omega (arith, past, within))
-]
+            by_thread begins in
+            omega (arith, alike, low)
+      ]
+      | inr (past, stands) ↦ absurd (omega (arith, past, within))
+    ]
   where
     next : suc n ≡ n + 1
     next = omega arith
@@ -364,48 +364,48 @@ last_bound rs thread task order (suc n) within k later below by_thread begins =
         → later ≤ turn_after task (turn_in task (part_of rs thread n)) r
     by r stands same earlier None is =
         let kept =
-            after_other task (turn_in task (part_of rs thread n)) r
-                (λ turn begun. none-some (task, turn) (sym is ∙ begun)) in
+        after_other task (turn_in task (part_of rs thread n)) r
+        (λ turn begun. none-some (task, turn) (sym is ∙ begun)) in
         let low =
-            earlier
-                (λ e.
-                    none-some (task, later)
-                        (sym is ∙ sym (ap (option_and_then (λ (q : Record). begun_turn q.body)) stands)
-                            ∙ ap (at begun_turn rs) (sym e) ∙ begins)) in
+        earlier
+        (λ e.
+        none-some (task, later)
+        (sym is ∙ sym (ap (option_and_then (λ (q : Record). begun_turn q.body)) stands)
+        ∙ ap (at begun_turn rs) (sym e) ∙ begins)) in
         omega (arith, kept, low)
     by r stands same earlier (Some b) is = elim (cases_eq b.0 task) [
       | inl own ↦
           let here : begun_turn r.body ≡ Some (task, b.1) = is ∙ ap (λ (t : ℕ). Some (t, b.1)) own in
           let there : at begun_turn rs n ≡ Some (task, b.1) =
-              ap (option_and_then (λ (q : Record). begun_turn q.body)) stands ∙ here in
+          ap (option_and_then (λ (q : Record). begun_turn q.body)) stands ∙ here in
           let now = after_own task (turn_in task (part_of rs thread n)) b.1 r here in
           let up =
-              order n (ap (option_map (λ (q : Record). q.thread)) stands ∙ ap Some same) task b.1 there in
+          order n (ap (option_map (λ (q : Record). q.thread)) stands ∙ ap Some same) task b.1 there in
           elim (cases_eq k n) [
             | inl e ↦
                 let turn_is : later ≡ b.1 =
-                    ap (λ (p : ℕ × ℕ). p.1)
-                        (same_Some { A = ℕ × ℕ } (task, later) (task, b.1)
-                            (sym begins ∙ ap (at begun_turn rs) e ∙ there)) in
+                ap (λ (p : ℕ × ℕ). p.1)
+                (same_Some {A = ℕ × ℕ} (task, later) (task, b.1)
+                (sym begins ∙ ap (at begun_turn rs) e ∙ there)) in
                 omega (arith, now, turn_is)
             | inr differ ↦ let low = earlier differ in omega (arith, now, up, low)
           ]
       | inr apart ↦
           let kept =
-              after_other task (turn_in task (part_of rs thread n)) r
-                  (λ turn begun.
-                      apart
-                          (ap (λ (p : ℕ × ℕ). p.0)
-                              (same_Some { A = ℕ × ℕ } b (task, turn) (sym is ∙ begun)))) in
+          after_other task (turn_in task (part_of rs thread n)) r
+          (λ turn begun.
+          apart
+          (ap (λ (p : ℕ × ℕ). p.0)
+          (same_Some {A = ℕ × ℕ} b (task, turn) (sym is ∙ begun)))) in
           let low =
-              earlier
-                  (λ e.
-                      apart
-                          (ap (λ (p : ℕ × ℕ). p.0)
-                              (same_Some { A = ℕ × ℕ } b (task, later)
-                                  (sym is
-                                      ∙ sym (ap (option_and_then (λ (q : Record). begun_turn q.body)) stands)
-                                      ∙ ap (at begun_turn rs) (sym e) ∙ begins)))) in
+          earlier
+          (λ e.
+          apart
+          (ap (λ (p : ℕ × ℕ). p.0)
+          (same_Some {A = ℕ × ℕ} b (task, later)
+          (sym is
+          ∙ sym (ap (option_and_then (λ (q : Record). begun_turn q.body)) stands)
+          ∙ ap (at begun_turn rs) (sym e) ∙ begins)))) in
           omega (arith, kept, low)
     ]
 
@@ -415,9 +415,9 @@ pub walked_order : (rs : List Record) (tasks : List ℕ) (walk : Walk)
 walked_order rs tasks walk narrow is ordered i k thread task turn later below here there begins began =
     let within = thread_within rs i thread here in
     let low =
-        last_bound rs thread task
-            (λ n by_thread.
-                is.order ordered n thread by_thread (passed_all n thread (narrow n thread by_thread))) i
-            (omega (arith, within)) k later below there began in
+    last_bound rs thread task
+    (λ n by_thread.
+    is.order ordered n thread by_thread (passed_all n thread (narrow n thread by_thread))) i
+    (omega (arith, within)) k later below there began in
     let high = is.order ordered i thread here (passed_all i thread (narrow i thread here)) task turn begins in
     omega (arith, low, high)

@@ -48,7 +48,7 @@ pub record IsFamilyOf (rs : List Record) (family : FamilyView) : Type 0 where
 abbrev pub AreInFileOrder : List Record → List ℕ → Type 0
 AreInFileOrder rs tasks =
     (a b first second place later : ℕ) → a < b → slice_get tasks a ≡ Some first
-        → slice_get tasks b ≡ Some second
+    → slice_get tasks b ≡ Some second
     → at made rs place ≡ Some first → at made rs later ≡ Some second → place < later
 
 -- what the tables say of a task

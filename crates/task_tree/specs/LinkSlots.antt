@@ -29,7 +29,7 @@ code_if make number parent none =
 
 pub link_again : {X : Type 0} (make : ℕ → ℕ → X) (number parent : ℕ) → IsCode number parent
     → make (number_of (link_of_code number parent)) (parent_of (link_of_code number parent))
-        ≡ make number parent
+    ≡ make number parent
 link_again make number parent is_code = elim (cases_eq parent 4294967295) [
   | inl same ↦ ap (code_if make number parent) (eq-eqb parent 4294967295 same)
       ∙ ap (λ n. make n 4294967295) (sym (is_code same)) ∙ ap (make number) (sym same)

@@ -28,8 +28,8 @@ pub barrier_begins_at : (rs : List Record) (i task begin : ℕ) (kind : SyncKind
 barrier_begins_at rs i task begin kind (ended ends) barrier =
     let begins = own_begin rs i task begin kind ends in
     let kinds : begins.kind ≡ kind =
-        same_Some begins.kind kind
-            (sym (ap (option_map (λ (r : ℕ × SyncKind × Endpoint). r.1)) begins.begins) ∙ ends.same_kind) in
+    same_Some begins.kind kind
+    (sym (ap (option_map (λ (r : ℕ × SyncKind × Endpoint). r.1)) begins.begins) ∙ ends.same_kind) in
     ap barrier_begun begins.begins ∙ ap (λ b. if b then Some task else None) (ap is_barrier kinds ∙ barrier)
 barrier_begins_at rs i task begin kind (at_once once) barrier =
     ap barrier_begun once ∙ ap (λ b. if b then Some task else None) barrier
@@ -42,7 +42,7 @@ barrier_is_other kind other barrier none same = false≢true (sym none ∙ ap is
 -- what begins a barrier
 pub begun_region : (rs : List Record) (i task : ℕ) → barrier_begun (at region rs i) ≡ Some task
     → (kind : SyncKind) × (endpoint : Endpoint) × (at region rs i ≡ Some (task, kind, endpoint))
-        × (is_barrier kind ≡ true)
+    × (is_barrier kind ≡ true)
 begun_region rs i task begun = of (at region rs i) refl begun
   where
     kept : (b : Bool) (own : ℕ) → (if b then Some own else None) ≡ Some task → (own ≡ task) × (b ≡ true)
@@ -51,7 +51,7 @@ begun_region rs i task begun = of (at region rs i) refl begun
 
     of : (o : Option (ℕ × SyncKind × Endpoint)) → at region rs i ≡ o → barrier_begun o ≡ Some task
         → (kind : SyncKind) × (endpoint : Endpoint) × (at region rs i ≡ Some (task, kind, endpoint))
-            × (is_barrier kind ≡ true)
+        × (is_barrier kind ≡ true)
     of None e is = absurd (none-some task is)
     of (Some (own, kind, Begin)) e is =
         let known = kept (is_barrier kind) own is in
@@ -87,7 +87,7 @@ begin_says rs task number start is =
     let list = barrier_begins rs task in
     let within = slice_get_within list number start is in
     let passes =
-        filter_passes (begins_barrier rs task) (own_before rs task (length rs)) number start within in
+    filter_passes (begins_barrier rs task) (own_before rs task (length rs)) number start within in
     let same = get_or_from_slice_get list number start start is in
     of (barrier_begun (at region rs start)) refl (ap (begins_barrier rs task) (sym same) ∙ passes)
   where

@@ -57,19 +57,19 @@ begun_own : (rs : List Record) (task i : ℕ) → barrier_begun (at region rs i)
 begun_own rs task i begins =
     let is = begun_region (at region rs i) task begins in
     ap (λ (o : Option ℕ). option_map_or (λ t. t == task) o false)
-        (at_through region running (task, is.kind, is.endpoint) task rs i
-            (region_running task is.kind is.endpoint) is.is)
-        ∙ eq-eqb task task refl
+    (at_through region running (task, is.kind, is.endpoint) task rs i
+    (region_running task is.kind is.endpoint) is.is)
+    ∙ eq-eqb task task refl
 
 -- ---- the places at which a task begins barriers
 
 -- one record more
 begins_step : (rs : List Record) (task n : ℕ)
     → begins_before rs task (n + 1)
-        ≡ begins_before rs task n ++ filter (begins_barrier rs task) (cond (is_own rs task n) (n ∷ []) [])
+    ≡ begins_before rs task n ++ filter (begins_barrier rs task) (cond (is_own rs task n) (n ∷ []) [])
 begins_step rs task n =
     ap (filter (begins_barrier rs task)) (own_more rs task n)
-        ∙ filter-append (begins_barrier rs task) (own_before rs task n) (cond (is_own rs task n) (n ∷ []) [])
+    ∙ filter-append (begins_barrier rs task) (own_before rs task n) (cond (is_own rs task n) (n ∷ []) [])
 
 -- that begins a barrier of the task, or does not
 pub begins_pushed : (rs : List Record) (task n : ℕ) → barrier_begun (at region rs n) ≡ Some task
@@ -77,15 +77,15 @@ pub begins_pushed : (rs : List Record) (task n : ℕ) → barrier_begun (at regi
 begins_pushed rs task n begins =
     begins_step rs task n
     ∙ ap (λ b. begins_before rs task n ++ filter (begins_barrier rs task) (cond b (n ∷ []) []))
-        (begun_own rs task n begins)
+    (begun_own rs task n begins)
     ∙ ap (λ b. begins_before rs task n ++ cond b (n ∷ []) [])
-        (ap (λ (o : Option ℕ). option_map_or (λ t. t == task) o false) begins ∙ eq-eqb task task refl)
+    (ap (λ (o : Option ℕ). option_map_or (λ t. t == task) o false) begins ∙ eq-eqb task task refl)
 
 begins_none : (rs : List Record) (task n : ℕ) → begins_barrier rs task n ≡ false
     → begins_before rs task (n + 1) ≡ begins_before rs task n
 begins_none rs task n none =
     begins_step rs task n ∙ ap (λ l. begins_before rs task n ++ l) (nothing (is_own rs task n))
-        ∙ append-nil (begins_before rs task n)
+    ∙ append-nil (begins_before rs task n)
   where
     nothing : (b : Bool) → filter (begins_barrier rs task) (cond b (n ∷ []) []) ≡ []
     nothing false = refl
@@ -102,12 +102,12 @@ begins_same rs task n other = begins_none rs task n (there (barrier_begun (at re
 
 pub begins_cases : (rs : List Record) (task n : ℕ)
     → (begins_before rs task (n + 1) ≡ begins_before rs task n)
-        ⊎ (begins_before rs task (n + 1) ≡ begins_before rs task n ++ n ∷ [])
+    ⊎ (begins_before rs task (n + 1) ≡ begins_before rs task n ++ n ∷ [])
 begins_cases rs task n = there (barrier_begun (at region rs n)) refl
   where
     there : (o : Option ℕ) → barrier_begun (at region rs n) ≡ o
         → (begins_before rs task (n + 1) ≡ begins_before rs task n)
-            ⊎ (begins_before rs task (n + 1) ≡ begins_before rs task n ++ n ∷ [])
+        ⊎ (begins_before rs task (n + 1) ≡ begins_before rs task n ++ n ∷ [])
     there None e = inl (begins_same rs task n (λ is. none-some task (sym e ∙ is)))
     there (Some own) e = elim (cases_eq own task) [
       | inl same ↦ inr (begins_pushed rs task n (e ∙ ap Some same))
@@ -123,7 +123,7 @@ begins_few rs task (suc n) =
   where
     more : length (begins_before rs task n) ≤ n
         → (begins_before rs task (n + 1) ≡ begins_before rs task n)
-            ⊎ (begins_before rs task (n + 1) ≡ begins_before rs task n ++ n ∷ [])
+        ⊎ (begins_before rs task (n + 1) ≡ begins_before rs task n ++ n ∷ [])
         → length (begins_before rs task (n + 1)) ≤ n + 1
     more few (inl same) = let is = ap length same in omega arith
     more few (inr pushed) =
@@ -150,8 +150,8 @@ begin_stays rs task n (suc m) number start is less =
       | inl earlier ↦
           let step : m + 1 ≡ suc m = omega arith in
           subst P step
-              (begins_stay rs task m number start
-                  (begin_stays rs task n m number start is (omega (arith, earlier))))
+          (begins_stay rs task m number start
+          (begin_stays rs task n m number start is (omega (arith, earlier))))
       | inr here ↦ let same : n ≡ suc m = omega (arith, here, less) in subst P same is
     ]
 
@@ -160,9 +160,9 @@ pub begun_number : (rs : List Record) (task n : ℕ) → n < length rs
     → barrier_begun (at region rs n) ≡ Some task → IsBarrierBegin rs task (length (begins_before rs task n)) n
 begun_number rs task n within begins =
     begin_stays rs task (n + 1) (length rs) (length (begins_before rs task n)) n
-        (ap (λ l. slice_get l (length (begins_before rs task n))) (begins_pushed rs task n begins)
-            ∙ get_last (begins_before rs task n) n (length (begins_before rs task n)) refl)
-        (omega (arith, within))
+    (ap (λ l. slice_get l (length (begins_before rs task n))) (begins_pushed rs task n begins)
+    ∙ get_last (begins_before rs task n) n (length (begins_before rs task n)) refl)
+    (omega (arith, within))
 
 -- ---- the tables
 
@@ -172,7 +172,7 @@ begins_other rs n tasks begins are none = record {
   within = are.within;
   each =
       λ index task is_task.
-          are.each index task is_task ∙ sym (begins_same rs task n (λ is. none-some task (sym none ∙ is)));
+      are.each index task is_task ∙ sym (begins_same rs task n (λ is. none-some task (sym none ∙ is)));
 }
 
 -- one place more in the row of a task
@@ -185,18 +185,18 @@ begins_added rs n own parent tasks before after apart are is_own begun added = r
   each = λ index task is_task. elim (cases_eq index own) [
     | inl same ↦
         let is_parent : task ≡ parent =
-            same_Some task parent (sym is_task ∙ ap (slice_get tasks) same ∙ is_own) in
+        same_Some task parent (sym is_task ∙ ap (slice_get tasks) same ∙ is_own) in
         ap (row_at after) same ∙ added.here ∙ ap (λ l. l ++ n ∷ []) (are.each own parent is_own)
-            ∙ sym (begins_pushed rs parent n begun) ∙ ap (λ t. begins_before rs t (n + 1)) (sym is_parent)
+        ∙ sym (begins_pushed rs parent n begun) ∙ ap (λ t. begins_before rs t (n + 1)) (sym is_parent)
     | inr different ↦
         added.others index different
         ∙ are.each index task is_task
         ∙ sym
-            (begins_same rs task n
-                (λ is.
-                    different
-                        (apart index own parent (is_task ∙ ap Some (same_Some task parent (sym is ∙ begun)))
-                            is_own)))
+        (begins_same rs task n
+        (λ is.
+        different
+        (apart index own parent (is_task ∙ ap Some (same_Some task parent (sym is ∙ begun)))
+        is_own)))
   ];
 }
 
@@ -214,7 +214,7 @@ number_here rs n own parent number tasks begins are within is_own begun is = λ 
     let P : ℕ → Type 0 = λ t. IsBarrierBegin rs t number n in
     let Q : ℕ → Type 0 = λ k. IsBarrierBegin rs parent k n in
     let is_number : number ≡ length (begins_before rs parent n) =
-        is ∙ ap length (are.each own parent is_own) in
+    is ∙ ap length (are.each own parent is_own) in
     subst P same (subst Q (sym is_number) (begun_number rs parent n within begun))
 
 pub numbered_other : (rs : List Record) (n : ℕ) (numbers : List ℕ) → AreNumbered rs n numbers
@@ -235,9 +235,9 @@ numbered_more rs n here numbers are within is = record {
   each = λ i number below stands. elim (cases_eq i n) [
     | inl same ↦
         let told : here ≡ number =
-            same_Some here number
-                (sym (get_set_same numbers n here (let all = are.all in omega (arith, within, all)))
-                    ∙ ap (slice_get (set numbers n here)) (sym same) ∙ stands) in
+        same_Some here number
+        (sym (get_set_same numbers n here (let all = are.all in omega (arith, within, all)))
+        ∙ ap (slice_get (set numbers n here)) (sym same) ∙ stands) in
         let P : ℕ → Type 0 = λ k. IsNumberOf rs k number in
         let Q : ℕ → Type 0 = IsNumberOf rs n in
         subst P (sym same) (subst Q told is)
@@ -252,10 +252,10 @@ numbered_all rs n numbers are end = record {
   all = are.all;
   each =
       λ i number stands.
-          are.each i number
-              (let within = slice_get_within numbers i number stands in
-               let all = are.all in omega (arith, end, within, all))
-              stands;
+      are.each i number
+      (let within = slice_get_within numbers i number stands in
+      let all = are.all in omega (arith, end, within, all))
+      stands;
 }
 
 pub row_few : (rs : List Record) (n own parent : ℕ) (tasks : List ℕ) (begins : List (Vec ℕ))

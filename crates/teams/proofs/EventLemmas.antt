@@ -68,7 +68,7 @@ no_wait sync none = no_barrier sync (λ barrier. none-some ForBarrier (sym none 
 
 begun_none : (says : Option (ℕ × SyncKind × Endpoint))
     → ((task : ℕ) (sync : SyncKind) (endpoint : Endpoint) → says ≡ Some (task, sync, endpoint)
-          → is_barrier sync ≡ false)
+    → is_barrier sync ≡ false)
     → barrier_begun says ≡ None
 begun_none None other = refl
 begun_none (Some (task, sync, End)) other = refl
@@ -85,8 +85,8 @@ pub no_event_begun : (run : RunView) (i : ℕ) → IsNoWaitEvent run i
     → Calls run.family.tasks (barrier_begun (at region run.records i)) None
 no_event_begun run i silent =
     called_none run.family.tasks (barrier_begun (at region run.records i))
-        (begun_none (at region run.records i)
-            (λ task sync endpoint says. no_wait sync (silent task sync endpoint says)))
+    (begun_none (at region run.records i)
+    (λ task sync endpoint says. no_wait sync (silent task sync endpoint says)))
 
 -- ---- the end of a barrier
 
@@ -99,7 +99,7 @@ pub other_event_end : (run : RunView) (i index : ℕ) (kind : WaitKind) (endpoin
     → IsWaitEvent run i index kind endpoint → (kind ≡ ForBarrier → ⊥) → EndsNoBarrier run.records i
 other_event_end run i index kind endpoint event apart =
     other_kind run.records i event.task event.sync endpoint event.says
-        (other_wait event.sync kind event.waits apart)
+    (other_wait event.sync kind event.waits apart)
 
 pub event_end : (run : RunView) (i index begin : ℕ) (kind : WaitKind) (endpoint : Endpoint)
     → IsWaitEvent run i index kind endpoint → kind ≡ ForBarrier → IsBeginOf run.records i begin

@@ -37,8 +37,8 @@ fewest_same teams begins n fewest are none = record {
   low = λ index team count before in_team stands. elim (cases_eq index n) [
     | inl same ↦
         absurd
-            (none-some team
-                (same_Some None (Some team) (sym none ∙ ap (slice_get teams) (sym same) ∙ in_team)))
+        (none-some team
+        (same_Some None (Some team) (sym none ∙ ap (slice_get teams) (sym same) ∙ in_team)))
     | inr apart ↦ are.low index team count (omega (arith, before, apart)) in_team stands
   ];
   reached = λ team count stands. reached_later teams begins n team count (are.reached team count stands);
@@ -58,24 +58,24 @@ fewest_more teams begins n team old count new fewest are is_team is_old is_count
         elim (cases_eq index n) [
           | inl last ↦
               let long : length (row_at begins index) ≡ length (row_at begins n) =
-                  ap (λ k. length (row_at begins k)) last in
+              ap (λ k. length (row_at begins k)) last in
               omega (arith, is_least, is_new, is_count, long)
           | inr earlier ↦
               let low =
-                  are.low index team old (omega (arith, before, earlier))
-                      (in_team ∙ ap (λ t. Some (Some t)) same) is_old in
+              are.low index team old (omega (arith, before, earlier))
+              (in_team ∙ ap (λ t. Some (Some t)) same) is_old in
               omega (arith, is_least, is_new, low)
         ]
     | inr different ↦ elim (cases_eq index n) [
       | inl last ↦
           absurd
-              (different
-                  (same_Some other team
-                      (same_Some (Some other) (Some team)
-                          (sym in_team ∙ ap (slice_get teams) last ∙ is_team))))
+          (different
+          (same_Some other team
+          (same_Some (Some other) (Some team)
+          (sym in_team ∙ ap (slice_get teams) last ∙ is_team))))
       | inr earlier ↦
           are.low index other least (omega (arith, before, earlier)) in_team
-              (sym (get_set_other fewest team other new different) ∙ stands)
+          (sym (get_set_other fewest team other new different) ∙ stands)
     ]
   ];
   reached = λ other least stands. elim (cases_eq other team) [
@@ -85,8 +85,8 @@ fewest_more teams begins n team old count new fewest are is_team is_old is_count
         subst P (sym same) (elim (cases_lt old count) [
           | inl less ↦
               reached_same teams begins (n + 1) team old least
-                  (reached_later teams begins n team old (are.reached team old is_old))
-                  (omega (arith, is_least, is_new, less))
+              (reached_later teams begins n team old (are.reached team old is_old))
+              (omega (arith, is_least, is_new, less))
           | inr more ↦
               inr (record {
                 index = n;
@@ -97,7 +97,7 @@ fewest_more teams begins n team old count new fewest are is_team is_old is_count
         ])
     | inr different ↦
         reached_later teams begins n other least
-            (are.reached other least (sym (get_set_other fewest team other new different) ∙ stands))
+        (are.reached other least (sym (get_set_other fewest team other new different) ∙ stands))
   ];
 }
   where
@@ -105,5 +105,5 @@ fewest_more teams begins n team old count new fewest are is_team is_old is_count
         → least ≡ new
     of_team other least same stands =
         same_Some least new
-            (sym stands ∙ ap (slice_get (set fewest team new)) same
-                ∙ get_set_same fewest team new (slice_get_within fewest team old is_old))
+        (sym stands ∙ ap (slice_get (set fewest team new)) same
+        ∙ get_set_same fewest team new (slice_get_within fewest team old is_old))

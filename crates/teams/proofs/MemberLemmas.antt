@@ -58,7 +58,7 @@ not_both m x task own false is is' = none-some task is'
 not_both_body : (m : Membership) (task : ℕ) (b : Body) → joined b ≡ Some m → begun_initial b ≡ Some task → ⊥
 not_both_body m task (ImplicitTask Begin actual number flags parallel own) is is' =
     not_both m (record { parallel = parallel; actual = actual; index = number; member = own }) task own
-        (has_flag flags.0 flag.initial) is is'
+    (has_flag flags.0 flag.initial) is is'
 not_both_body m task _ is is' = none-some m is
 
 pub joined_or_initial : (rs : List Record) (i task : ℕ) (m : Membership) → at joined rs i ≡ Some m
@@ -99,8 +99,8 @@ root_initial : (task : ℕ) (b : Body) → begun_root b ≡ Some task → joined
     → begun_initial b ≡ Some task
 root_initial task (ImplicitTask Begin actual number flags parallel own) is none =
     alone_or (record { parallel = parallel; actual = actual; index = number; member = own }) own
-        (has_flag flags.0 flag.initial) none
-        ∙ is
+    (has_flag flags.0 flag.initial) none
+    ∙ is
 root_initial task _ is none = absurd (none-some task is)
 
 pub joined_at_root : (rs : List Record) (i : ℕ) (m : Membership) → at joined rs i ≡ Some m
@@ -130,40 +130,40 @@ pub joined_once : (rs : List Record) (i k : ℕ) (m e : Membership) → IsFreeOf
     → at joined rs i ≡ Some m → at joined rs k ≡ Some e → m.member ≡ e.member → (i ≡ k) × (m ≡ e)
 joined_once rs i k m e free here there is =
     let same : i ≡ k =
-        made_once rs m.member i k free (joined_at_made rs i m here)
-            (joined_at_made rs k e there ∙ ap Some (sym is)) in
+    made_once rs m.member i k free (joined_at_made rs i m here)
+    (joined_at_made rs k e there ∙ ap Some (sym is)) in
     (same, same_Some m e (sym here ∙ ap (at joined rs) same ∙ there))
 
 pub initial_once : (rs : List Record) (i k task : ℕ) (m : Membership) → IsFreeOf rs CreatedTwice
     → at begun_initial rs i ≡ Some task → at joined rs k ≡ Some m → m.member ≡ task → ⊥
 initial_once rs i k task m free here there is =
     let same : i ≡ k =
-        made_once rs task i k free (initial_at_made rs i task here)
-            (joined_at_made rs k m there ∙ ap Some is) in
+    made_once rs task i k free (initial_at_made rs i task here)
+    (joined_at_made rs k m there ∙ ap Some is) in
     joined_or_initial rs k task m there (ap (at begun_initial rs) (sym same) ∙ here)
 
 -- ---- the members before a place
 
 members_step : (rs : List Record) (parallel n : ℕ)
     → members_before rs parallel (n + 1)
-        ≡ members_before rs parallel n
-            ++ filter (λ (m : Membership). m.parallel == parallel) (cons_option (at joined rs n) [])
+    ≡ members_before rs parallel n
+    ++ filter (λ (m : Membership). m.parallel == parallel) (cons_option (at joined rs n) [])
 members_step rs parallel n =
     ap (λ l. filter (λ (m : Membership). m.parallel == parallel) (filter_map (at joined rs) l)) (range_more n)
     ∙ ap (filter (λ (m : Membership). m.parallel == parallel))
-        (filter_map-append (at joined rs) (range_with_len 0 n) (n ∷ []))
+    (filter_map-append (at joined rs) (range_with_len 0 n) (n ∷ []))
     ∙ filter-append (λ (m : Membership). m.parallel == parallel)
-        (filter_map (at joined rs) (range_with_len 0 n)) (cons_option (at joined rs n) [])
+    (filter_map (at joined rs) (range_with_len 0 n)) (cons_option (at joined rs n) [])
 
 pub members_pushed : (rs : List Record) (parallel n : ℕ) (m : Membership) → at joined rs n ≡ Some m
     → m.parallel ≡ parallel → members_before rs parallel (n + 1) ≡ members_before rs parallel n ++ m ∷ []
 members_pushed rs parallel n m joins is =
     members_step rs parallel n
     ∙ ap
-        (λ o.
-            members_before rs parallel n
-                ++ filter (λ (x : Membership). x.parallel == parallel) (cons_option o []))
-        joins
+    (λ o.
+    members_before rs parallel n
+    ++ filter (λ (x : Membership). x.parallel == parallel) (cons_option o []))
+    joins
     ∙ ap (λ b. members_before rs parallel n ++ cond b (m ∷ []) []) (eq-eqb m.parallel parallel is)
 
 pub members_same : (rs : List Record) (parallel n : ℕ)
@@ -171,7 +171,7 @@ pub members_same : (rs : List Record) (parallel n : ℕ)
     → members_before rs parallel (n + 1) ≡ members_before rs parallel n
 members_same rs parallel n never =
     members_step rs parallel n ∙ ap (λ l. members_before rs parallel n ++ l) (nothing (at joined rs n) refl)
-        ∙ append-nil (members_before rs parallel n)
+    ∙ append-nil (members_before rs parallel n)
   where
     nothing : (o : Option Membership) → at joined rs n ≡ o
         → filter (λ (m : Membership). m.parallel == parallel) (cons_option o []) ≡ []
@@ -197,9 +197,9 @@ members_cases rs parallel n = there (at joined rs n) refl
           inr (record { m = m; joins = e; same = same; more = members_pushed rs parallel n m e same })
       | inr apart ↦
           inl
-              (members_same rs parallel n
-                  (λ x joins is.
-                      apart (ap (λ (y : Membership). y.parallel) (same_Some m x (sym e ∙ joins)) ∙ is)))
+          (members_same rs parallel n
+          (λ x joins is.
+          apart (ap (λ (y : Membership). y.parallel) (same_Some m x (sym e ∙ joins)) ∙ is)))
     ]
 
 -- the member begins there
@@ -255,12 +255,12 @@ place_member rs parallel (suc n) k m below joins is =
       | inl same ↦
           let here = ap (at joined rs) (sym same) ∙ joins in
           subst P (add-one n)
-              (subst Q (sym (members_pushed rs parallel n m here is))
-                  (Contains-push (members_before rs parallel n) m))
+          (subst Q (sym (members_pushed rs parallel n m here is))
+          (Contains-push (members_before rs parallel n) m))
       | inr apart ↦
           subst P (add-one n)
-              (stays (place_member rs parallel n k m (omega (arith, below, apart)) joins is)
-                  (members_cases rs parallel n))
+          (stays (place_member rs parallel n k m (omega (arith, below, apart)) joins is)
+          (members_cases rs parallel n))
     ]
   where
     stays : Contains (members_before rs parallel n) m
@@ -293,9 +293,9 @@ pub lead_one : (rs : List Record) (tasks : List ℕ) (parallel a b : ℕ) → Ar
 lead_one rs tasks parallel a b apart la lb = elim (cases_order la.place lb.place) [
   | inl same ↦
       apart a b la.first.member la.here
-          (lb.here
-              ∙ ap (λ (m : Membership). Some m.member)
-                  (same_Some lb.first la.first (sym lb.joins ∙ ap (at joined rs) (sym same) ∙ la.joins)))
+      (lb.here
+      ∙ ap (λ (m : Membership). Some m.member)
+      (same_Some lb.first la.first (sym lb.joins ∙ ap (at joined rs) (sym same) ∙ la.joins)))
   | inr (inl less) ↦ absurd (lb.earliest la.place la.first less la.joins la.same)
   | inr (inr more) ↦ absurd (la.earliest lb.place lb.first more lb.joins lb.same)
 ]
@@ -304,8 +304,8 @@ pub lead_other : (rs : List Record) (tasks : List ℕ) (parallel other lead : �
     → IsLead rs tasks parallel lead → IsLead rs tasks other lead → parallel ≡ other
 lead_other rs tasks parallel other lead free lp lq =
     let same =
-        joined_once rs lp.place lq.place lp.first lq.first free lp.joins lq.joins
-            (same_Some lp.first.member lq.first.member (sym lp.here ∙ lq.here)) in
+    joined_once rs lp.place lq.place lp.first lq.first free lp.joins lq.joins
+    (same_Some lp.first.member lq.first.member (sym lp.here ∙ lq.here)) in
     sym lp.same ∙ ap (λ (m : Membership). m.parallel) same.1 ∙ lq.same
 
 lead_new : (rs : List Record) (n : ℕ) (tasks : List ℕ) (leads : BTreeMap ℕ ℕ) (m : Membership) (index : ℕ)
@@ -358,11 +358,11 @@ teams_same rs n tasks teams are no_initial no_joined = record {
   all = are.all;
   known =
       λ index task team is_task stands.
-          in_later rs n tasks index task team (are.known index task team is_task stands);
+      in_later rs n tasks index task team (are.known index task team is_task stands);
   none =
       λ index task is_task stands.
-          none_more rs n task (are.none index task is_task stands) (no_initial task)
-              (λ m joins is. no_joined m joins);
+      none_more rs n task (are.none index task is_task stands) (no_initial task)
+      (λ m joins is. no_joined m joins);
 }
 
 there_in : (rs : List Record) (n : ℕ) (tasks : List ℕ) (own task team : ℕ) → at subject rs n ≡ Some task
@@ -371,7 +371,7 @@ there_in rs n tasks own task team is_subject (there_alone other is same) =
     in_own n (omega arith) (is ∙ sym (initial_at_subject rs n other is) ∙ is_subject) same
 there_in rs n tasks own task team is_subject (there_joined m joins leads) =
     in_joined n m (omega arith) joins
-        (same_Some m.member task (sym (joined_at_subject rs n m joins) ∙ is_subject)) leads
+    (same_Some m.member task (sym (joined_at_subject rs n m joins) ∙ is_subject)) leads
 
 pub teams_more : (rs : List Record) (n own task team : ℕ) (tasks : List ℕ) (teams : List (Option ℕ))
     → AreApart tasks → AreInTeams rs n tasks teams → slice_get tasks own ≡ Some task
@@ -382,41 +382,41 @@ teams_more rs n own task team tasks teams apart are is_own is_subject there = re
   known = λ index other number is_other stands. elim (cases_eq index own) [
     | inl same ↦
         let is_task : task ≡ other =
-            same_Some task other (sym is_own ∙ ap (slice_get tasks) (sym same) ∙ is_other) in
+        same_Some task other (sym is_own ∙ ap (slice_get tasks) (sym same) ∙ is_other) in
         let is_team : team ≡ number =
-            same_Some team number
-                (same_Some (Some team) (Some number)
-                    (sym (get_set_same teams own (Some team) within)
-                        ∙ ap (slice_get (set teams own (Some team))) (sym same) ∙ stands)) in
+        same_Some team number
+        (same_Some (Some team) (Some number)
+        (sym (get_set_same teams own (Some team) within)
+        ∙ ap (slice_get (set teams own (Some team))) (sym same) ∙ stands)) in
         let P : ℕ → Type 0 = λ k. IsInTeam rs (n + 1) tasks k other number in
         let Q : ℕ → Type 0 = λ t. IsInTeam rs (n + 1) tasks own t number in
         let R : ℕ → Type 0 = IsInTeam rs (n + 1) tasks own task in
         subst P (sym same)
-            (subst Q is_task (subst R is_team (there_in rs n tasks own task team is_subject there)))
+        (subst Q is_task (subst R is_team (there_in rs n tasks own task team is_subject there)))
     | inr different ↦
         in_later rs n tasks index other number
-            (are.known index other number is_other
-                (sym (get_set_other teams own index (Some team) different) ∙ stands))
+        (are.known index other number is_other
+        (sym (get_set_other teams own index (Some team) different) ∙ stands))
   ];
   none = λ index other is_other stands. elim (cases_eq index own) [
     | inl same ↦
         absurd
-            (none-some team
-                (same_Some None (Some team)
-                    (sym stands ∙ ap (slice_get (set teams own (Some team))) same
-                        ∙ get_set_same teams own (Some team) within)))
+        (none-some team
+        (same_Some None (Some team)
+        (sym stands ∙ ap (slice_get (set teams own (Some team))) same
+        ∙ get_set_same teams own (Some team) within)))
     | inr different ↦
         none_more rs n other
-            (are.none index other is_other
-                (sym (get_set_other teams own index (Some team) different) ∙ stands))
+        (are.none index other is_other
+        (sym (get_set_other teams own index (Some team) different) ∙ stands))
         (λ is.
-            different
-                (apart index own task (is_other ∙ sym (initial_at_subject rs n other is) ∙ is_subject)
-                    is_own))
+        different
+        (apart index own task (is_other ∙ sym (initial_at_subject rs n other is) ∙ is_subject)
+        is_own))
         (λ m joins is.
-            different
-                (apart index own task
-                    (is_other ∙ ap Some (sym is) ∙ sym (joined_at_subject rs n m joins) ∙ is_subject) is_own))
+        different
+        (apart index own task
+        (is_other ∙ ap Some (sym is) ∙ sym (joined_at_subject rs n m joins) ∙ is_subject) is_own))
   ];
 }
   where
@@ -482,10 +482,10 @@ mates_together : (rs : List Record) (task mate i k : ℕ) (own other : Membershi
 mates_together rs task mate i k own other joins joins' is is' same =
     let P : ℕ → Type 0 = IsTeammate rs task in
     subst P is'
-        (together own.parallel own other
-            (place_member rs own.parallel (length rs) i own (at_within joined rs i own joins) joins refl) is
-            (place_member rs own.parallel (length rs) k other (at_within joined rs k other joins') joins'
-                (sym same)))
+    (together own.parallel own other
+    (place_member rs own.parallel (length rs) i own (at_within joined rs i own joins) joins refl) is
+    (place_member rs own.parallel (length rs) k other (at_within joined rs k other joins') joins'
+    (sym same)))
 
 -- a task that is alone leads no team
 pub own_lead : (rs : List Record) (tasks : List ℕ) (i parallel task index lead : ℕ) → IsFreeOf rs CreatedTwice
@@ -493,7 +493,7 @@ pub own_lead : (rs : List Record) (tasks : List ℕ) (i parallel task index lead
     → lead ≡ index → ⊥
 own_lead rs tasks i parallel task index lead free is_task is leads same =
     initial_once rs i leads.place task leads.first free is leads.joins
-        (same_Some leads.first.member task (sym leads.here ∙ ap (slice_get tasks) same ∙ is_task))
+    (same_Some leads.first.member task (sym leads.here ∙ ap (slice_get tasks) same ∙ is_task))
 
 same_team : (rs : List Record) (n : ℕ) (tasks : List ℕ) (index other task mate team : ℕ)
     → IsFreeOf rs CreatedTwice → slice_get tasks index ≡ Some task → slice_get tasks other ≡ Some mate
@@ -502,18 +502,18 @@ same_team rs n tasks index other task mate team free is_task is_mate (in_own i b
     (in_own k below' is' same') =
     let P : ℕ → Type 0 = IsTeammate rs task in
     let one : task ≡ mate =
-        same_Some task mate (sym is_task ∙ ap (slice_get tasks) (sym same ∙ same') ∙ is_mate) in
+    same_Some task mate (sym is_task ∙ ap (slice_get tasks) (sym same ∙ same') ∙ is_mate) in
     subst P one (alone (i, is))
 same_team rs n tasks index other task mate team free is_task is_mate (in_own i below is same)
-        (in_joined k e below' joins' is' leads') =
+    (in_joined k e below' joins' is' leads') =
     absurd (own_lead rs tasks i e.parallel task index team free is_task is leads' same)
 same_team rs n tasks index other task mate team free is_task is_mate (in_joined i m below joins is leads)
-        (in_own k below' is' same') =
+    (in_own k below' is' same') =
     absurd (own_lead rs tasks k m.parallel mate other team free is_mate is' leads same')
 same_team rs n tasks index other task mate team free is_task is_mate (in_joined i m below joins is leads)
-        (in_joined k e below' joins' is' leads') =
+    (in_joined k e below' joins' is' leads') =
     mates_together rs task mate i k m e joins joins' is is'
-        (lead_other rs tasks m.parallel e.parallel team free leads leads')
+    (lead_other rs tasks m.parallel e.parallel team free leads leads')
 
 -- a task that joined is in the team of its lead
 pub joined_lead : (rs : List Record) (n : ℕ) (tasks : List ℕ) (index task team i : ℕ) (m : Membership)
@@ -532,12 +532,12 @@ teams_are rs tasks teams free apart are = record {
   mates = λ index other task mate team is_task is_mate stands. (
     λ there.
         same_team rs (length rs) tasks index other task mate team free is_task is_mate
-            (are.known index task team is_task stands) (are.known other mate team is_mate there),
+        (are.known index task team is_task stands) (are.known other mate team is_mate there),
     λ is. elim (mate_cases rs task mate is) [
       | inl own ↦ ap (slice_get teams) (apart other index task (is_mate ∙ ap Some own.1) is_task) ∙ stands
       | inr both ↦
           of_mate index other task mate team is_task is_mate stands both (get_or teams other None)
-              (slice_get-get_or teams other None (inside other mate is_mate))
+          (slice_get-get_or teams other None (inside other mate is_mate))
     ],
   );
   none = λ index task mate is_task stands is.
@@ -546,7 +546,7 @@ teams_are rs tasks teams free apart are = record {
         | inl own ↦ never.not_initial own.0.0 (at_within begun_initial rs own.0.0 task own.0.1) own.0.1
         | inr both ↦
             never.not_joined both.own_place both.own
-                (at_within joined rs both.own_place both.own both.own_joins) both.own_joins both.own_is
+            (at_within joined rs both.own_place both.own both.own_joins) both.own_joins both.own_is
       ];
 }
   where
@@ -558,20 +558,20 @@ teams_are rs tasks teams free apart are = record {
         → (slot : Option ℕ) → slice_get teams other ≡ Some slot → slice_get teams other ≡ Some (Some team)
     of_mate index other task mate team is_task is_mate stands both None there =
         absurd
-            ((are.none other mate is_mate there).not_joined both.other_place both.other
-                (at_within joined rs both.other_place both.other both.other_joins) both.other_joins
-                both.other_is)
+        ((are.none other mate is_mate there).not_joined both.other_place both.other
+        (at_within joined rs both.other_place both.other both.other_joins) both.other_joins
+        both.other_is)
     of_mate index other task mate team is_task is_mate stands both (Some number) there =
         let own =
-            joined_lead rs (length rs) tasks index task team both.own_place both.own free
-                (are.known index task team is_task stands) both.own_joins both.own_is in
+        joined_lead rs (length rs) tasks index task team both.own_place both.own free
+        (are.known index task team is_task stands) both.own_joins both.own_is in
         let mates =
-            joined_lead rs (length rs) tasks other mate number both.other_place both.other free
-                (are.known other mate number is_mate there) both.other_joins both.other_is in
+        joined_lead rs (length rs) tasks other mate number both.other_place both.other free
+        (are.known other mate number is_mate there) both.other_joins both.other_is in
         let P : ℕ → Type 0 = λ p. IsLead rs tasks p number in
         there
-            ∙ ap (λ t. Some (Some t))
-                (lead_one rs tasks both.own.parallel number team apart (subst P (sym both.same) mates) own)
+        ∙ ap (λ t. Some (Some t))
+        (lead_one rs tasks both.own.parallel number team apart (subst P (sym both.same) mates) own)
 
 -- ---- how many members a team has
 
@@ -581,9 +581,9 @@ sizes_same rs n tasks sizes are none = record {
   all = are.all;
   each =
       λ parallel lead size leads stands.
-          are.each parallel lead size leads stands
-              ∙ ap length
-                  (sym (members_same rs parallel n (λ m joins is. never_of (at joined rs n) m none joins)));
+      are.each parallel lead size leads stands
+      ∙ ap length
+      (sym (members_same rs parallel n (λ m joins is. never_of (at joined rs n) m none joins)));
   only = are.only;
 }
 
@@ -596,11 +596,11 @@ sizes_more rs n tasks sizes lead old free apart are here stands_old = record {
     | inl same ↦
         let P : ℕ → Type 0 = IsLead rs tasks parallel in
         let is_parallel : parallel ≡ here.member.parallel =
-            lead_other rs tasks parallel here.member.parallel lead free (subst P same leads) here.leads in
+        lead_other rs tasks parallel here.member.parallel lead free (subst P same leads) here.leads in
         let is_size : size ≡ old + 1 =
-            same_Some size (old + 1)
-                (sym stands ∙ ap (slice_get (set sizes lead (old + 1))) same
-                    ∙ get_set_same sizes lead (old + 1) (slice_get_within sizes lead old stands_old)) in
+        same_Some size (old + 1)
+        (sym stands ∙ ap (slice_get (set sizes lead (old + 1))) same
+        ∙ get_set_same sizes lead (old + 1) (slice_get_within sizes lead old stands_old)) in
         is_size ∙ ap (λ k. k + 1) (are.each here.member.parallel lead old here.leads stands_old)
         ∙ sym (length_push (members_before rs here.member.parallel n) here.member)
         ∙ ap length (sym (members_pushed rs here.member.parallel n here.member here.joins refl))
@@ -610,7 +610,7 @@ sizes_more rs n tasks sizes lead old free apart are here stands_old = record {
         ∙ ap length (sym (members_same rs parallel n (λ m joins is.
         let P : ℕ → Type 0 = λ p. IsLead rs tasks p lead in
         let is_parallel : here.member.parallel ≡ parallel =
-            ap (λ (x : Membership). x.parallel) (same_Some here.member m (sym here.joins ∙ joins)) ∙ is in
+        ap (λ (x : Membership). x.parallel) (same_Some here.member m (sym here.joins ∙ joins)) ∙ is in
         different (lead_one rs tasks parallel other lead apart leads (subst P is_parallel here.leads)))))
   ];
   only = λ index size stands more. elim (cases_eq index lead) [
@@ -642,16 +642,16 @@ pub members_none : (run : RunView) (n : ℕ) (members : Members) → AreMembers 
 members_none run n members are none = record {
   teams =
       teams_same run.records n run.family.tasks members.teams.items are.teams
-          (λ task is.
-              never_of (at begun_root run.records n) task none (initial_at_root run.records n task is))
-          (λ m joins.
-              never_of (at begun_root run.records n) m.member none (joined_at_root run.records n m joins));
+      (λ task is.
+      never_of (at begun_root run.records n) task none (initial_at_root run.records n task is))
+      (λ m joins.
+      never_of (at begun_root run.records n) m.member none (joined_at_root run.records n m joins));
   sizes =
       sizes_same run.records n run.family.tasks members.sizes.items are.sizes
-          (none_of (at joined run.records n)
-              (λ m joins.
-                  never_of (at begun_root run.records n) m.member none
-                      (joined_at_root run.records n m joins)));
+      (none_of (at joined run.records n)
+      (λ m joins.
+      never_of (at begun_root run.records n) m.member none
+      (joined_at_root run.records n m joins)));
 }
 
 -- the team of the root that begins there, alone or with the members of its region
@@ -663,7 +663,7 @@ pub team_put : (rs : List Record) (n own task team : ℕ) (slot : Option ℕ) (t
 team_put rs n own task team slot tasks teams apart are is_own begins there is_slot =
     let Q : Option ℕ → Type 0 = λ s. AreInTeams rs (n + 1) tasks (set teams own s) in
     subst Q (sym is_slot)
-        (teams_more rs n own task team tasks teams apart are is_own (root_at_subject rs n task begins) there)
+    (teams_more rs n own task team tasks teams apart are is_own (root_at_subject rs n task begins) there)
 
 -- a teammate of a task is a task
 pub mate_index : (rs : List Record) (tasks : List ℕ) (index task mate : ℕ)
@@ -673,6 +673,6 @@ mate_index rs tasks index task mate noted is_task is = elim (mate_cases rs task 
   | inl own ↦ (index, is_task ∙ ap Some (sym own.1))
   | inr both ↦
       contains_get tasks mate
-          (noted.each both.other_place mate (at_within joined rs both.other_place both.other both.other_joins)
-              (joined_at_made rs both.other_place both.other both.other_joins ∙ ap Some both.other_is))
+      (noted.each both.other_place mate (at_within joined rs both.other_place both.other both.other_joins)
+      (joined_at_made rs both.other_place both.other both.other_joins ∙ ap Some both.other_is))
 ]

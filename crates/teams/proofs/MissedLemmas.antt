@@ -30,8 +30,8 @@ pub other_kind : (rs : List Record) (i own : ℕ) (kind : SyncKind) (endpoint : 
 other_kind rs i own kind endpoint says no_barrier = λ task begin another ends barrier.
     let is = ends_at rs i task begin another ends in
     let same : kind ≡ another =
-        ap (λ (p : ℕ × SyncKind × Endpoint). p.1)
-            (same_Some (own, kind, endpoint) (task, another, is.endpoint) (sym says ∙ is.says)) in
+    ap (λ (p : ℕ × SyncKind × Endpoint). p.1)
+    (same_Some (own, kind, endpoint) (task, another, is.endpoint) (sym says ∙ is.says)) in
     false≢true (sym no_barrier ∙ ap is_barrier same ∙ barrier)
 
 pub begin_within : (rs : List Record) (i task begin : ℕ) (kind : SyncKind) → IsRegion rs i task kind begin
@@ -71,7 +71,7 @@ numbered_there : (rs : List Record) (tasks : List ℕ) (teams : List (Option ℕ
     → IsBarrierBegin rs c.barrier.task number begin
 numbered_there rs tasks teams fewest numbers i begin index team count number c =
     c.are_numbers.each begin number c.is_number c.barrier.task
-        (barrier_begins_at rs i c.barrier.task begin c.barrier.kind c.barrier.ends c.barrier.barrier)
+    (barrier_begins_at rs i c.barrier.task begin c.barrier.kind c.barrier.ends c.barrier.barrier)
 
 pub too_few : (rs : List Record) (tasks : List ℕ) (teams : List (Option ℕ)) (fewest numbers : List ℕ)
     (i begin index team count number : ℕ)
@@ -79,34 +79,34 @@ pub too_few : (rs : List Record) (tasks : List ℕ) (teams : List (Option ℕ)) 
     → IsMissed rs i
 too_few rs tasks teams fewest numbers i begin index team count number c less =
     elim (c.are_fewest.are_fewest.reached team count c.is_count) [
-  | inl most ↦
-      let below = slice_get_within (barrier_begins rs c.barrier.task) number begin numbered in
-      let short : length (barrier_begins rs c.barrier.task) ≤ length rs =
+      | inl most ↦
+          let below = slice_get_within (barrier_begins rs c.barrier.task) number begin numbered in
+          let short : length (barrier_begins rs c.barrier.task) ≤ length rs =
           begins_few rs c.barrier.task (length rs) in
-      let few = c.few in
-      absurd (omega (arith, most, below, short, few, less))
-  | inr is ↦
-      let inside = slice_get_within teams is.index (Some team) is.in_team in
-      let all = c.are_teams.all in
-      let found = get_within tasks is.index (omega (arith, inside, all)) in
-      let places = c.are_fewest.are_begins.each is.index found.0 found.1 in
-      let long : length (row_at c.are_fewest.begins is.index) ≡ length (barrier_begins rs found.0) =
+          let few = c.few in
+          absurd (omega (arith, most, below, short, few, less))
+      | inr is ↦
+          let inside = slice_get_within teams is.index (Some team) is.in_team in
+          let all = c.are_teams.all in
+          let found = get_within tasks is.index (omega (arith, inside, all)) in
+          let places = c.are_fewest.are_begins.each is.index found.0 found.1 in
+          let long : length (row_at c.are_fewest.begins is.index) ≡ length (barrier_begins rs found.0) =
           ap length places in
-      record {
-        begin = begin;
-        barrier = c.barrier;
-        number = number;
-        numbered = numbered;
-        member = found.0;
-        mate =
-            (c.are_teams.mates index is.index c.barrier.task found.0 team c.is_task found.1 c.is_team).0
+          record {
+            begin = begin;
+            barrier = c.barrier;
+            number = number;
+            numbered = numbered;
+            member = found.0;
+            mate =
+                (c.are_teams.mates index is.index c.barrier.task found.0 team c.is_task found.1 c.is_team).0
                 is.in_team;
-        never = λ start begins.
-            let within = slice_get_within (barrier_begins rs found.0) number start begins in
-            let fewer = is.few in
-            omega (arith, within, long, fewer, less);
-      }
-]
+            never = λ start begins.
+                let within = slice_get_within (barrier_begins rs found.0) number start begins in
+                let fewer = is.few in
+                omega (arith, within, long, fewer, less);
+          }
+    ]
   where
     numbered : IsBarrierBegin rs c.barrier.task number begin
     numbered = numbered_there rs tasks teams fewest numbers i begin index team count number c
@@ -116,7 +116,7 @@ pub missed_mate : (rs : List Record) (i begin : ℕ) (b : EndsBarrier rs i begin
     → IsTeammate rs b.task m.member × IsBarrierBegin rs b.task m.number begin
 missed_mate rs i begin b m =
     let same =
-        one_region rs i m.barrier.task b.task m.begin begin m.barrier.kind b.kind m.barrier.ends b.ends in
+    one_region rs i m.barrier.task b.task m.begin begin m.barrier.kind b.kind m.barrier.ends b.ends in
     let P : ℕ → Type 0 = λ t. IsTeammate rs t m.member in
     let Q : ℕ → Type 0 = λ t. IsBarrierBegin rs t m.number m.begin in
     let R : ℕ → Type 0 = IsBarrierBegin rs b.task m.number in
@@ -129,24 +129,24 @@ pub missed_few : (rs : List Record) (tasks : List ℕ) (teams : List (Option ℕ
 missed_few rs tasks teams fewest numbers i begin index team count number c m =
     let mate = missed_mate rs i begin c.barrier m in
     let same : number ≡ m.number =
-        one_number rs c.barrier.task number m.number begin
-            (numbered_there rs tasks teams fewest numbers i begin index team count number c) mate.1 in
+    one_number rs c.barrier.task number m.number begin
+    (numbered_there rs tasks teams fewest numbers i begin index team count number c) mate.1 in
     let member = mate_index rs tasks index c.barrier.task m.member c.made_all c.is_task mate.0 in
     let in_team =
-        (c.are_teams.mates index member.0 c.barrier.task m.member team c.is_task member.1 c.is_team).1
-            mate.0 in
+    (c.are_teams.mates index member.0 c.barrier.task m.member team c.is_task member.1 c.is_team).1
+    mate.0 in
     let inside = slice_get_within tasks member.0 m.member member.1 in
     let all_teams = c.are_teams.all in
     let low =
-        c.are_fewest.are_fewest.low member.0 team count (omega (arith, inside, all_teams)) in_team
-            c.is_count in
+    c.are_fewest.are_fewest.low member.0 team count (omega (arith, inside, all_teams)) in_team
+    c.is_count in
     let long : length (row_at c.are_fewest.begins member.0) ≡ length (barrier_begins rs m.member) =
-        ap length (c.are_fewest.are_begins.each member.0 m.member member.1) in
+    ap length (c.are_fewest.are_begins.each member.0 m.member member.1) in
     elim (cases_lt m.number (length (barrier_begins rs m.member))) [
       | inl begins ↦
           absurd
-              (m.never (get_or (barrier_begins rs m.member) m.number 0)
-                  (slice_get-get_or (barrier_begins rs m.member) m.number 0 begins))
+          (m.never (get_or (barrier_begins rs m.member) m.number 0)
+          (slice_get-get_or (barrier_begins rs m.member) m.number 0 begins))
       | inr never ↦ omega (arith, low, long, never, same)
     ]
 

@@ -49,7 +49,7 @@ pub one_region : (rs : List Record) (i task other begin start : ℕ) (kind anoth
 one_region rs i task other begin start kind another (ended here) (ended there) =
     let same = same_says rs i task other kind another End End here.ends there.ends in
     let P : ℕ → Type 0 =
-        λ t. slice_get (Rattle.ompt_events.specs.Regions.open_regions rs t i) 0 ≡ Some start in
+    λ t. slice_get (Rattle.ompt_events.specs.Regions.open_regions rs t i) 0 ≡ Some start in
     record {
       task_is = same.0;
       kind_is = same.1;

@@ -97,8 +97,8 @@ seats_more rs n tasks m own seats apart joins is_own free are = record {
   rest =
       let fewer = empty_set seats m.index own free in
       let more =
-          ap length (members_pushed rs m.parallel n m joins refl)
-              ∙ length_push (members_before rs m.parallel n) m in
+      ap length (members_pushed rs m.parallel n m joins refl)
+      ∙ length_push (members_before rs m.parallel n) m in
       let long = length-set seats m.index (Some own) in
       let before = are.rest in
       omega (arith, fewer, more, long, before);
@@ -106,16 +106,16 @@ seats_more rs n tasks m own seats apart joins is_own free are = record {
     | inl last ↦
         let is_m : m ≡ e = same_Some m e (sym joins ∙ ap (at joined rs) (sym last) ∙ joins') in
         let one : own ≡ index =
-            apart own index e.member (is_own ∙ ap (λ (x : Membership). Some x.member) is_m) is in
+        apart own index e.member (is_own ∙ ap (λ (x : Membership). Some x.member) is_m) is in
         ap (slice_get (set seats m.index (Some own))) (ap (λ (x : Membership). x.index) (sym is_m))
-            ∙ get_set_same seats m.index (Some own) within ∙ ap (λ x. Some (Some x)) one
+        ∙ get_set_same seats m.index (Some own) within ∙ ap (λ x. Some (Some x)) one
     | inr earlier ↦
         let old = are.seated k index e (omega (arith, below, earlier)) joins' same is in
         get_set_other seats m.index e.index (Some own)
-            (λ one.
-                none-some index
-                    (same_Some None (Some index) (sym free ∙ ap (slice_get seats) (sym one) ∙ old)))
-            ∙ old
+        (λ one.
+        none-some index
+        (same_Some None (Some index) (sym free ∙ ap (slice_get seats) (sym one) ∙ old)))
+        ∙ old
   ];
   only = λ number index stands. elim (cases_eq number m.index) [
     | inl one ↦ record {
@@ -127,15 +127,15 @@ seats_more rs n tasks m own seats apart joins is_own free are = record {
       numbered = sym one;
       here =
           ap (slice_get tasks)
-              (same_Some index own
-                  (same_Some (Some index) (Some own)
-                      (sym stands ∙ ap (slice_get (set seats m.index (Some own))) one
-                          ∙ get_set_same seats m.index (Some own) within)))
-              ∙ is_own;
+          (same_Some index own
+          (same_Some (Some index) (Some own)
+          (sym stands ∙ ap (slice_get (set seats m.index (Some own))) one
+          ∙ get_set_same seats m.index (Some own) within)))
+          ∙ is_own;
     }
     | inr different ↦
         seat_later rs n tasks m.parallel number index
-            (are.only number index (sym (get_set_other seats m.index number (Some own) different) ∙ stands))
+        (are.only number index (sym (get_set_other seats m.index number (Some own) different) ∙ stands))
   ];
 }
   where
@@ -148,8 +148,8 @@ seated_same rs n tasks rosters are none = record {
   all = are.all;
   each =
       λ parallel lead roster leads stands.
-          seats_same rs n tasks parallel roster.items (λ m joins same. never_of (at joined rs n) m none joins)
-              (are.each parallel lead roster leads stands);
+      seats_same rs n tasks parallel roster.items (λ m joins same. never_of (at joined rs n) m none joins)
+      (are.each parallel lead roster leads stands);
   own = are.own;
   other = are.other;
 }
@@ -161,48 +161,50 @@ pub seated_more : (rs : List Record) (n : ℕ) (tasks : List ℕ) (rosters : Lis
     → slice_get rosters lead ≡ Some old → slice_get old.items m.index ≡ Some None
     → new.items ≡ set old.items m.index (Some own) → AreSeated rs (n + 1) tasks (set rosters lead new)
 seated_more rs n tasks rosters m lead own old new free apart are joins leads is_own stands_old is_free is_new
-        =
+    =
     record {
-  all = length-set rosters lead new ∙ are.all;
-  each = λ parallel index roster leads' stands. elim (cases_eq index lead) [
-    | inl same ↦
-        let P : ℕ → Type 0 = IsLead rs tasks parallel in
-        let is_parallel : m.parallel ≡ parallel =
+      all = length-set rosters lead new ∙ are.all;
+      each = λ parallel index roster leads' stands. elim (cases_eq index lead) [
+        | inl same ↦
+            let P : ℕ → Type 0 = IsLead rs tasks parallel in
+            let is_parallel : m.parallel ≡ parallel =
             lead_other rs tasks m.parallel parallel lead free leads (subst P same leads') in
-        let is_roster : new ≡ roster =
+            let is_roster : new ≡ roster =
             same_Some new roster
-                (sym (get_set_same rosters lead new (slice_get_within rosters lead old stands_old))
-                    ∙ ap (slice_get (set rosters lead new)) (sym same) ∙ stands) in
-        let Q : ℕ → Type 0 = λ p. AreSeats rs (n + 1) tasks p roster.items in
-        let R : List (Option ℕ) → Type 0 = AreSeats rs (n + 1) tasks m.parallel in
-        subst Q is_parallel
+            (sym (get_set_same rosters lead new (slice_get_within rosters lead old stands_old))
+            ∙ ap (slice_get (set rosters lead new)) (sym same) ∙ stands) in
+            let Q : ℕ → Type 0 = λ p. AreSeats rs (n + 1) tasks p roster.items in
+            let R : List (Option ℕ) → Type 0 = AreSeats rs (n + 1) tasks m.parallel in
+            subst Q is_parallel
             (subst R (sym is_new ∙ ap (λ (v : Vec (Option ℕ)). v.items) is_roster)
-                (seats_more rs n tasks m own old.items apart joins is_own is_free
-                    (are.each m.parallel lead old leads stands_old)))
-    | inr different ↦
-        seats_same rs n tasks parallel roster.items
-        (λ e joins' same.
-        let is_m : m ≡ e = same_Some m e (sym joins ∙ joins') in
-        let P : ℕ → Type 0 = λ p. IsLead rs tasks p lead in
-        different
+            (seats_more rs n tasks m own old.items apart joins is_own is_free
+            (are.each m.parallel lead old leads stands_old)))
+        | inr different ↦
+            seats_same rs n tasks parallel roster.items
+            (λ e joins' same.
+            let is_m : m ≡ e = same_Some m e (sym joins ∙ joins') in
+            let P : ℕ → Type 0 = λ p. IsLead rs tasks p lead in
+            different
             (lead_one rs tasks parallel index lead apart leads'
-                (subst P (ap (λ (x : Membership). x.parallel) is_m ∙ same) leads)))
-        (are.each parallel index roster leads'
+            (subst P (ap (λ (x : Membership). x.parallel) is_m ∙ same) leads)))
+            (are.each parallel index roster leads'
             (sym (get_set_other rosters lead index new different) ∙ stands))
-  ];
-  own = λ index task roster is_task initial stands.
-      let different : index ≢ lead =
+      ];
+      own = λ index task roster is_task initial stands.
+          let different : index ≢ lead =
           λ same.
-              own_lead rs tasks initial.0 m.parallel task index lead free is_task initial.1 leads
-                  (sym same) in
-      are.own index task roster is_task initial
+          own_lead rs tasks initial.0 m.parallel task index lead free is_task initial.1 leads
+          (sym same) in
+          are.own index task roster is_task initial
           (sym (get_set_other rosters lead index new different) ∙ stands);
-  other = λ index roster stands. elim (cases_eq index lead) [
-    | inl same ↦
-        let P : ℕ → Type 0 = IsLead rs tasks m.parallel in inr (inl (m.parallel, subst P (sym same) leads))
-    | inr different ↦ are.other index roster (sym (get_set_other rosters lead index new different) ∙ stands)
-  ];
-}
+      other = λ index roster stands. elim (cases_eq index lead) [
+        | inl same ↦
+            let P : ℕ → Type 0 = IsLead rs tasks m.parallel in
+            inr (inl (m.parallel, subst P (sym same) leads))
+        | inr different ↦
+            are.other index roster (sym (get_set_other rosters lead index new different) ∙ stands)
+      ];
+    }
 
 -- ---- whether a member fits
 
@@ -213,12 +215,12 @@ pub says_other : (rs : List Record) (i : ℕ) (tasks : List ℕ) (lead : ℕ) (m
 says_other rs i tasks lead m leads joins different = elim (cases_order leads.place i) [
   | inl same ↦
       absurd
-          (different
-              (ap (λ (x : Membership). x.actual)
-                  (same_Some leads.first m (sym leads.joins ∙ ap (at joined rs) same ∙ joins))))
+      (different
+      (ap (λ (x : Membership). x.actual)
+      (same_Some leads.first m (sym leads.joins ∙ ap (at joined rs) same ∙ joins))))
   | inr (inl less) ↦
       other_size m leads.first joins
-          (place_member rs m.parallel i leads.place leads.first less leads.joins leads.same) different
+      (place_member rs m.parallel i leads.place leads.first less leads.joins leads.same) different
   | inr (inr more) ↦ absurd (leads.earliest i m more joins refl)
 ]
 
@@ -231,20 +233,20 @@ one_size rs i tasks lead m e leads whole has =
     elim (cases_eq leads.first.actual e.actual) [
       | inl same ↦ sym same
       | inr different ↦
-          absurd ( whole place.place place.before (ap is_some place.joins) (
-              elim (cases_order leads.place place.place) [
-        | inl same ↦
-            absurd
+          absurd (whole place.place place.before (ap is_some place.joins) (
+          elim (cases_order leads.place place.place) [
+            | inl same ↦
+                absurd
                 (different
-                    (ap (λ (x : Membership). x.actual)
-                        (same_Some leads.first e (sym leads.joins ∙ ap (at joined rs) same ∙ place.joins))))
-        | inr (inl less) ↦
-            other_size e leads.first place.joins
+                (ap (λ (x : Membership). x.actual)
+                (same_Some leads.first e (sym leads.joins ∙ ap (at joined rs) same ∙ place.joins))))
+            | inr (inl less) ↦
+                other_size e leads.first place.joins
                 (place_member rs e.parallel place.place leads.place leads.first less leads.joins
-                    (leads.same ∙ sym place.same))
+                (leads.same ∙ sym place.same))
                 different
-        | inr (inr more) ↦ absurd (leads.earliest place.place e more place.joins place.same)
-      ]))
+            | inr (inr more) ↦ absurd (leads.earliest place.place e more place.joins place.same)
+          ]))
     ]
 
 pub too_small : (rs : List Record) (i : ℕ) (tasks sizes : List ℕ) (lead size : ℕ) (m : Membership)
@@ -278,7 +280,7 @@ pub seat_taken : (rs : List Record) (i : ℕ) (tasks : List ℕ) (m : Membership
 seat_taken rs i tasks m seats other joins are stands =
     let seat = are.only m.index other stands in
     same_index m seat.m joins
-        (place_member rs m.parallel i seat.place seat.m seat.before seat.joins seat.same) seat.numbered
+    (place_member rs m.parallel i seat.place seat.m seat.before seat.joins seat.same) seat.numbered
 
 pub seat_free : (rs : List Record) (i : ℕ) (tasks : List ℕ) (m : Membership) (seats : List (Option ℕ))
     → AreNoted made rs (length rs) tasks → at joined rs i ≡ Some m → Fits rs i m
@@ -291,12 +293,12 @@ seat_free rs i tasks m seats noted joins fits are free = λ x joins'.
       alone = λ e has same.
           let place = member_place rs m.parallel i e has in
           let index =
-              contains_get tasks e.member
-                  (noted.each place.place e.member (at_within joined rs place.place e place.joins)
-                      (joined_at_made rs place.place e place.joins)) in
+          contains_get tasks e.member
+          (noted.each place.place e.member (at_within joined rs place.place e place.joins)
+          (joined_at_made rs place.place e place.joins)) in
           let stands = are.seated place.place index.0 e place.before place.joins place.same index.1 in
           none-some index.0
-              (same_Some None (Some index.0) (sym free ∙ ap (slice_get seats) (sym same) ∙ stands));
+          (same_Some None (Some index.0) (sym free ∙ ap (slice_get seats) (sym same) ∙ stands));
     })
 
 pub lacks_none : (rs : List Record) (i : ℕ) → at joined rs i ≡ None → LacksNothing rs i
@@ -312,9 +314,9 @@ none_in size number index seats is stands =
     let inside = slice_get_within seats number (Some index) stands in
     let within : number < size = omega (arith, inside, long) in
     let none : slice_get seats number ≡ Some None =
-        ap (λ l. slice_get l number) is
-            ∙ slice_get-get_or (replicate size None) number None (rw (length-replicate size nothing) within)
-            ∙ ap Some (get_or-replicate size number None None within) in
+    ap (λ l. slice_get l number) is
+    ∙ slice_get-get_or (replicate size None) number None (rw (length-replicate size nothing) within)
+    ∙ ap Some (get_or-replicate size number None None within) in
     none-some index (same_Some None (Some index) (sym none ∙ stands))
 
 first_seats : (rs : List Record) (tasks sizes : List ℕ) (parallel lead : ℕ) (seats : List (Option ℕ))
@@ -350,18 +352,18 @@ no_length (x ∷ xs) is = absurd (omega (arith, is))
 first_other : (rs : List Record) (tasks sizes : List ℕ) (index : ℕ) (seats : List (Option ℕ))
     → AreSizes rs (length rs) tasks sizes → AreFirstSeats rs tasks sizes index seats
     → (seats ≡ [])
-        ⊎ (((parallel : ℕ) × IsLead rs tasks parallel index)
-              ⊎ ((task : ℕ) × (slice_get tasks index ≡ Some task) × IsInitial rs task))
+    ⊎ (((parallel : ℕ) × IsLead rs tasks parallel index)
+    ⊎ ((task : ℕ) × (slice_get tasks index ≡ Some task) × IsInitial rs task))
 first_other rs tasks sizes index seats are (own_seat task is_task initial is) =
     inr (inr (task, is_task, initial))
 first_other rs tasks sizes index seats are (empty task size is_task not_initial is_size is) =
     elim (cases_lt 0 size) [
-  | inl some ↦ inr (inl (are.only index size is_size some))
-  | inr none ↦
-      let nothing : Option ℕ = None in
-      let long : length seats ≡ size = ap length is ∙ length-replicate size nothing in
-      inl (no_length seats (omega (arith, long, none)))
-]
+      | inl some ↦ inr (inl (are.only index size is_size some))
+      | inr none ↦
+          let nothing : Option ℕ = None in
+          let long : length seats ≡ size = ap length is ∙ length-replicate size nothing in
+          inl (no_length seats (omega (arith, long, none)))
+    ]
 
 pub rosters_more : (rs : List Record) (tasks sizes : List ℕ) (n : ℕ) (rosters : List (Vec (Option ℕ)))
     (last : Vec (Option ℕ))
@@ -385,14 +387,14 @@ rosters_seated rs tasks sizes n rosters free sizes_are all are = record {
   all = are.all ∙ all ∙ sizes_are.all;
   each =
       λ parallel lead roster leads stands.
-          first_seats rs tasks sizes parallel lead roster.items free sizes_are leads
-              (are.each lead roster stands);
+      first_seats rs tasks sizes parallel lead roster.items free sizes_are leads
+      (are.each lead roster stands);
   own =
       λ index task roster is_task initial stands.
-          first_own rs tasks sizes index task roster.items is_task initial (are.each index roster stands);
+      first_own rs tasks sizes index task roster.items is_task initial (are.each index roster stands);
   other =
       λ index roster stands.
-          first_other rs tasks sizes index roster.items sizes_are (are.each index roster stands);
+      first_other rs tasks sizes index roster.items sizes_are (are.each index roster stands);
 }
 
 -- an initial task begins by the record that makes it
@@ -400,7 +402,7 @@ pub not_initial_there : (rs : List Record) (place task : ℕ) → IsFreeOf rs Cr
     → at made rs place ≡ Some task → at begun_initial rs place ≡ None → IsInitial rs task → ⊥
 not_initial_there rs place task free is_made none initial =
     let same : initial.0 ≡ place =
-        made_once rs task initial.0 place free (initial_at_made rs initial.0 task initial.1) is_made in
+    made_once rs task initial.0 place free (initial_at_made rs initial.0 task initial.1) is_made in
     never_of (at begun_initial rs place) task none (ap (at begun_initial rs) (sym same) ∙ initial.1)
 
 pub initial_there : (rs : List Record) (place task other : ℕ) → at made rs place ≡ Some task
@@ -420,12 +422,12 @@ pub same_first : (rs : List Record) (tasks : List ℕ) (lead place there : ℕ) 
     → at joined rs place ≡ Some first → slice_get tasks lead ≡ Some first.member → found ≡ first
 same_first rs tasks lead place there first found free is_made joins' joins is =
     (joined_once rs there place found first free joins' joins
-        (same_Some found.member first.member (sym (joined_at_made rs there found joins') ∙ is_made ∙ is))).1
+    (same_Some found.member first.member (sym (joined_at_made rs there found joins') ∙ is_made ∙ is))).1
 
 pub first_joins : (rs : List Record) (tasks : List ℕ) (lead place there : ℕ) (first : Membership)
     → IsFreeOf rs CreatedTwice → at made rs there ≡ slice_get tasks lead → at joined rs place ≡ Some first
     → slice_get tasks lead ≡ Some first.member → at joined rs there ≡ Some first
 first_joins rs tasks lead place there first free is_made joins is =
     ap (at joined rs)
-        (made_once rs first.member there place free (is_made ∙ is) (joined_at_made rs place first joins))
-        ∙ joins
+    (made_once rs first.member there place free (is_made ∙ is) (joined_at_made rs place first joins))
+    ∙ joins

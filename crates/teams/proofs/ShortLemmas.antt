@@ -59,7 +59,7 @@ missed_joins : (rs : List Record) (i : ℕ) → IsMissed rs i → is_some (at jo
 missed_joins rs i m joins =
     let ends = ends_at rs i m.barrier.task m.begin m.barrier.kind m.barrier.ends in
     false≢true
-        (sym (ap is_some (region_joins rs i m.barrier.task m.barrier.kind ends.endpoint ends.says)) ∙ joins)
+    (sym (ap is_some (region_joins rs i m.barrier.task m.barrier.kind ends.endpoint ends.says)) ∙ joins)
 
 -- a record shows a lack where a member begins, or where a barrier ends that a member misses
 short_cases : (rs : List Record) (i : ℕ) → IsShort rs i → (is_some (at joined rs i) ≡ true) ⊎ IsMissed rs i
@@ -88,20 +88,20 @@ not_short rs i fine begins (other_size m e joins has different) =
 not_short rs i fine begins (few m joins less) =
     let enough = (fine m joins).fits.enough in omega (arith, enough, less)
 not_short rs i fine begins (missed task member begin number kind ends barrier numbered mate never) =
-    missed_joins rs i ( record {
-  begin = begin;
-  barrier = record { task = task; kind = kind; ends = ends; barrier = barrier };
-  number = number;
-  numbered = numbered;
-  member = member;
-  mate = mate;
-  never = never;
-}) begins
+    missed_joins rs i (record {
+      begin = begin;
+      barrier = record { task = task; kind = kind; ends = ends; barrier = barrier };
+      number = number;
+      numbered = numbered;
+      member = member;
+      mate = mate;
+      never = never;
+    }) begins
 
 missed_short : (rs : List Record) (i : ℕ) → IsMissed rs i → IsShort rs i
 missed_short rs i m =
     missed m.barrier.task m.member m.begin m.number m.barrier.kind m.barrier.ends m.barrier.barrier m.numbered
-        m.mate m.never
+    m.mate m.never
 
 of_cause : (rs : List Record) (i : ℕ) → HasCause rs i TeamShort → IsShort rs i
 of_cause rs i (team_short is) = is
@@ -143,7 +143,7 @@ lack_first own place k number is lack below stands joins short = elim (cases_ord
 -- a place below both bounds
 first_of : (own : OwnView) (place : ℕ) → HasCauseAt own TeamShort place
     → ((k number : ℕ) → k < place → slice_get own.places number ≡ Some k
-          → is_some (at joined own.run.records number) ≡ true → IsShort own.run.records number → ⊥)
+    → is_some (at joined own.run.records number) ≡ true → IsShort own.run.records number → ⊥)
     → IsMissedNowhere own place → IsFirstPlaceWith own TeamShort place
 first_of own place has whole none = record {
   has = has;
@@ -178,19 +178,19 @@ pub searched : (own : OwnView) (rosters : List (Vec (Option ℕ))) (lacking foun
 searched own rosters None None is seated none = (free_short own is seated.0 none, seated.1)
 searched own rosters (Some place) None is lack none =
     first_of own place (lack.number, lack.stands, team_short lack.short)
-        (λ k number below stands joins short. lack_first own place k number is lack below stands joins short)
-        none
+    (λ k number below stands joins short. lack_first own place k number is lack below stands joins short)
+    none
 searched own rosters None (Some place) is seated first =
     first_of own place (missed_at own place first.missed)
-        (λ k number below stands joins short.
-            seated.0 number (short_within own.run.records number short) joins short)
-        first.first
+    (λ k number below stands joins short.
+    seated.0 number (short_within own.run.records number short) joins short)
+    first.first
 searched own rosters (Some bound) (Some place) is lack first =
     first_of own place (missed_at own place first.missed)
-        (λ k number below stands joins short.
-            lack_first own bound k number is lack (let before = first.before in omega (arith, below, before))
-                stands joins short)
-        first.first
+    (λ k number below stands joins short.
+    lack_first own bound k number is lack (let before = first.before in omega (arith, below, before))
+    stands joins short)
+    first.first
 
 -- ---- the tables
 
@@ -201,14 +201,14 @@ teams_within rs n tasks teams are = λ index team stands.
     let all = are.all in
     let within : index < length tasks = omega (arith, inside, all) in
     let lead =
-        of (are.known index (get_or tasks index 0) team (slice_get-get_or tasks index 0 within) stands)
-            within in
+    of (are.known index (get_or tasks index 0) team (slice_get-get_or tasks index 0 within) stands)
+    within in
     omega (arith, lead, all)
   where
     of : {index task team : ℕ} → IsInTeam rs n tasks index task team → index < length tasks
         → team < length tasks
     of (in_own i below is same) within = omega (arith, within, same)
-    of { team = team } (in_joined i m below joins is leads) within =
+    of {team = team} (in_joined i m below joins is leads) within =
         slice_get_within tasks team leads.first.member leads.here
 
 pub begins_short : (rs : List Record) (n most : ℕ) (tasks : List ℕ) (begins : List (Vec ℕ))
@@ -222,7 +222,7 @@ begins_short rs n most tasks begins are less = λ index. elim (cases_lt index (l
   | inr past ↦
       let made = are.within in
       let none : length (row_at begins index) ≡ 0 =
-          ap (λ o. length (row_items o)) (slice_get_past begins index (omega (arith, past, made))) in
+      ap (λ o. length (row_items o)) (slice_get_past begins index (omega (arith, past, made))) in
       omega (arith, none)
 ]
 
@@ -238,8 +238,8 @@ seat_numbered rs tasks task mate number other i m joins is is_mate seat =
     let own = place_member rs m.parallel (length rs) i m (at_within joined rs i m joins) joins refl in
     let mates = place_member rs m.parallel (length rs) seat.place seat.m seat.before seat.joins seat.same in
     subst P seat.numbered
-        (subst Q (same_Some seat.m.member mate (sym seat.here ∙ is_mate))
-            (together m.parallel m seat.m own is mates))
+    (subst Q (same_Some seat.m.member mate (sym seat.here ∙ is_mate))
+    (together m.parallel m seat.m own is mates))
 
 -- a member's number in the words of the teams
 record AreNumbered (rs : List Record) (task number mate : ℕ) : Type 0 where
@@ -279,11 +279,12 @@ only_seat : (seats : List (Option ℕ)) (index number other : ℕ) → seats ≡
 only_seat seats index number other is stands =
     let one : length seats ≡ 1 = ap length is in
     let inside = slice_get_within seats number (Some other) stands in
-    let first : number ≡ 0 = omega (arith, one, inside) in
-    (first,
-        same_Some other index
-            (same_Some (Some other) (Some index)
-                (sym stands ∙ ap (slice_get seats) first ∙ ap (λ l. slice_get l 0) is)))
+    let first : number ≡ 0 = omega (arith, one, inside) in (
+      first,
+      same_Some other index
+          (same_Some (Some other) (Some index)
+          (sym stands ∙ ap (slice_get seats) first ∙ ap (λ l. slice_get l 0) is)),
+    )
 
 own_numbered : (rs : List Record) (tasks : List ℕ) (index task other mate number : ℕ)
     (seats : List (Option ℕ))
@@ -296,7 +297,7 @@ own_numbered rs tasks index task other mate number seats free apart initial is_t
       let P : ℕ → Type 0 = λ k. IsMemberNumbered rs task k mate in
       let Q : ℕ → Type 0 = IsMemberNumbered rs task 0 in
       let same : task ≡ mate =
-          same_Some task mate (sym is_task ∙ ap (slice_get tasks) (sym only.1) ∙ is_mate) in
+      same_Some task mate (sym is_task ∙ ap (slice_get tasks) (sym only.1) ∙ is_mate) in
       subst P (sym only.0) (subst Q same (alone initial)),
   λ numbered. elim (numbered_cases rs task number mate numbered) [
     | inl own ↦
@@ -304,7 +305,7 @@ own_numbered rs tasks index task other mate number seats free apart initial is_t
         ap (slice_get seats) own.2 ∙ ap (λ l. slice_get l 0) is ∙ ap (λ k. Some (Some k)) (sym same)
     | inr both ↦
         absurd
-            (initial_once rs initial.0 both.own_place task both.own free initial.1 both.own_joins both.own_is)
+        (initial_once rs initial.0 both.own_place task both.own free initial.1 both.own_joins both.own_is)
   ],
 )
 
@@ -319,13 +320,13 @@ joined_numbered rs tasks task other mate number i m seats free joins is is_mate 
     | inl own ↦ absurd (initial_once rs own.0.0 i task m free own.0.1 joins is)
     | inr both ↦
         let one =
-            (joined_once rs both.own_place i both.own m free both.own_joins joins (both.own_is ∙ sym is)).1 in
+        (joined_once rs both.own_place i both.own m free both.own_joins joins (both.own_is ∙ sym is)).1 in
         let same : both.other.parallel ≡ m.parallel =
-            sym both.same ∙ ap (λ (x : Membership). x.parallel) one in
+        sym both.same ∙ ap (λ (x : Membership). x.parallel) one in
         ap (slice_get seats) (sym both.numbered)
-            ∙ are.seated both.other_place other both.other
-                (at_within joined rs both.other_place both.other both.other_joins) both.other_joins same
-                (is_mate ∙ ap Some (sym both.other_is))
+        ∙ are.seated both.other_place other both.other
+        (at_within joined rs both.other_place both.other both.other_joins) both.other_joins same
+        (is_mate ∙ ap Some (sym both.other_is))
   ],
 )
 
@@ -336,13 +337,13 @@ numbered_in : (rs : List Record) (tasks : List ℕ) (rosters : List (Vec (Option
     → slice_get tasks other ≡ Some mate → IsInTeam rs (length rs) tasks index task team
     → (slice_get roster.items number ≡ Some (Some other)) ↔ IsMemberNumbered rs task number mate
 numbered_in rs tasks rosters index task team other mate number roster free apart are is_task is_roster is_mate
-        (in_own i below is same) =
+    (in_own i below is same) =
     own_numbered rs tasks index task other mate number roster.items free apart (i, is) is_task is_mate
-        (are.own index task roster is_task (i, is) (ap (slice_get rosters) (sym same) ∙ is_roster))
+    (are.own index task roster is_task (i, is) (ap (slice_get rosters) (sym same) ∙ is_roster))
 numbered_in rs tasks rosters index task team other mate number roster free apart are is_task is_roster is_mate
-        (in_joined i m below joins is leads) =
+    (in_joined i m below joins is leads) =
     joined_numbered rs tasks task other mate number i m roster.items free joins is is_mate
-        (are.each m.parallel team roster leads is_roster)
+    (are.each m.parallel team roster leads is_roster)
 
 -- a team has no empty seat where all its members began
 full_seats : (rs : List Record) (tasks : List ℕ) (parallel number : ℕ) (seats : List (Option ℕ))
@@ -368,9 +369,11 @@ full_roster rs tasks rosters team number roster are stands within = elim (are.ot
   | inr (inr own) ↦
       let is = are.own team own.0 roster own.1 own.2 stands in
       let one : length roster.items ≡ 1 = ap length is in
-      let first : number ≡ 0 = omega (arith, one, within) in
-      (team, ap (slice_get roster.items) first ∙ ap (λ l. slice_get l 0) is,
-          slice_get_within tasks team own.0 own.1)
+      let first : number ≡ 0 = omega (arith, one, within) in (
+        team,
+        ap (slice_get roster.items) first ∙ ap (λ l. slice_get l 0) is,
+        slice_get_within tasks team own.0 own.1,
+      )
 ]
 
 pub rosters_are : (rs : List Record) (tasks : List ℕ) (teams : List (Option ℕ))
@@ -380,15 +383,15 @@ pub rosters_are : (rs : List Record) (tasks : List ℕ) (teams : List (Option �
 rosters_are rs tasks teams rosters free apart are seated = record {
   within =
       λ index team stands.
-          let inside = teams_within rs (length rs) tasks teams are index team stands in
-          let all = are.all in let all_rosters = seated.all in omega (arith, inside, all, all_rosters);
+      let inside = teams_within rs (length rs) tasks teams are index team stands in
+      let all = are.all in let all_rosters = seated.all in omega (arith, inside, all, all_rosters);
   each =
       λ index task team number other mate roster is_task is_team is_roster is_mate.
-          numbered_in rs tasks rosters index task team other mate number roster free apart seated is_task
-              is_roster is_mate (are.known index task team is_task is_team);
+      numbered_in rs tasks rosters index task team other mate number roster free apart seated is_task
+      is_roster is_mate (are.known index task team is_task is_team);
   full =
       λ team number roster is_roster within.
-          full_roster rs tasks rosters team number roster seated is_roster within;
+      full_roster rs tasks rosters team number roster seated is_roster within;
 }
 
 -- ---- the tables
@@ -398,7 +401,7 @@ pub tables_fewest : (tables : TablesView) → AreTables tables
 tables_fewest tables are = record {
   within =
       teams_within tables.run.records (length tables.run.records) tables.run.family.tasks tables.teams
-          are.teams;
+      are.teams;
   begins = tables.begins;
   are_begins = are.begins;
   are_fewest = are.fewest;
@@ -420,10 +423,10 @@ teams_of tables rosters are found = record {
   placed = are.placed;
   teams =
       teams_are tables.run.records tables.run.family.tasks tables.teams are.run.family.once
-          are.run.family.makers.apart are.teams;
+      are.run.family.makers.apart are.teams;
   rosters =
       rosters_are tables.run.records tables.run.family.tasks tables.teams rosters are.run.family.once
-          are.run.family.makers.apart are.teams found.1;
+      are.run.family.makers.apart are.teams found.1;
   begins = are.begins;
   numbers = are.numbers;
   whole = found.0;

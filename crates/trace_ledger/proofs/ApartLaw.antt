@@ -41,26 +41,26 @@ one_of_begun : (rs : List Record) (e f : Entry) → IsRight rs e → IsRight rs 
 one_of_begun rs e f right also root begun =
     let P : ℕ → Type 0 = λ r. HasPath rs r f.task f.path in
     let alike : begins_with
-            (start_share e.path ++ (replicate (length (children rs e.task)) Keep ++ part_halves e.part))
-            (start_share f.path ++ (replicate (length (children rs f.task)) Keep ++ part_halves f.part))
-            ≡ true =
+    (start_share e.path ++ (replicate (length (children rs e.task)) Keep ++ part_halves e.part))
+    (start_share f.path ++ (replicate (length (children rs f.task)) Keep ++ part_halves f.part))
+    ≡ true =
     ap
-        (λ k.
-            begins_with (start_share e.path ++ (replicate k Keep ++ part_halves e.part))
-                (start_share f.path ++ (replicate (length (children rs f.task)) Keep ++ part_halves f.part)))
-        (sym right.kept)
+    (λ k.
+    begins_with (start_share e.path ++ (replicate k Keep ++ part_halves e.part))
+    (start_share f.path ++ (replicate (length (children rs f.task)) Keep ++ part_halves f.part)))
+    (sym right.kept)
     ∙ ap
-        (λ k.
-            begins_with (start_share e.path ++ (replicate e.kept Keep ++ part_halves e.part))
-                (start_share f.path ++ (replicate k Keep ++ part_halves f.part)))
-        (sym also.kept)
+    (λ k.
+    begins_with (start_share e.path ++ (replicate e.kept Keep ++ part_halves e.part))
+    (start_share f.path ++ (replicate k Keep ++ part_halves f.part)))
+    (sym also.kept)
     ∙ ap (λ s. begins_with s (start_share f.path ++ (replicate f.kept Keep ++ part_halves f.part)))
-        (sym (tree_share-split e))
+    (sym (tree_share-split e))
     ∙ ap (begins_with (tree_share e)) (sym (tree_share-split f)) ∙ begun in
     one_of_meeting rs e.root e.task f.task e.path f.path (part_halves e.part) (part_halves f.part)
-        right.stands (subst P (sym root) also.stands)
+    right.stands (subst P (sym root) also.stands)
     (meet (length (children rs e.task)) (length (children rs f.task)) (part_halves e.part)
-        (part_halves f.part) e.path f.path alike)
+    (part_halves f.part) e.path f.path alike)
 
 flipped : (e f : Entry) → AreOfOneHalf f e → AreOfOneHalf e f
 flipped e f is = record {
@@ -82,17 +82,18 @@ of_begun rs e f right also root begun =
       task_is = one.task_is;
       parts =
           or_left (begins_with (part_halves e.part) (part_halves f.part))
-              (begins_with (part_halves f.part) (part_halves e.part)) one.begun;
+          (begins_with (part_halves f.part) (part_halves e.part)) one.begun;
     }
 
 in_tree : (rs : List Record) (e f : Entry) → IsRight rs e → IsRight rs f → e.root ≡ f.root
     → overlaps (tree_share e) (tree_share f) ≡ true → AreOfOneHalf e f
 in_tree rs e f right also root on =
-    elim (or_cases (begins_with (tree_share e) (tree_share f)) (begins_with (tree_share f) (tree_share e)) on)
-        [
-  | inl first ↦ of_begun rs e f right also root first
-  | inr second ↦ flipped e f (of_begun rs f e also right (sym root) second)
-]
+    elim
+    (or_cases (begins_with (tree_share e) (tree_share f))
+    (begins_with (tree_share f) (tree_share e)) on) [
+      | inl first ↦ of_begun rs e f right also root first
+      | inr second ↦ flipped e f (of_begun rs f e also right (sym root) second)
+    ]
 
 -- ---- shares of a pool
 
@@ -104,12 +105,12 @@ in_pool rs e f right also root on = elim (cases_Bool (is_same_path e.path f.path
   | inl same ↦
       let P : ℕ → List ℕ → Type 0 = λ r p. HasPath rs r f.task p in
       let there : HasPath rs e.root f.task e.path =
-          subst (λ p. HasPath rs e.root f.task p) (sym (same_path-true e.path f.path same))
-              (subst (λ r. HasPath rs r f.task f.path) (sym root) also.stands) in
+      subst (λ p. HasPath rs e.root f.task p) (sym (same_path-true e.path f.path same))
+      (subst (λ r. HasPath rs r f.task f.path) (sym root) also.stands) in
       let deep : length e.path ≡ 0 → ⊥ =
-          λ top.
-              false≢true
-                  (sym (overlaps_in_pool-root e.path (parent_and_number f.path) e.part f.part top) ∙ on) in
+      λ top.
+      false≢true
+      (sym (overlaps_in_pool-root e.path (parent_and_number f.path) e.part f.part top) ∙ on) in
       record {
         task_is = one_task rs e.root e.task f.task e.path right.stands there;
         parts = sym (overlaps_in_pool-same e.path f.path e.part f.part deep same) ∙ on;
@@ -122,7 +123,7 @@ of_overlap : (rs : List Record) (e f : Entry) → IsRight rs e → IsRight rs f 
     → AreOfOneHalf e f
 of_overlap rs e f right also on =
     let in_one : Bool =
-        overlaps_in_pool (parent_and_number e.path) e.part (parent_and_number f.path) f.part in
+    overlaps_in_pool (parent_and_number e.path) e.part (parent_and_number f.path) f.part in
     let split = and_parts (e.root == f.root) (overlaps (tree_share e) (tree_share f) || in_one) on in
     let root = eqb-true e.root f.root split.0 in
     elim (or_cases (overlaps (tree_share e) (tree_share f)) in_one split.1) [
@@ -151,8 +152,8 @@ entries_apart rs i j index other e f entries apart made also =
     let one = of_overlap rs e f right right_other on in
     let finishes = from.finishes ∙ ap (λ t. Some (t, e.part)) one.task_is in
     let off =
-        halves_apart e.part f.part
-            (entries.parts i j f.task e.part f.part apart finishes from_other.finishes)
-            (entries.parts j i f.task f.part e.part (λ same. apart (sym same)) from_other.finishes
-                finishes) in
+    halves_apart e.part f.part
+    (entries.parts i j f.task e.part f.part apart finishes from_other.finishes)
+    (entries.parts j i f.task f.part e.part (λ same. apart (sym same)) from_other.finishes
+    finishes) in
     false≢true (sym off ∙ one.parts))))

@@ -73,7 +73,7 @@ among_first rs n task part (suc bound) = elim (among_first rs n task part bound)
 
 pub part_or_not : (rs : List Record) (n task : ℕ) (part : Part)
     → IsPartFinished rs (λ k. seen_at rs k < n) task part
-        ⊎ (IsPartFinished rs (λ k. seen_at rs k < n) task part → ⊥)
+    ⊎ (IsPartFinished rs (λ k. seen_at rs k < n) task part → ⊥)
 part_or_not rs n task part = elim (among_first rs n task part (length rs)) [
   | inl found ↦ inl (found.0, found.1.0, found.1.1)
   | inr none ↦ inr (λ (k, is, seen). none k (at_within finish rs k (task, part) is) (is, seen))
@@ -98,7 +98,7 @@ done_or_not rs n task = elim (part_or_not rs n task Whole) [
 abbrev IsMissing : List Record → ℕ → ℕ → Half → Type 0
 IsMissing rs n task h =
     (part : Part) (z : List Half) → begins_with (h ∷ z) (part_halves part) ≡ true
-        → IsPartFinished rs (λ k. seen_at rs k < n) task part → ⊥
+    → IsPartFinished rs (λ k. seen_at rs k < n) task part → ⊥
 
 pub missing_half : (rs : List Record) (n task : ℕ) → (IsDone rs n task → ⊥)
     → (h : Half) × IsMissing rs n task h

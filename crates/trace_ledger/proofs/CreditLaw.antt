@@ -23,14 +23,16 @@ pub held_in_pool : (rs : List Record) (entries : List Entry) (n root parent numb
     → IsTrace rs → HasRightEntries rs → IsLedgerOf rs entries → HasPath rs root parent path
     → IsChild rs parent number task → IsDone rs n task ↔ IsHeldInPool (take n entries) root path number
 held_in_pool rs entries n root parent number task path trace right are stands numbered =
-    let known = known_of rs entries trace right are in
-    (pool_held rs entries n root parent number task path known stands numbered,
-        pool_done rs entries n root parent number task path known stands numbered)
+    let known = known_of rs entries trace right are in (
+      pool_held rs entries n root parent number task path known stands numbered,
+      pool_done rs entries n root parent number task path known stands numbered,
+    )
 
 pub held_in_tree : (rs : List Record) (entries : List Entry) (n root task : ℕ) (path : List ℕ) → IsTrace rs
     → HasRightEntries rs → IsLedgerOf rs entries → HasPath rs root task path
     → IsFamilyDone rs n task ↔ IsHeldInTree (take n entries) root path
 held_in_tree rs entries n root task path trace right are stands =
-    let known = known_of rs entries trace right are in
-    (tree_held rs entries n root task path known stands,
-        λ held member of. tree_done rs entries n root task member path known stands held of)
+    let known = known_of rs entries trace right are in (
+      tree_held rs entries n root task path known stands,
+      λ held member of. tree_done rs entries n root task member path known stands held of,
+    )

@@ -64,7 +64,7 @@ entry_says rs i e made = there (slice_get rs i) refl made
           claimed = c;
           finishes =
               ap (option_and_then (λ (q : Record). finish q.body)) here ∙ finishes
-                  ∙ ap (λ (x : Entry). Some (x.task, x.part)) same;
+              ∙ ap (λ (x : Entry). Some (x.task, x.part)) same;
           claims = ap (option_and_then (λ (q : Record). claim q.body)) here ∙ claims;
           root = sym (ap (λ (x : Entry). x.root) same);
           path = sym (ap (λ (x : Entry). x.path) same);
@@ -100,7 +100,7 @@ entry_right rs i e free from wrong =
           wrong (record {
             stands =
                 subst (λ r. HasPath rs r e.task e.path) (sym from.root)
-                    (subst (λ p. HasPath rs from.claimed.root e.task p) (sym from.path) right.stands);
+                (subst (λ p. HasPath rs from.claimed.root e.task p) (sym from.path) right.stands);
             kept = from.kept ∙ right.kept;
           }),
     ))
@@ -129,15 +129,15 @@ entry_made rs i task part trace finishes = there (slice_get rs i) refl finishes
     there (Some r) here is =
         let sound : IsSound (get_or rs i r).body = trace.sound i r (slice_get_within rs i r here) in
         let same : IsSound r.body =
-            subst (λ (q : Record). IsSound q.body) (get_or_from_slice_get rs i r r here) sound in
+        subst (λ (q : Record). IsSound q.body) (get_or_from_slice_get rs i r r here) sound in
         let claims = claim_there (claim r.body) (finish r.body) (task, part) same.claimed is in (
           claimed_entry r.thread (task, part) claims.0,
           record {
             made = record {
               made =
                   ap (option_and_then entry_of) here
-                      ∙ ap (option_and_then (λ f. option_map (claimed_entry r.thread f) (claim r.body))) is
-                      ∙ ap (option_map (claimed_entry r.thread (task, part))) claims.1;
+                  ∙ ap (option_and_then (λ f. option_map (claimed_entry r.thread f) (claim r.body))) is
+                  ∙ ap (option_map (claimed_entry r.thread (task, part))) claims.1;
               seen = refl;
             };
             task_is = refl;
@@ -160,7 +160,7 @@ in_tree root (f ∷ entries) e (zero, is) own =
     (subst P (sym (same_Some f e is)) (cond_in (e.root == root) (tree_share e) (eq-eqb e.root root own)))
 in_tree root (f ∷ entries) e (suc k, is) own =
     IsIn-append_right (tree_share e) (cond (f.root == root) (tree_share f ∷ []) []) (tree_shares root entries)
-        (in_tree root entries e (k, is) own)
+    (in_tree root entries e (k, is) own)
 
 -- the entry is of this child of the task at the path
 abbrev pub IsOfChild : List ℕ → Entry → ℕ → Type 0
@@ -181,33 +181,33 @@ under false x xs there = absurd there
 pub from_pool : (root : ℕ) (parent : List ℕ) (entries : List Entry) (x : List Half)
     → IsIn x (pool_shares root parent entries)
     → (e : Entry) × (number : ℕ) × HasEntry entries e × (e.root ≡ root) × IsOfChild parent e number
-        × (x ≡ pool_share number e.part)
+    × (x ≡ pool_share number e.part)
 from_pool root parent [] x there = absurd there
 from_pool root parent (f ∷ entries) x there =
     elim
-        (IsIn-append_cases x
-            (cond (f.root == root) (share_in_pool parent (parent_and_number f.path) f.part) [])
-            (pool_shares root parent entries) there) [
-  | inl here ↦
-      let is = under (f.root == root) x (share_in_pool parent (parent_and_number f.path) f.part) here in
-      let of = from_share parent (parent_and_number f.path) f.part x is.1 in
-      (f, of.0, (0, refl), eqb-true f.root root is.0, of.1, of.2)
-  | inr rest ↦
-      let found = from_pool root parent entries x rest in
-      (found.0, found.1, has_later f found.0 entries found.2, found.3, found.4, found.5)
-]
+    (IsIn-append_cases x
+    (cond (f.root == root) (share_in_pool parent (parent_and_number f.path) f.part) [])
+    (pool_shares root parent entries) there) [
+      | inl here ↦
+          let is = under (f.root == root) x (share_in_pool parent (parent_and_number f.path) f.part) here in
+          let of = from_share parent (parent_and_number f.path) f.part x is.1 in
+          (f, of.0, (0, refl), eqb-true f.root root is.0, of.1, of.2)
+      | inr rest ↦
+          let found = from_pool root parent entries x rest in
+          (found.0, found.1, has_later f found.0 entries found.2, found.3, found.4, found.5)
+    ]
 
 own_share : (root number : ℕ) (parent : List ℕ) (e : Entry) → e.root ≡ root → IsOfChild parent e number
     → IsIn (pool_share number e.part)
-        (cond (e.root == root) (share_in_pool parent (parent_and_number e.path) e.part) [])
+    (cond (e.root == root) (share_in_pool parent (parent_and_number e.path) e.part) [])
 own_share root number parent e own of =
     let P : List (List Half) → Type 0 = λ xs. IsIn (pool_share number e.part) xs in
     let shares : cond (e.root == root) (share_in_pool parent (parent_and_number e.path) e.part) []
-            ≡ cond (is_same_path parent parent) (pool_share number e.part ∷ []) [] =
+    ≡ cond (is_same_path parent parent) (pool_share number e.part ∷ []) [] =
     ap (λ b. cond b (share_in_pool parent (parent_and_number e.path) e.part) []) (eq-eqb e.root root own)
-        ∙ ap (λ c. share_in_pool parent c e.part) of in
+    ∙ ap (λ c. share_in_pool parent c e.part) of in
     subst P (sym shares)
-        (cond_in (is_same_path parent parent) (pool_share number e.part) (same_path-itself parent))
+    (cond_in (is_same_path parent parent) (pool_share number e.part) (same_path-itself parent))
 
 pub in_pool : (root number : ℕ) (parent : List ℕ) (entries : List Entry) (e : Entry) → HasEntry entries e
     → e.root ≡ root → IsOfChild parent e number
@@ -215,17 +215,17 @@ pub in_pool : (root number : ℕ) (parent : List ℕ) (entries : List Entry) (e 
 in_pool root number parent [] e (k, is) own of = absurd (none-some e is)
 in_pool root number parent (f ∷ entries) e (zero, is) own of =
     let P : Entry → Type 0 =
-        λ x.
-            IsIn (pool_share number e.part)
-                (cond (x.root == root) (share_in_pool parent (parent_and_number x.path) x.part) []) in
+    λ x.
+    IsIn (pool_share number e.part)
+    (cond (x.root == root) (share_in_pool parent (parent_and_number x.path) x.part) []) in
     IsIn-append_left (pool_share number e.part)
-        (cond (f.root == root) (share_in_pool parent (parent_and_number f.path) f.part) [])
-        (pool_shares root parent entries)
+    (cond (f.root == root) (share_in_pool parent (parent_and_number f.path) f.part) [])
+    (pool_shares root parent entries)
     (subst P (sym (same_Some f e is)) (own_share root number parent e own of))
 in_pool root number parent (f ∷ entries) e (suc k, is) own of =
     IsIn-append_right (pool_share number e.part)
-        (cond (f.root == root) (share_in_pool parent (parent_and_number f.path) f.part) [])
-        (pool_shares root parent entries) (in_pool root number parent entries e (k, is) own of)
+    (cond (f.root == root) (share_in_pool parent (parent_and_number f.path) f.part) [])
+    (pool_shares root parent entries) (in_pool root number parent entries e (k, is) own of)
 
 -- ---- the entries below a length
 

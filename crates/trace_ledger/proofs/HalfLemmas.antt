@@ -43,20 +43,20 @@ meets-below m k n rest halves p q (over number more is few) = over number more (
 
 pub meet : (m k : ℕ) (rest halves : List Half) (p q : List ℕ)
     → begins_with (start_share p ++ (replicate m Keep ++ rest))
-        (start_share q ++ (replicate k Keep ++ halves))
-        ≡ true
+    (start_share q ++ (replicate k Keep ++ halves))
+    ≡ true
     → Meets m k rest halves p q
 meet m k rest halves [] [] e = same refl e
 meet m k rest halves [] (n ∷ q) e =
     under n q refl
     (gives-last m n (start_share q ++ (replicate k Keep ++ halves)) rest
     (subst (λ s. begins_with (replicate m Keep ++ rest) s ≡ true)
-        (start-cons n q (replicate k Keep ++ halves)) e))
+    (start-cons n q (replicate k Keep ++ halves)) e))
 meet m k rest halves (n ∷ p) [] e =
     over n p refl
     (keeps-first k n (start_share p ++ (replicate m Keep ++ rest)) halves
     (subst (λ s. begins_with s (replicate k Keep ++ halves) ≡ true)
-        (start-cons n p (replicate m Keep ++ rest)) e))
+    (start-cons n p (replicate m Keep ++ rest)) e))
 meet m k rest halves (n ∷ p) (o ∷ q) e =
     let parts = start-begun n o p q (replicate m Keep ++ rest) (replicate k Keep ++ halves) e in
     let P : ℕ → Type 0 = λ x. Meets m k rest halves (n ∷ p) (x ∷ q) in
@@ -96,11 +96,11 @@ all_short l (y ∷ xs) h x there = elim there [
 -- shares hold one where no long list of halves that begins with it begins with none of them
 pub hold_from : (shares : List (List Half)) (s : List Half)
     → ((l : List Half) → begins_with l s ≡ true → ((x : List Half) → IsIn x shares → length x ≤ length l)
-          → ((x : List Half) → IsIn x shares → begins_with l x ≡ true → ⊥) → ⊥)
+    → ((x : List Half) → IsIn x shares → begins_with l x ≡ true → ⊥) → ⊥)
     → Hold shares s
 hold_from shares s never l begins long = elim (cases_Bool (list_any (λ t. begins_with l t) shares)) [
   | inl some ↦ Any-from_list_any (λ t. begins_with l t) shares some
   | inr none ↦
-      absurd ( never l begins (all_short l shares (recursion_from_All (IsShort l) (s ∷ shares) long).1)
+      absurd (never l begins (all_short l shares (recursion_from_All (IsShort l) (s ∷ shares) long).1)
       (λ x there begun. false≢true (sym none ∙ list_any-in (λ t. begins_with l t) x shares there begun)))
 ]

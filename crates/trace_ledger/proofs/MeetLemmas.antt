@@ -23,9 +23,9 @@ one_of_meeting rs root task other path way rest halves stands also (same is begu
     let P : List ℕ → Type 0 = λ p. HasPath rs root task p in
     let one = one_task rs root task other way (subst P is stands) also in
     let Q : ℕ → Type 0 =
-        λ k.
-            begins_with (replicate k Keep ++ rest) (replicate (length (children rs other)) Keep ++ halves)
-                ≡ true in
+    λ k.
+    begins_with (replicate k Keep ++ rest) (replicate (length (children rs other)) Keep ++ halves)
+    ≡ true in
     let alike = subst Q (ap (λ t. length (children rs t)) one) begun in
     record {
       task_is = one;
@@ -34,12 +34,12 @@ one_of_meeting rs root task other path way rest halves stands also (same is begu
 one_of_meeting rs root task other path way rest halves stands also (under number more is few) =
     let up = child_on_way rs root other way path more number also is in
     let count : length (children rs task) ≡ length (children rs up.parent) =
-        ap (λ t. length (children rs t)) (one_task rs root task up.parent path stands up.higher) in
+    ap (λ t. length (children rs t)) (one_task rs root task up.parent path stands up.higher) in
     let enough = up.few in
     absurd (omega (arith, enough, count, few))
 one_of_meeting rs root task other path way rest halves stands also (over number more is few) =
     let up = child_on_way rs root task path way more number stands is in
     let count : length (children rs other) ≡ length (children rs up.parent) =
-        ap (λ t. length (children rs t)) (one_task rs root other up.parent way also up.higher) in
+    ap (λ t. length (children rs t)) (one_task rs root other up.parent way also up.higher) in
     let enough = up.few in
     absurd (omega (arith, enough, count, few))

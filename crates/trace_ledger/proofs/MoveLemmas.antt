@@ -54,19 +54,21 @@ body_finishes : (task : ℕ) (part : Part) (b : RecordBody) → finish b ≡ Som
 body_finishes task part (TaskSchedule status turns prior next share) is = of (status_part status) refl is
   where
     of : (found : Option Part) → status_part status ≡ found
-        → option_map { U = ℕ × Part } (λ (p : Part). (prior, p)) found ≡ Some (task, part)
+        → option_map {U = ℕ × Part} (λ (p : Part). (prior, p)) found ≡ Some (task, part)
         → Finishes (moves_by task (TaskSchedule status turns prior next share)) part
     of None told is = absurd (none-some (task, part) is)
     of (Some own) told is =
         let same = same_Some (prior, own) (task, part) is in
         let here : cond (prior == task) (Stopped status ∷ []) [] ≡ Stopped status ∷ [] =
-            ap (λ b. cond b (Stopped status ∷ []) []) (eq-eqb prior task (ap (λ (f : ℕ × Part). f.0) same)) in
-        (0, Stopped status,
-            ap (λ l. slice_get ((l ++ cond (is_task task next) (Started ∷ []) []) ++ []) 0) here,
-            told ∙ ap (λ (f : ℕ × Part). Some f.1) same)
+        ap (λ b. cond b (Stopped status ∷ []) []) (eq-eqb prior task (ap (λ (f : ℕ × Part). f.0) same)) in (
+          0,
+          Stopped status,
+          ap (λ l. slice_get ((l ++ cond (is_task task next) (Started ∷ []) []) ++ []) 0) here,
+          told ∙ ap (λ (f : ℕ × Part). Some f.1) same,
+        )
 body_finishes task part (Cancel flags own share) is = of (has_flag flags.0 flag.discarded_task) is
   where
-    of : (b : Bool) → cond { A = Option (ℕ × Part) } b (Some (own, Whole)) None ≡ Some (task, part)
+    of : (b : Bool) → cond {A = Option (ℕ × Part)} b (Some (own, Whole)) None ≡ Some (task, part)
         → Finishes (cond (is_task task (cond b (Some own) None)) (Discarded ∷ []) []) part
     of false is = absurd (none-some (task, part) is)
     of true is =
@@ -96,13 +98,13 @@ place_there rs task i within = of (is_early rs task i) (is_on rs (home_of rs tas
     of true false is_first is_own =
         Contains-append_left (early ++ home) rest i (Contains-append_left early home i
         (Contains-filter (λ k. is_early rs task k && not (is_on rs (home_of rs task) k)) (places rs) i
-            (contains_place rs i within)
-            (ap (λ b. b && not (is_on rs (home_of rs task) i)) is_first ∙ ap not is_own)))
+        (contains_place rs i within)
+        (ap (λ b. b && not (is_on rs (home_of rs task) i)) is_first ∙ ap not is_own)))
     of false false is_first is_own =
         Contains-append_right (early ++ home) rest i
         (Contains-filter (λ k. not (is_early rs task k) && not (is_on rs (home_of rs task) k)) (places rs) i
-            (contains_place rs i within)
-            (ap (λ b. not b && not (is_on rs (home_of rs task) i)) is_first ∙ ap not is_own))
+        (contains_place rs i within)
+        (ap (λ b. not b && not (is_on rs (home_of rs task) i)) is_first ∙ ap not is_own))
 
 contains_from : {X : Type 0} (f : ℕ → List X) (xs : List ℕ) (k x : ℕ) (y : X) → slice_get xs k ≡ Some x
     → Contains (f x) y → Contains (flat_map f xs) y
@@ -139,19 +141,21 @@ home_move rs i task part finishes = of (slice_get rs i) refl finishes
     of (Some r) here is =
         let (k, move, first, ends) = body_finishes task part r.body is in
         let moves : moves_at rs task i ≡ map (λ m. (i, m)) (moves_by task r.body) =
-            ap
-                (λ (o : Option Record).
-                    map (λ (m : Move). (i, m)) (option_map_or (λ (q : Record). moves_by task q.body) o []))
-                here in
+        ap
+        (λ (o : Option Record).
+        map (λ (m : Move). (i, m)) (option_map_or (λ (q : Record). moves_by task q.body) o []))
+        here in
         let found : slice_get (moves_at rs task i) k ≡ Some (i, move) =
-            ap (λ l. slice_get l k) moves ∙ slice_get-map (λ (m : Move). (i, m)) (moves_by task r.body) k
-                ∙ ap (option_map (λ (m : Move). (i, m))) first in
+        ap (λ l. slice_get l k) moves ∙ slice_get-map (λ (m : Move). (i, m)) (moves_by task r.body) k
+        ∙ ap (option_map (λ (m : Move). (i, m))) first in
         let (place, own) =
-            contains_get (places_of rs task) i
-                (place_there rs task i (at_within finish rs i (task, part) finishes)) in
-        (move, ends,
-            contains_from (moves_at rs task) (places_of rs task) place i (i, move) own
-                (get_contains (moves_at rs task i) (i, move) k found))
+        contains_get (places_of rs task) i
+        (place_there rs task i (at_within finish rs i (task, part) finishes)) in (
+          move,
+          ends,
+          contains_from (moves_at rs task) (places_of rs task) place i (i, move) own
+              (get_contains (moves_at rs task i) (i, move) k found),
+        )
 
 -- a finishing record ends the task's turn, or its move does not belong to a turn
 data Finish (task : ℕ) (part : Part) (b : RecordBody) : Type 0 where
@@ -176,31 +180,32 @@ body_ends task part (TaskSchedule status turns prior next share) is = of (status
     by true e its ends here = in_turn status (ap (λ b. cond b (Some prior) None) e ∙ ap Some its) here ends
     by false e its ends here =
         aside (Stopped status) 0
-            (ap (λ l. slice_get ((l ++ cond (is_task task next) (Started ∷ []) []) ++ []) 0) here)
-            (none_apart status part ends e) ends
+        (ap (λ l. slice_get ((l ++ cond (is_task task next) (Started ∷ []) []) ++ []) 0) here)
+        (none_apart status part ends e) ends
 
     of : (found : Option Part) → status_part status ≡ found
-        → option_map { U = ℕ × Part } (λ (p : Part). (prior, p)) found ≡ Some (task, part)
+        → option_map {U = ℕ × Part} (λ (p : Part). (prior, p)) found ≡ Some (task, part)
         → Finish task part (TaskSchedule status turns prior next share)
     of None told is = absurd (none-some (task, part) is)
     of (Some own) told is =
         let same = same_Some (prior, own) (task, part) is in
         let its : prior ≡ task = ap (λ (f : ℕ × Part). f.0) same in
         by (demands_next status) refl its (told ∙ ap (λ (f : ℕ × Part). Some f.1) same)
-            (ap (λ b. cond b (Stopped status ∷ []) []) (eq-eqb prior task its))
+        (ap (λ b. cond b (Stopped status ∷ []) []) (eq-eqb prior task its))
 body_ends task part (Cancel flags own share) is =
     let there = of (has_flag flags.0 flag.discarded_task) is in
     aside Discarded 0 there.0 refl there.1
   where
-    of : (b : Bool) → cond { A = Option (ℕ × Part) } b (Some (own, Whole)) None ≡ Some (task, part)
+    of : (b : Bool) → cond {A = Option (ℕ × Part)} b (Some (own, Whole)) None ≡ Some (task, part)
         → (slice_get (cond (is_task task (cond b (Some own) None)) (Discarded ∷ []) []) 0 ≡ Some Discarded)
-            × (Some Whole ≡ Some part)
+        × (Some Whole ≡ Some part)
     of false is = absurd (none-some (task, part) is)
     of true is =
-        let same = same_Some (own, Whole) (task, part) is in
-        (ap (λ b. slice_get (cond b (Discarded ∷ []) []) 0)
-            (eq-eqb own task (ap (λ (f : ℕ × Part). f.0) same)),
-            ap (λ (f : ℕ × Part). Some f.1) same)
+        let same = same_Some (own, Whole) (task, part) is in (
+          ap (λ b. slice_get (cond b (Discarded ∷ []) []) 0)
+              (eq-eqb own task (ap (λ (f : ℕ × Part). f.0) same)),
+          ap (λ (f : ℕ × Part). Some f.1) same,
+        )
 body_ends task part _ is = absurd (none-some (task, part) is)
 
 -- of a record that stands there the moves are these
@@ -208,9 +213,9 @@ moves_there : (rs : List Record) (task i : ℕ) (r : Record) → slice_get rs i 
     → moves_at rs task i ≡ map (λ m. (i, m)) (moves_by task r.body)
 moves_there rs task i r here =
     ap
-        (λ (o : Option Record).
-            map (λ (m : Move). (i, m)) (option_map_or (λ (q : Record). moves_by task q.body) o []))
-        here
+    (λ (o : Option Record).
+    map (λ (m : Move). (i, m)) (option_map_or (λ (q : Record). moves_by task q.body) o []))
+    here
 
 -- where it ends a turn, so does its move
 ends_there : (rs : List Record) (task turn i : ℕ) (r : Record) (status : Status) → slice_get rs i ≡ Some r
@@ -218,22 +223,22 @@ ends_there : (rs : List Record) (task turn i : ℕ) (r : Record) (status : Statu
     → turn_ends_at rs task turn i ≡ (i, Stopped status) ∷ []
 ends_there rs task turn i r status here runs is stop =
     let ended : at ended_turn rs i ≡ Some (task, turn) =
-        ap (option_and_then (λ (q : Record). ended_turn q.body)) here
-            ∙ ap (option_map { U = ℕ × ℕ } (λ t. (t, prior_turn r.body))) runs
-            ∙ ap (λ n. Some (task, n)) is in
+    ap (option_and_then (λ (q : Record). ended_turn q.body)) here
+    ∙ ap (option_map {U = ℕ × ℕ} (λ t. (t, prior_turn r.body))) runs
+    ∙ ap (λ n. Some (task, n)) is in
     let found : is_turn task turn (at ended_turn rs i) ≡ true =
-        ap (is_turn task turn) ended ∙ ap (λ b. b && (turn == turn)) (eq-eqb task task refl)
-            ∙ eq-eqb turn turn refl in
+    ap (is_turn task turn) ended ∙ ap (λ b. b && (turn == turn)) (eq-eqb task task refl)
+    ∙ eq-eqb turn turn refl in
     ap
-        (λ b.
-            cond b
-                (map (λ (m : Move). (i, m))
-                    (option_map_or (λ (q : Record). stops task q.body) (slice_get rs i) [])) [])
-        found
+    (λ b.
+    cond b
+    (map (λ (m : Move). (i, m))
+    (option_map_or (λ (q : Record). stops task q.body) (slice_get rs i) [])) [])
+    found
     ∙ ap
-        (λ (o : Option Record).
-            map (λ (m : Move). (i, m)) (option_map_or (λ (q : Record). stops task q.body) o []))
-        here
+    (λ (o : Option Record).
+    map (λ (m : Move). (i, m)) (option_map_or (λ (q : Record). stops task q.body) o []))
+    here
     ∙ ap (map (λ (m : Move). (i, m))) stop
 
 -- among the moves of a task that moved
@@ -258,33 +263,35 @@ moved_move rs i task part free finishes = of (slice_get rs i) refl finishes
         → (move : Move) × (part_of move ≡ Some part) × Contains ((early ++ turned) ++ rest) (i, move)
     by r here (aside move k first apart ends) =
         let found : slice_get (moves_at rs task i) k ≡ Some (i, move) =
-            ap (λ l. slice_get l k) (moves_there rs task i r here)
-                ∙ slice_get-map (λ (m : Move). (i, m)) (moves_by task r.body) k
-                ∙ ap (option_map (λ (m : Move). (i, m))) first in
+        ap (λ l. slice_get l k) (moves_there rs task i r here)
+        ∙ slice_get-map (λ (m : Move). (i, m)) (moves_by task r.body) k
+        ∙ ap (option_map (λ (m : Move). (i, m))) first in
         let all =
-            contains_from (moves_at rs task) (places rs) own.0 i (i, move) own.1
-                (get_contains (moves_at rs task i) (i, move) k found) in
-        (move, ends,
-            Contains-append_right (early ++ turned) rest (i, move)
-                (Contains-filter (λ (step : ℕ × Move). is_apart step.1)
-                    (flat_map (moves_at rs task) (places rs)) (i, move) all apart))
+        contains_from (moves_at rs task) (places rs) own.0 i (i, move) own.1
+        (get_contains (moves_at rs task i) (i, move) k found) in (
+          move,
+          ends,
+          Contains-append_right (early ++ turned) rest (i, move)
+              (Contains-filter (λ (step : ℕ × Move). is_apart step.1)
+              (flat_map (moves_at rs task) (places rs)) (i, move) all apart),
+        )
     by r here (in_turn status runs stop ends) =
         let turn : ℕ = prior_turn r.body in
         let there =
-            contains_get (range_with_len 0 (turns_in rs)) turn
-                (contains_range (turns_in rs) turn (ended_low rs i r free here)) in
+        contains_get (range_with_len 0 (turns_in rs)) turn
+        (contains_range (turns_in rs) turn (ended_low rs i r free here)) in
         let last : Contains (turn_ends_at rs task turn i) (i, Stopped status) =
-            rw (ends_there rs task turn i r status here runs refl stop) (0, omega arith, refl) in
+        rw (ends_there rs task turn i r status here runs refl stop) (0, omega arith, refl) in
         let in_turns : Contains (turn_moves rs task turn) (i, Stopped status) =
         Contains-append_right (flat_map (turn_starts_at rs task turn) (places rs))
-            (flat_map (turn_ends_at rs task turn) (places rs)) (i, Stopped status)
+        (flat_map (turn_ends_at rs task turn) (places rs)) (i, Stopped status)
         (contains_from (turn_ends_at rs task turn) (places rs) own.0 i (i, Stopped status) own.1 last) in (
           Stopped status,
           ends,
-          Contains-append_left (early ++ turned) rest (i, Stopped status) ( Contains-append_right early turned
+          Contains-append_left (early ++ turned) rest (i, Stopped status) (Contains-append_right early turned
               (i, Stopped status)
               (contains_from (turn_moves rs task) (range_with_len 0 (turns_in rs)) there.0 turn
-                  (i, Stopped status) there.1 in_turns)),
+              (i, Stopped status) there.1 in_turns)),
         )
 
     of : (o : Option Record) → slice_get rs i ≡ o
@@ -406,12 +413,12 @@ after_detached nature [] k step is there = absurd (none-some step there)
 after_detached nature (first ∷ moves) zero step is there =
     let on = leads nature Detached first moves is in
     ap (λ (s : ℕ × Move). part_of s.1) (sym (same_Some first step there))
-        ∙ (detached_moves first.1 on.after on.moved).1
+    ∙ (detached_moves first.1 on.after on.moved).1
 after_detached nature (first ∷ moves) (suc k) step is there =
     let on = leads nature Detached first moves is in
     let P : State → Type 0 = λ s. AreAllowed nature (Some s) moves in
     absurd
-        (after_done nature moves k step (subst P (detached_moves first.1 on.after on.moved).0 on.rest) there)
+    (after_done nature moves k step (subst P (detached_moves first.1 on.after on.moved).0 on.rest) there)
 
 -- of two moves that finish a task, the first finishes its body and the second its event
 twice : (nature : Nature) (state : State) (moves : List (ℕ × Move)) (a b : ℕ) (x y : ℕ × Move) (p q : Part)
@@ -423,13 +430,14 @@ twice nature state (first ∷ moves) zero (suc b) x y p q is less here there end
     let on = leads nature state first moves is in
     let P : State → Type 0 = λ s. AreAllowed nature (Some s) moves in
     let finished : part_of first.1 ≡ Some p =
-        ap (λ (s : ℕ × Move). part_of s.1) (same_Some first x here) ∙ ends in
+    ap (λ (s : ℕ × Move). part_of s.1) (same_Some first x here) ∙ ends in
     elim (finished_state state on.after first.1 p finished on.moved) [
       | inl done ↦ absurd (after_done nature moves b y (subst P done on.rest) there)
-      | inr detached ↦
-          (detached.1,
-              same_Some q Event
-                  (sym also ∙ after_detached nature moves b y (subst P detached.0 on.rest) there))
+      | inr detached ↦ (
+        detached.1,
+        same_Some q Event
+            (sym also ∙ after_detached nature moves b y (subst P detached.0 on.rest) there),
+      )
     ]
 twice nature state (first ∷ moves) (suc a) (suc b) x y p q is less here there ends also =
     let on = leads nature state first moves is in
@@ -445,13 +453,13 @@ first_allowed rs task (suc n) free =
     subst P (add-one n) (elim (cases_lt n (length (all_moves_of rs task))) [
       | inl within ↦
           more (get_or (all_moves_of rs task) n (0, Started))
-              (slice_get-get_or (all_moves_of rs task) n (0, Started) within) (first_allowed rs task n free)
-              (state_of (nature_of rs task) (take (n + 1) (all_moves_of rs task))) refl
+          (slice_get-get_or (all_moves_of rs task) n (0, Started) within) (first_allowed rs task n free)
+          (state_of (nature_of rs task) (take (n + 1) (all_moves_of rs task))) refl
       | inr past ↦
           ap (λ l. is_some (state_of (nature_of rs task) l))
-              (take_all (n + 1) (all_moves_of rs task) (omega (arith, past))
-                  ∙ sym (take_all n (all_moves_of rs task) past))
-              ∙ first_allowed rs task n free
+          (take_all (n + 1) (all_moves_of rs task) (omega (arith, past))
+          ∙ sym (take_all n (all_moves_of rs task) past))
+          ∙ first_allowed rs task n free
     ])
   where
     more : (step : ℕ × Move) → slice_get (all_moves_of rs task) n ≡ Some step
@@ -473,7 +481,7 @@ all_allowed : (rs : List Record) (task : ℕ) → IsFreeOf rs StatusOrder
 all_allowed rs task free =
     let all = take_all (length (all_moves_of rs task)) (all_moves_of rs task) (omega arith) in
     ap (λ l. is_some (state_of (nature_of rs task) l)) (sym all)
-        ∙ first_allowed rs task (length (all_moves_of rs task)) free
+    ∙ first_allowed rs task (length (all_moves_of rs task)) free
 
 -- the body and the event are different parts, and neither is all of the task
 first_apart : (p q : Part) → p ≡ Body → q ≡ Event → (p ≢ Whole) × (p ≢ q)
@@ -493,18 +501,18 @@ finished_in_parts rs gapless free i j task p q apart finishes also =
     elim (cases_order a.number b.number) [
       | inl same ↦
           absurd
-              (apart
-                  (ap (λ (s : ℕ × Move). s.0)
-                      (same_Some (i, a.move) (j, b.move)
-                          (sym a.there ∙ ap (slice_get (all_moves_of rs task)) same ∙ b.there))))
+          (apart
+          (ap (λ (s : ℕ × Move). s.0)
+          (same_Some (i, a.move) (j, b.move)
+          (sym a.there ∙ ap (slice_get (all_moves_of rs task)) same ∙ b.there))))
       | inr (inl before) ↦
           let parts =
-              twice nature (first_state nature) (all_moves_of rs task) a.number b.number (i, a.move)
-                  (j, b.move) p q all before a.there b.there a.ends b.ends in
+          twice nature (first_state nature) (all_moves_of rs task) a.number b.number (i, a.move)
+          (j, b.move) p q all before a.there b.there a.ends b.ends in
           first_apart p q parts.0 parts.1
       | inr (inr behind) ↦
           let parts =
-              twice nature (first_state nature) (all_moves_of rs task) b.number a.number (j, b.move)
-                  (i, a.move) q p all behind b.there a.there b.ends a.ends in
+          twice nature (first_state nature) (all_moves_of rs task) b.number a.number (j, b.move)
+          (i, a.move) q p all behind b.there a.there b.ends a.ends in
           second_apart q p parts.0 parts.1
     ]

@@ -50,13 +50,13 @@ share_pooled rs entries n root parent number task path part known at_path (i, fi
     there e entered right =
         let P : ℕ → Type 0 = λ t. HasPath rs e.root t e.path in
         let one =
-            one_path rs e.root root task e.path (path ++ number ∷ []) known.once
-                (subst P entered.task_is right.stands) (below number at_path.stands at_path.numbered) in
+        one_path rs e.root root task e.path (path ++ number ∷ []) known.once
+        (subst P entered.task_is right.stands) (below number at_path.stands at_path.numbered) in
         let of : IsOfChild path e number = ap parent_and_number one.1 ∙ parent_and_number-push path number in
         let Q : Part → Type 0 = λ p. IsIn (pool_share number p) (pool_shares root path (take n entries)) in
         subst Q entered.part_is
-            (in_pool root number path (take n entries) e
-                (from_below rs entries n i task part e known.ledger entered seen) one.0 of)
+        (in_pool root number path (take n entries) e
+        (from_below rs entries n i task part e known.ledger entered seen) one.0 of)
 
 -- ---- where the child is finished, a long list of halves begins with one that was entered
 
@@ -66,9 +66,9 @@ pub pool_held : (rs : List Record) (entries : List Entry) (n root parent number 
 pool_held rs entries n root parent number task path known stands numbered done =
     hold_from (pool_shares root path (take n entries)) (start_share (number ∷ [])) (λ l begins long none.
     from l
-        (IsSplit-begun l (start_share (number ∷ [])) []
-            (subst (λ s. begins_with l s ≡ true) (sym (append-nil (start_share (number ∷ [])))) begins))
-        long none)
+    (IsSplit-begun l (start_share (number ∷ [])) []
+    (subst (λ s. begins_with l s ≡ true) (sym (append-nil (start_share (number ∷ [])))) begins))
+    long none)
   where
     there : (part : Part) → IsPartFinished rs (λ k. seen_at rs k < n) task part
         → (IsIn (pool_share number part) (pool_shares root path (take n entries)) → ⊥) → ⊥
@@ -85,7 +85,7 @@ pool_held rs entries n root parent number task path known stands numbered done =
     goes_on part l rest is begun none finished =
         there part finished (λ pooled. none (pool_share number part) pooled
         (subst (λ s. begins_with s (pool_share number part) ≡ true) (sym is)
-            (begins_with-shift (start_share (number ∷ [])) rest (part_halves part) ∙ begun)))
+        (begins_with-shift (start_share (number ∷ [])) rest (part_halves part) ∙ begun)))
 
     halved : (l rest : List Half) → l ≡ start_share (number ∷ []) ++ rest
         → ((x : List Half) → IsIn x (pool_shares root path (take n entries)) → length x ≤ length l)
@@ -123,17 +123,17 @@ not_missing rs entries n root parent number task path known at_path held not_don
     let half = missing_half rs n task not_done in
     let l : List Half = missing_list number half.0 shares in
     let begins : begins_with l (start_share (number ∷ [])) ≡ true =
-        begins_with-longer (start_share (number ∷ [])) (half.0 ∷ replicate (span shares) Keep) in
+    begins_with-longer (start_share (number ∷ [])) (half.0 ∷ replicate (span shares) Keep) in
     let whole = length-append (start_share (number ∷ [])) (half.0 ∷ replicate (span shares) Keep) in
     let filled = length-replicate (span shares) Keep in
     entry_there half.0 half.1
-        (held_begins shares (start_share (number ∷ [])) l held begins (omega (arith, whole, filled)))
+    (held_begins shares (start_share (number ∷ [])) l held begins (omega (arith, whole, filled)))
   where
     entry_there : (h : Half)
         → ((part : Part) (y : List Half) → begins_with (h ∷ y) (part_halves part) ≡ true
-              → IsPartFinished rs (λ k. seen_at rs k < n) task part → ⊥)
+        → IsPartFinished rs (λ k. seen_at rs k < n) task part → ⊥)
         → Passes (λ t. begins_with (missing_list number h (pool_shares root path (take n entries))) t)
-            (pool_shares root path (take n entries))
+        (pool_shares root path (take n entries))
         → ⊥
     entry_there h missing (passes x there begun) =
         let z : List Half = replicate (span (pool_shares root path (take n entries))) Keep in
@@ -141,16 +141,16 @@ not_missing rs entries n root parent number task path known at_path held not_don
         let e : Entry = found.0 in
         let made = below_from rs entries n e known.ledger found.2 in
         let parts =
-            start-begun number found.1 [] [] (h ∷ z) (part_halves e.part)
-                (subst (λ s. begins_with (start_share (number ∷ []) ++ h ∷ z) s ≡ true) found.5 begun) in
+        start-begun number found.1 [] [] (h ∷ z) (part_halves e.part)
+        (subst (λ s. begins_with (start_share (number ∷ []) ++ h ∷ z) s ≡ true) found.5 begun) in
         let up : e.path ≡ path ++ number ∷ [] =
-            push_of_parent e.path path found.1 found.4 ∙ ap (λ k. path ++ k ∷ []) (sym parts.0) in
+        push_of_parent e.path path found.1 found.4 ∙ ap (λ k. path ++ k ∷ []) (sym parts.0) in
         entry_right rs made.0 e known.right made.2 (λ right.
         let P : ℕ → Type 0 = λ r. HasPath rs r e.task e.path in
         let Q : List ℕ → Type 0 = λ p. HasPath rs root e.task p in
         let one =
-            one_task rs root task e.task (path ++ number ∷ []) (below number at_path.stands at_path.numbered)
-                (subst Q up (subst P found.3 right.stands)) in
+        one_task rs root task e.task (path ++ number ∷ []) (below number at_path.stands at_path.numbered)
+        (subst Q up (subst P found.3 right.stands)) in
         missing e.part z parts.1 (made.0, made.2.finishes ∙ ap (λ t. Some (t, e.part)) (sym one), made.1))
 
 pub pool_done : (rs : List Record) (entries : List Entry) (n root parent number task : ℕ) (path : List ℕ)
@@ -158,9 +158,9 @@ pub pool_done : (rs : List Record) (entries : List Entry) (n root parent number 
     → Hold (pool_shares root path (take n entries)) (start_share (number ∷ [])) → IsDone rs n task
 pool_done rs entries n root parent number task path known stands numbered held =
     elim (done_or_not rs n task) [
-  | inl done ↦ done
-  | inr not_done ↦
-      absurd
+      | inl done ↦ done
+      | inr not_done ↦
+          absurd
           (not_missing rs entries n root parent number task path known
-              (record { stands = stands; numbered = numbered }) held not_done)
-]
+          (record { stands = stands; numbered = numbered }) held not_done)
+    ]

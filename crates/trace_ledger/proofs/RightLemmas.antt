@@ -42,8 +42,8 @@ arranged_parts rs parts i j task part other apart one another =
     let p = said_here finish rs i (task, part) one in
     let q = said_here finish rs j (task, other) another in
     parts p.0 q.0 task part other
-        (λ same. apart (sym (own_place_of rs i p.0 p.1) ∙ ap (own_place rs) same ∙ own_place_of rs j q.0 q.1))
-        p.2 q.2
+    (λ same. apart (sym (own_place_of rs i p.0 p.1) ∙ ap (own_place rs) same ∙ own_place_of rs j q.0 q.1))
+    p.2 q.2
 
 -- the record with the number has seen as much as that at its place
 seen_here : (rs : List Record) (n i : ℕ) → slice_get (own_places rs) n ≡ Some i
@@ -95,17 +95,17 @@ arranged_within : (rs : List Record) → IsFreeOf rs LengthAhead → IsFreeOf (i
 arranged_within rs free n (length_ahead (entry finishes most)) =
     let p = here rs n finishes in
     free p.place
-        (length_ahead
-            (entry p.finishes
-                (let all = entries_arranged rs in let seen = p.seen in omega (arith, most, all, seen))))
+    (length_ahead
+    (entry p.finishes
+    (let all = entries_arranged rs in let seen = p.seen in omega (arith, most, all, seen))))
 arranged_within rs free n (length_ahead (ledger_length more)) =
     let p =
-        placed rs n (rw (arranged_length rs) at (seen_within (in_own_order rs) n (omega (arith, more)))) in
+    placed rs n (rw (arranged_length rs) at (seen_within (in_own_order rs) n (omega (arith, more)))) in
     free p.0
-        (length_ahead
-            (ledger_length
-                (let all = entries_arranged rs in
-                 let seen = seen_here rs n p.0 p.1 in omega (arith, more, all, seen))))
+    (length_ahead
+    (ledger_length
+    (let all = entries_arranged rs in
+    let seen = seen_here rs n p.0 p.1 in omega (arith, more, all, seen))))
 
 -- whoever finds no wrong share at any place of the file, finds none in the tasks' own order
 arranged_right : (rs : List Record) → ShowsNowhere rs ShareWrong → IsFreeOf (in_own_order rs) ShareWrong
@@ -129,9 +129,9 @@ arranged_entries rs once gapless orderly apart within right = record {
 pub shown_entries : (rs : List Record) → ShowsNoneUpTo rs 13 → HasRightEntries (in_own_order rs)
 shown_entries rs none =
     arranged_entries rs (none CreatedTwice (omega arith)) (none TurnGap (omega arith))
-        (none StatusOrder (omega arith))
+    (none StatusOrder (omega arith))
     (none EntryTwice (omega arith)) (none LengthAhead (omega arith))
-        (arranged_right rs (none ShareWrong (omega arith)))
+    (arranged_right rs (none ShareWrong (omega arith)))
 
 -- ---- the run of a trace in the tasks' own order
 

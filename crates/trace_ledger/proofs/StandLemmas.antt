@@ -44,7 +44,7 @@ pub data Stands (rs : List Record) (root task : ℕ) (path : List ℕ) : Type 0 
 pub stands : (rs : List Record) (root task : ℕ) (path : List ℕ) → HasPath rs root task path
     → Stands rs root task path
 stands rs root task path (top is) = at_top refl refl
-stands rs root task path (below number { parent = parent } { path = up } higher numbered) =
+stands rs root task path (below number {parent = parent} {path = up} higher numbered) =
     at_child number parent up refl higher numbered
 
 pub one_task : (rs : List Record) (root task other : ℕ) (path : List ℕ) → HasPath rs root task path
@@ -54,7 +54,7 @@ one_task rs root task other path (top is) there = of (stands rs root other path 
     of : Stands rs root other [] → root ≡ other
     of (at_top e same) = sym same
     of (at_child number parent up e higher numbered) = absurd (pushed_none up number (sym e))
-one_task rs root task other path (below number { parent = parent } { path = up } higher numbered) there =
+one_task rs root task other path (below number {parent = parent} {path = up} higher numbered) there =
     of (λ parent'. one_task rs root parent parent' up higher) (stands rs root other (up ++ number ∷ []) there)
   where
     of : ((parent' : ℕ) → HasPath rs root parent' up → parent ≡ parent')
@@ -65,8 +65,8 @@ one_task rs root task other path (below number { parent = parent } { path = up }
         let P : List ℕ → Type 0 = λ p. HasPath rs root parent' p in
         let same = one parent' (subst P (sym parts.0) higher') in
         same_Some task other
-            (sym numbered ∙ ap (λ p. slice_get (children rs p) number) same
-                ∙ ap (slice_get (children rs parent')) parts.1 ∙ numbered')
+        (sym numbered ∙ ap (λ p. slice_get (children rs p) number) same
+        ∙ ap (slice_get (children rs parent')) parts.1 ∙ numbered')
 
 -- ---- the tasks on the way to one
 
@@ -81,7 +81,7 @@ pub child_on_way : (rs : List Record) (root task : ℕ) (path up more : List ℕ
 child_on_way rs root task path up more number (top is) e =
     absurd (let len = ap length e in omega (arith, len, length-append up (number ∷ more)))
 child_on_way rs root task path up more number
-        (below number' { parent = parent } { path = rest } higher numbered) e =
+    (below number' {parent = parent} {path = rest} higher numbered) e =
     of (λ first. child_on_way rs root parent rest up first number higher) (last_of more)
   where
     of : ((first : List ℕ) → rest ≡ up ++ number ∷ first → HasChildAt rs root up number) → LastOf more
@@ -98,8 +98,8 @@ child_on_way rs root task path up more number
         }
     of above (last first x is) =
         let parts =
-            same_from_push rest (up ++ number ∷ first) number' x
-                (e ∙ ap (λ l. up ++ number ∷ l) is ∙ sym (append_assoc up (number ∷ first) (x ∷ []))) in
+        same_from_push rest (up ++ number ∷ first) number' x
+        (e ∙ ap (λ l. up ++ number ∷ l) is ∙ sym (append_assoc up (number ∷ first) (x ∷ []))) in
         above first parts.0
 
 -- ---- a family stands below its head
@@ -110,26 +110,26 @@ pub created_child : (rs : List Record) (i parent task n : ℕ) → at creation r
 created_child rs i parent task zero creates less = absurd (omega arith)
 created_child rs i parent task (suc n) creates less =
     let P : ℕ → Type 0 =
-        λ m. slice_get (children_before rs parent m) (child_number rs parent i) ≡ Some task in
+    λ m. slice_get (children_before rs parent m) (child_number rs parent i) ≡ Some task in
     let step : n + 1 ≡ suc n = omega arith in
     subst P step (elim (Rattle.std.proofs.lemmas.Bool.cases_lt i n) [
       | inl earlier ↦
           children_stay rs parent n (child_number rs parent i) task
-              (created_child rs i parent task n creates earlier)
+          (created_child rs i parent task n creates earlier)
       | inr here ↦
           let same : n ≡ i = omega (arith, here, less) in
           let Q : ℕ → Type 0 =
-              λ m. slice_get (children_before rs parent (m + 1)) (child_number rs parent i) ≡ Some task in
+          λ m. slice_get (children_before rs parent (m + 1)) (child_number rs parent i) ≡ Some task in
           subst Q (sym same)
-              (ap (λ l. slice_get l (child_number rs parent i)) (children_more rs parent task i creates)
-                  ∙ get_last (children_before rs parent i) task (child_number rs parent i) refl)
+          (ap (λ l. slice_get l (child_number rs parent i)) (children_more rs parent task i creates)
+          ∙ get_last (children_before rs parent i) task (child_number rs parent i) refl)
     ])
 
 pub created_path : (rs : List Record) (root i parent task : ℕ) (path : List ℕ) → IsCreatedAt rs i parent task
     → HasPath rs root parent path → HasPath rs root task (path ++ child_number rs parent i ∷ [])
 created_path rs root i parent task path creates higher =
     below (child_number rs parent i) higher
-        (created_child rs i parent task (length rs) creates (at_within creation rs i (parent, task) creates))
+    (created_child rs i parent task (length rs) creates (at_within creation rs i (parent, task) creates))
 
 -- the path of a task of the family goes on from that of its head
 pub record StandsBelow (rs : List Record) (root task : ℕ) (path : List ℕ) : Type 0 where
@@ -144,7 +144,7 @@ below_by rs root i parent task path creates higher =
       more = higher.more ++ child_number rs parent i ∷ [];
       there =
           subst P (append_assoc path higher.more (child_number rs parent i ∷ []))
-              (created_path rs root i parent task (path ++ higher.more) creates higher.there);
+          (created_path rs root i parent task (path ++ higher.more) creates higher.there);
     }
 
 descendant_below : (rs : List Record) (root head task : ℕ) (path : List ℕ) → HasPath rs root head path
@@ -162,7 +162,7 @@ family_below rs root head task path stand (inl same) =
       more = [];
       there =
           subst (λ t. HasPath rs root t (path ++ [])) (sym same)
-              (subst (λ p. HasPath rs root head p) (sym (append-nil path)) stand);
+          (subst (λ p. HasPath rs root head p) (sym (append-nil path)) stand);
     }
 family_below rs root head task path stand (inr lower) = descendant_below rs root head task path stand lower
 
@@ -188,6 +188,6 @@ push_of_parent path up number is = of (last_of path)
     of (none e) = absurd (none-some (up, number) (sym (ap parent_and_number e) ∙ is))
     of (last first x e) =
         let same =
-            same_Some (first, x) (up, number)
-                (sym (parent_and_number-push first x) ∙ sym (ap parent_and_number e) ∙ is) in
+        same_Some (first, x) (up, number)
+        (sym (parent_and_number-push first x) ∙ sym (ap parent_and_number e) ∙ is) in
         e ∙ ap (λ (s : List ℕ × ℕ). s.0 ++ s.1 ∷ []) same

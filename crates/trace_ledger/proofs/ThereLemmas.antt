@@ -29,7 +29,7 @@ makers_there rs (suc n) low = of (is_some (at finish rs n)) refl (makers_there r
       set makers (seen_at rs n) (Some n),
       subst (λ k. AreMakers rs k (set makers (seen_at rs n) (Some n))) (omega arith)
           (makers_more rs n makers (set makers (seen_at rs n) (Some n)) (omega (arith, low)) finishes refl
-              are),
+          are),
     )
     of false none (makers, are) = (
       makers,

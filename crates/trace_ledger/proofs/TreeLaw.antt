@@ -65,17 +65,17 @@ share_entered rs entries n root task path part known stands (i, finishes, seen) 
     there e entered right =
         let P : ℕ → Type 0 = λ t. HasPath rs e.root t e.path in
         let one =
-            one_path rs e.root root task e.path path known.once (subst P entered.task_is right.stands)
-                stands in
+        one_path rs e.root root task e.path path known.once (subst P entered.task_is right.stands)
+        stands in
         let share : tree_share e ≡ left_share rs task path part =
         ap (λ p. finish_share p e.kept ++ part_halves e.part) one.1
         ∙ ap (λ k. finish_share path k ++ part_halves e.part)
-            (right.kept ∙ ap (λ t. length (children rs t)) entered.task_is)
+        (right.kept ∙ ap (λ t. length (children rs t)) entered.task_is)
         ∙ ap (λ q. finish_share path (length (children rs task)) ++ part_halves q) entered.part_is in
         let Q : List Half → Type 0 = λ x. IsIn x (tree_shares root (take n entries)) in
         subst Q share
-            (in_tree root (take n entries) e (from_below rs entries n i task part e known.ledger entered seen)
-                one.0)
+        (in_tree root (take n entries) e (from_below rs entries n i task part e known.ledger entered seen)
+        one.0)
 
 -- ---- where the family is finished, a long list of halves begins with one that was entered
 
@@ -103,7 +103,7 @@ goes_on : (path : List ℕ) (m : ℕ) (part : Part) (shares : List (List Half)) 
 goes_on path m part shares l rest astray parts begun there =
     let P : List Half → Type 0 = λ k. begins_with k (finish_share path m ++ part_halves part) ≡ true in
     let whole : l ≡ finish_share path m ++ rest =
-        parts ∙ sym (append_assoc (start_share path) (replicate m Keep) rest) in
+    parts ∙ sym (append_assoc (start_share path) (replicate m Keep) rest) in
     astray.none (finish_share path m ++ part_halves part) there
     (subst P (sym whole) (begins_with-shift (finish_share path m) rest (part_halves part) ∙ begun))
 
@@ -111,7 +111,7 @@ at_task : (rs : List Record) (entries : List Entry) (n root task : ℕ) (path : 
     → IsKnown rs entries → HasPath rs root task path → IsDone rs n task
     → IsAstray (tree_shares root (take n entries)) l → l ≡ start_share path ++ r
     → ((number : ℕ) (rest : List Half) → number < length (children rs task)
-          → r ≡ replicate number Keep ++ Give ∷ rest → ⊥)
+    → r ≡ replicate number Keep ++ Give ∷ rest → ⊥)
     → ⊥
 at_task rs entries n root task path l r known stands done astray parts lower = way (goes m r)
   where
@@ -125,10 +125,10 @@ at_task rs entries n root task path l r known stands done astray parts lower = w
     ended less = elim done [
       | inl whole ↦
           share_entered rs entries n root task path Whole known stands whole
-              (too_short path m Whole shares l r astray parts (omega (arith, less)))
+          (too_short path m Whole shares l r astray parts (omega (arith, less)))
       | inr both ↦
           share_entered rs entries n root task path Body known stands both.0
-              (too_short path m Body shares l r astray parts (omega (arith, less)))
+          (too_short path m Body shares l r astray parts (omega (arith, less)))
     ]
 
     halved : (rest : List Half) → r ≡ replicate m Keep ++ rest
@@ -137,21 +137,21 @@ at_task rs entries n root task path l r known stands done astray parts lower = w
     halved [] is body event =
         share_entered rs entries n root task path Body known stands body
         (too_short path m Body shares l r astray parts
-            (let len = ap length is ∙ length-append (replicate m Keep) [] in
-             let halves = length-replicate m Keep in omega (arith, len, halves)))
+        (let len = ap length is ∙ length-append (replicate m Keep) [] in
+        let halves = length-replicate m Keep in omega (arith, len, halves)))
     halved (Keep ∷ z) is body event =
         share_entered rs entries n root task path Body known stands body
-            (goes_on path m Body shares l (Keep ∷ z) astray (parts ∙ ap (λ s. start_share path ++ s) is) refl)
+        (goes_on path m Body shares l (Keep ∷ z) astray (parts ∙ ap (λ s. start_share path ++ s) is) refl)
     halved (Give ∷ z) is body event =
         share_entered rs entries n root task path Event known stands event
-            (goes_on path m Event shares l (Give ∷ z) astray (parts ∙ ap (λ s. start_share path ++ s) is)
-                refl)
+        (goes_on path m Event shares l (Give ∷ z) astray (parts ∙ ap (λ s. start_share path ++ s) is)
+        refl)
 
     kept : (rest : List Half) → r ≡ replicate m Keep ++ rest → ⊥
     kept rest is = elim done [
       | inl whole ↦
           share_entered rs entries n root task path Whole known stands whole
-              (goes_on path m Whole shares l rest astray (parts ∙ ap (λ s. start_share path ++ s) is) refl)
+          (goes_on path m Whole shares l rest astray (parts ∙ ap (λ s. start_share path ++ s) is) refl)
       | inr both ↦ halved rest is both.0 both.1
     ]
 
@@ -168,8 +168,8 @@ route : (rs : List Record) (entries : List Entry) (n root head : ℕ) (l : List 
 route rs entries n root head l known done astray zero task path r stands of parts few =
     at_task rs entries n root task path l r known stands (done task of) astray parts
     (λ number rest less is.
-        let len = ap length is ∙ length-append (replicate number Keep) (Give ∷ rest) in
-        omega (arith, len, few))
+    let len = ap length is ∙ length-append (replicate number Keep) (Give ∷ rest) in
+    omega (arith, len, few))
 route rs entries n root head l known done astray (suc fuel) task path r stands of parts few =
     at_task rs entries n root task path l r known stands (done task of) astray parts (λ number rest less is.
     let child : ℕ = get_or (children rs task) number 0 in
@@ -180,8 +180,8 @@ route rs entries n root head l known done astray (suc fuel) task path r stands o
     ∙ sym (append_assoc (start_share path) (start_share (number ∷ [])) rest)
     ∙ ap (λ s. s ++ rest) (sym (start_share-append path (number ∷ []))) in
     route rs entries n root head l known done astray fuel child (path ++ number ∷ []) rest
-        (below number stands there) (family_child rs head task number child of there) on
-        (omega (arith, len, few)))
+    (below number stands there) (family_child rs head task number child of there) on
+    (omega (arith, len, few)))
 
 pub tree_held : (rs : List Record) (entries : List Entry) (n root head : ℕ) (path : List ℕ)
     → IsKnown rs entries → HasPath rs root head path → ((t : ℕ) → IsFamily rs head t → IsDone rs n t)
@@ -189,15 +189,15 @@ pub tree_held : (rs : List Record) (entries : List Entry) (n root head : ℕ) (p
 tree_held rs entries n root head path known stands done =
     hold_from (tree_shares root (take n entries)) (start_share path) (λ l begins long none.
     from l
-        (IsSplit-begun l (start_share path) []
-            (subst (λ s. begins_with l s ≡ true) (sym (append-nil (start_share path))) begins))
-        (record { long = long; none = none }))
+    (IsSplit-begun l (start_share path) []
+    (subst (λ s. begins_with l s ≡ true) (sym (append-nil (start_share path))) begins))
+    (record { long = long; none = none }))
   where
     from : (l : List Half) → IsSplit l (start_share path) [] → IsAstray (tree_shares root (take n entries)) l
         → ⊥
     from l (split r is begun) astray =
         route rs entries n root head l known done astray (length r) head path r stands (inl refl) is
-            (omega arith)
+        (omega arith)
 
 -- ---- where they hold it, each task of the family is finished
 
@@ -210,15 +210,15 @@ no_entry : (rs : List Record) (entries : List Entry) (n root task i : ℕ) (path
     (z : List Half) (e : Entry)
     → IsKnown rs entries → HasPath rs root task path
     → ((part : Part) (y : List Half) → begins_with (h ∷ y) (part_halves part) ≡ true
-          → IsPartFinished rs (λ k. seen_at rs k < n) task part → ⊥)
+    → IsPartFinished rs (λ k. seen_at rs k < n) task part → ⊥)
     → seen_at rs i < n → IsFrom rs i e → IsRight rs e → e.root ≡ root
     → Meets (length (children rs task)) e.kept (h ∷ z) (part_halves e.part) path e.path → ⊥
 no_entry rs entries n root task i path h z e known stands missing seen from right own meeting =
     let P : ℕ → Type 0 = λ r. HasPath rs r e.task e.path in
     let Q : ℕ → Type 0 = λ k. Meets (length (children rs task)) k (h ∷ z) (part_halves e.part) path e.path in
     let one =
-        one_of_meeting rs root task e.task path e.path (h ∷ z) (part_halves e.part) stands
-            (subst P own right.stands) (subst Q right.kept meeting) in
+    one_of_meeting rs root task e.task path e.path (h ∷ z) (part_halves e.part) stands
+    (subst P own right.stands) (subst Q right.kept meeting) in
     missing e.part z one.begun (i, from.finishes ∙ ap (λ t. Some (t, e.part)) (sym one.task_is), seen)
 
 not_missing : (rs : List Record) (entries : List Entry) (n root head task : ℕ) (path : List ℕ)
@@ -232,47 +232,47 @@ not_missing rs entries n root head task path known stands held of not_done =
     let m : ℕ = length (children rs task) in
     let l : List Half = missing_list (path ++ lower.more) m half.0 shares in
     let parts : l
-            ≡ start_share path
-                ++ (start_share lower.more ++ (replicate m Keep ++ half.0 ∷ replicate (span shares) Keep)) =
+    ≡ start_share path
+    ++ (start_share lower.more ++ (replicate m Keep ++ half.0 ∷ replicate (span shares) Keep)) =
     ap (λ s. s ++ (replicate m Keep ++ half.0 ∷ replicate (span shares) Keep))
-        (start_share-append path lower.more)
+    (start_share-append path lower.more)
     ∙ append_assoc (start_share path) (start_share lower.more)
-        (replicate m Keep ++ half.0 ∷ replicate (span shares) Keep) in
+    (replicate m Keep ++ half.0 ∷ replicate (span shares) Keep) in
     let begins : begins_with l (start_share path) ≡ true =
-        subst (λ s. begins_with s (start_share path) ≡ true) (sym parts)
-            (begins_with-longer (start_share path)
-                (start_share lower.more ++ (replicate m Keep ++ half.0 ∷ replicate (span shares) Keep))) in
+    subst (λ s. begins_with s (start_share path) ≡ true) (sym parts)
+    (begins_with-longer (start_share path)
+    (start_share lower.more ++ (replicate m Keep ++ half.0 ∷ replicate (span shares) Keep))) in
     let whole =
-        length-append (start_share (path ++ lower.more))
-            (replicate m Keep ++ half.0 ∷ replicate (span shares) Keep) in
+    length-append (start_share (path ++ lower.more))
+    (replicate m Keep ++ half.0 ∷ replicate (span shares) Keep) in
     let kept = length-append (replicate m Keep) (half.0 ∷ replicate (span shares) Keep) in
     let filled = length-replicate (span shares) Keep in
     entry_there half.0 (path ++ lower.more) lower.there half.1
-        (held_begins shares (start_share path) l held begins (omega (arith, whole, kept, filled)))
+    (held_begins shares (start_share path) l held begins (omega (arith, whole, kept, filled)))
   where
     entry_there : (h : Half) (p : List ℕ) → HasPath rs root task p
         → ((part : Part) (y : List Half) → begins_with (h ∷ y) (part_halves part) ≡ true
-              → IsPartFinished rs (λ k. seen_at rs k < n) task part → ⊥)
+        → IsPartFinished rs (λ k. seen_at rs k < n) task part → ⊥)
         → Passes
-            (λ t.
-                begins_with (missing_list p (length (children rs task)) h (tree_shares root (take n entries)))
-                    t)
-            (tree_shares root (take n entries))
+        (λ t.
+        begins_with (missing_list p (length (children rs task)) h (tree_shares root (take n entries)))
+        t)
+        (tree_shares root (take n entries))
         → ⊥
     entry_there h p stands missing (passes x there begun) =
         let found = from_tree root (take n entries) x there in
         let e : Entry = found.0 in
         let made = below_from rs entries n e known.ledger found.1 in
         let is : x ≡ start_share e.path ++ (replicate e.kept Keep ++ part_halves e.part) =
-            found.3 ∙ append_assoc (start_share e.path) (replicate e.kept Keep) (part_halves e.part) in
+        found.3 ∙ append_assoc (start_share e.path) (replicate e.kept Keep) (part_halves e.part) in
         let shares : List (List Half) = tree_shares root (take n entries) in
         let meeting =
-            meet (length (children rs task)) e.kept (h ∷ replicate (span shares) Keep) (part_halves e.part) p
-                e.path
+        meet (length (children rs task)) e.kept (h ∷ replicate (span shares) Keep) (part_halves e.part) p
+        e.path
         (subst (λ s. begins_with (missing_list p (length (children rs task)) h shares) s ≡ true) is begun) in
         entry_right rs made.0 e known.right made.2 (λ right.
         no_entry rs entries n root task made.0 p h (replicate (span shares) Keep) e known stands missing
-            made.1 made.2 right found.2 meeting)
+        made.1 made.2 right found.2 meeting)
 
 pub tree_done : (rs : List Record) (entries : List Entry) (n root head task : ℕ) (path : List ℕ)
     → IsKnown rs entries → HasPath rs root head path

@@ -40,7 +40,7 @@ chain_falls nodes head place top falls (later {head = from} {node = node} there 
 pub chain_stays : (nodes : List Node) (new : Node) (head : Option ℕ) (place : ℕ) → IsOnChain nodes head place
     → IsOnChain (nodes ++ new ∷ []) head place
 chain_stays nodes new head place here = here
-chain_stays nodes new head place (later { head = from } { node = node } there rest) =
+chain_stays nodes new head place (later {head = from} {node = node} there rest) =
     later (get_pushed nodes new node from there) (chain_stays nodes new node.previous place rest)
 
 pub node_stays : (done : DoneView) (nodes : List Node) (new : Node) (head : Option ℕ) (c child : ℕ)
@@ -60,7 +60,7 @@ node_stays done nodes new head c child has = record {
 abbrev pub IsGathered : List Node → Option ℕ → ℕ → ℕ → Option ℕ → Type 0
 IsGathered nodes head begin limit rest = (place : ℕ) → IsOnChain nodes head place
     → IsOnChain nodes rest place
-        ⊎ ((begin < place) × ((node : Node) → slice_get nodes place ≡ Some node → node.limit ≤ limit))
+    ⊎ ((begin < place) × ((node : Node) → slice_get nodes place ≡ Some node → node.limit ≤ limit))
 
 pub gathered_start : (nodes : List Node) (head : Option ℕ) (begin : ℕ) → IsGathered nodes head begin 0 head
 gathered_start nodes head begin place on = inl on
@@ -75,17 +75,18 @@ gathered_more nodes head rest begin limit place node are is less there other on 
   where
     of : (o : Option ℕ) → o ≡ Some place → IsOnChain nodes o other
         → IsOnChain nodes node.previous other
-            ⊎ ((begin < other)
-                  × ((n : Node) → slice_get nodes other ≡ Some n → n.limit ≤ max limit node.limit))
+        ⊎ ((begin < other)
+        × ((n : Node) → slice_get nodes other ≡ Some n → n.limit ≤ max limit node.limit))
     of o e here =
         let at_place : other ≡ place = same_Some other place e in
-        inr
-            (omega (arith, less, at_place),
-                λ n stands.
-                    let same : n.limit ≡ node.limit =
-                        ap (λ (x : Node). x.limit)
-                            (same_Some n node (sym stands ∙ ap (slice_get nodes) at_place ∙ there)) in
-                    omega (arith, same))
+        inr (
+          omega (arith, less, at_place),
+          λ n stands.
+              let same : n.limit ≡ node.limit =
+              ap (λ (x : Node). x.limit)
+              (same_Some n node (sym stands ∙ ap (slice_get nodes) at_place ∙ there)) in
+              omega (arith, same),
+        )
     of o e (later {head = from} {node = step} step_there more) =
         let at_place : from ≡ place = same_Some from place e in
         let P : Node → Type 0 = λ x. IsOnChain nodes x.previous other in
@@ -143,8 +144,8 @@ chains_other done nodes new heads are alone none = record {
   all = are.all;
   known =
       λ index head stands.
-          let less = are.known index head stands in
-          let count = length_push nodes new in omega (arith, less, count);
+      let less = are.known index head stands in
+      let count = length_push nodes new in omega (arith, less, count);
   falling = falls_on nodes new are.falling (λ next is. absurd (none-some next (sym alone ∙ is)));
   each = λ index task c child head is_task stands less creates. elim (cases_eq c (length nodes)) [
     | inl last ↦
@@ -152,7 +153,7 @@ chains_other done nodes new heads are alone none = record {
     | inr apart ↦
         let count = length_push nodes new in
         node_stays done nodes new head c child
-            (are.each index task c child head is_task stands (omega (arith, less, count, apart)) creates)
+        (are.each index task c child head is_task stands (omega (arith, less, count, apart)) creates)
   ];
 }
 
@@ -162,20 +163,20 @@ pub chains_more : (done : DoneView) (nodes : List Node) (new : Node) (heads : Li
     → AreApart (tasks_of done) → AreChains done nodes heads → slice_get (tasks_of done) own ≡ Some task
     → ((next : ℕ) → new.previous ≡ Some next → next < length nodes)
     → ((other child : ℕ) → at creation (records_of done) (length nodes) ≡ Some (other, child)
-          → (other ≡ task) × IsFamilyLimit done child new.limit)
+    → (other ≡ task) × IsFamilyLimit done child new.limit)
     → ((c child : ℕ) (head : Option ℕ) → slice_get heads own ≡ Some head → c < length nodes
-          → HasNode done nodes head c child
-          → HasNode done nodes new.previous c child ⊎ IsFamilyLimit done child new.limit)
+    → HasNode done nodes head c child
+    → HasNode done nodes new.previous c child ⊎ IsFamilyLimit done child new.limit)
     → AreChains done (nodes ++ new ∷ []) (set heads own (Some (length nodes)))
 chains_more done nodes new heads own task apart are is_own known makes kept = record {
   all = length-set heads own top ∙ are.all;
   known = λ index head stands. elim (cases_eq index own) [
     | inl same ↦
         let last =
-            same_Some (length nodes) head
-                (same_Some top (Some head)
-                    (sym (get_set_same heads own top within) ∙ ap (slice_get (set heads own top)) (sym same)
-                        ∙ stands)) in
+        same_Some (length nodes) head
+        (same_Some top (Some head)
+        (sym (get_set_same heads own top within) ∙ ap (slice_get (set heads own top)) (sym same)
+        ∙ stands)) in
         let count = length_push nodes new in omega (arith, last, count)
     | inr different ↦
         let less = are.known index head (sym (get_set_other heads own index top different) ∙ stands) in
@@ -185,9 +186,9 @@ chains_more done nodes new heads own task apart are is_own known makes kept = re
   each = λ index other c child head is_task stands less creates. elim (cases_eq index own) [
     | inl same ↦
         let is_head : top ≡ head =
-            same_Some top head
-                (sym (get_set_same heads own top within) ∙ ap (slice_get (set heads own top)) (sym same)
-                    ∙ stands) in
+        same_Some top head
+        (sym (get_set_same heads own top within) ∙ ap (slice_get (set heads own top)) (sym same)
+        ∙ stands) in
         let P : Option ℕ → Type 0 = λ h. HasNode done (nodes ++ new ∷ []) h c child in
         subst P is_head (mine c child (task_is index other same is_task) less creates)
     | inr different ↦ elim (cases_eq c (length nodes)) [
@@ -197,9 +198,9 @@ chains_more done nodes new heads own task apart are is_own known makes kept = re
       | inr earlier ↦
           let count = length_push nodes new in
           node_stays done nodes new head c child
-              (are.each index other c child head is_task
-                  (sym (get_set_other heads own index top different) ∙ stands)
-                  (omega (arith, less, count, earlier)) creates)
+          (are.each index other c child head is_task
+          (sym (get_set_other heads own index top different) ∙ stands)
+          (omega (arith, less, count, earlier)) creates)
     ]
   ];
 }
@@ -247,16 +248,16 @@ chains_more done nodes new heads own task apart are is_own known makes kept = re
     mine {other} c child is_it less creates = elim (cases_eq c (length nodes)) [
       | inl last ↦
           by_new c child (omega (arith, last))
-              (makes other child (ap (at creation (records_of done)) (sym last) ∙ creates)).1
+          (makes other child (ap (at creation (records_of done)) (sym last) ∙ creates)).1
       | inr earlier ↦
           let count = length_push nodes new in
           let below : c < length nodes = omega (arith, less, count, earlier) in
           let head = get_or heads own None in
           let stands = slice_get-get_or heads own None within in
           elim
-              (kept c child head stands below
-                  (are.each own task c child head is_own stands below
-                      (creates ∙ ap (λ t. Some (t, child)) is_it))) [
+          (kept c child head stands below
+          (are.each own task c child head is_own stands below
+          (creates ∙ ap (λ t. Some (t, child)) is_it))) [
             | inl has ↦ linked c child has
             | inr limit ↦ by_new c child (omega (arith, below)) limit
           ]

@@ -31,8 +31,8 @@ child_stays rs parent n (suc m) number child is less = elim (cases_lt n (suc m))
       let P : ℕ → Type 0 = λ k. slice_get (children_before rs parent k) number ≡ Some child in
       let step : m + 1 ≡ suc m = omega arith in
       subst P step
-          (children_stay rs parent m number child
-              (child_stays rs parent n m number child is (omega (arith, earlier))))
+      (children_stay rs parent m number child
+      (child_stays rs parent n m number child is (omega (arith, earlier))))
   | inr here ↦
       let P : ℕ → Type 0 = λ k. slice_get (children_before rs parent k) number ≡ Some child in
       let same : n ≡ suc m = omega (arith, here, less) in subst P same is
@@ -46,13 +46,15 @@ pub record IsChildBefore (rs : List Record) (parent n number task : ℕ) : Type 
 pub child_with : (rs : List Record) (parent n number : ℕ) → n ≤ length rs → number < child_number rs parent n
     → (task : ℕ) × IsChildBefore rs parent n number task
 child_with rs parent n number inside less =
-    let there = slice_get-get_or (children_before rs parent n) number 0 less in
-    (get_or (children_before rs parent n) number 0, record {
-      there = there;
-      numbered =
-          child_stays rs parent n (length rs) number (get_or (children_before rs parent n) number 0) there
-              inside;
-    })
+    let there = slice_get-get_or (children_before rs parent n) number 0 less in (
+      get_or (children_before rs parent n) number 0,
+      record {
+        there = there;
+        numbered =
+            child_stays rs parent n (length rs) number (get_or (children_before rs parent n) number 0) there
+            inside;
+      },
+    )
 
 get_drop : {X : Type 0} (xs : List X) (from k : ℕ) → slice_get (drop from xs) k ≡ slice_get xs (from + k)
 get_drop xs zero k = let e : k ≡ 0 + k = omega arith in ap (slice_get xs) e
@@ -91,7 +93,7 @@ part_below : (rs : List Record) (i task : ℕ) (part : Part) → (StartsTask rs 
     → IsPartFinished rs (CountsAt rs i) task part
     → IsPartFinished rs (λ k. seen_at rs k < seen_at rs i) task part
 part_below rs i task part no_start (k, is, counts) =
-    (k, is, elim counts [inl seen ↦ seen | inr here ↦ absurd (no_start here.1)])
+    (k, is, elim counts [ inl seen ↦ seen | inr here ↦ absurd (no_start here.1) ])
 
 part_counts : (rs : List Record) (i task : ℕ) (part : Part)
     → IsPartFinished rs (λ k. seen_at rs k < seen_at rs i) task part

@@ -68,7 +68,7 @@ build_own rs states regions teams records is same run places =
     let Q : OwnView → Type 0 = IsOwnOf rs in
     let own : own_of teams ≡ states.regions.own =
     ap (λ (r : RunView). own_at r teams.places) run ∙ ap (own_at regions.own.run) places
-        ∙ ap (λ (r : RegionsView). r.own) same in
+    ∙ ap (λ (r : RegionsView). r.own) same in
     subst Q (sym own) (subst P records is.own)
   where
     own_at : RunView → List ℕ → OwnView
@@ -80,11 +80,11 @@ no_end : (rs : List Record) (i : ℕ) → EndsNoWaitAt rs i → IsEnd rs i → �
 no_end rs i ends_none (task, begin, kind, there, is) = ends_none task begin kind is there
 
 wait_end : (rs : List Record) (tasks : List ℕ) (i : ℕ) (wait : Wait) → IsWaitAt rs tasks i wait → IsEnd rs i
-wait_end rs tasks i wait (waits { parent = parent } { begin = begin } is_parent there) =
+wait_end rs tasks i wait (waits {parent = parent} {begin = begin} is_parent there) =
     (parent, begin, Taskwait, there, refl)
-wait_end rs tasks i wait (groups { parent = parent } { begin = begin } is_parent there) =
+wait_end rs tasks i wait (groups {parent = parent} {begin = begin} is_parent there) =
     (parent, begin, Taskgroup, there, refl)
-wait_end rs tasks i wait (meets { own = own } { begin = begin } { kind = kind } is_own there barrier begins) =
+wait_end rs tasks i wait (meets {own = own} {begin = begin} {kind = kind} is_own there barrier begins) =
     (own, begin, kind, there, barrier_waits kind barrier)
 
 -- so a look for what the record waits for tells whether it ends a wait
@@ -119,8 +119,8 @@ ends_other own n number ends is_own stands are ends_none = record {
   each = λ i below is. elim (cases_eq i n) [
     | inl same ↦
         absurd
-            (let P : ℕ → Type 0 = IsEndPlace own in
-             no_end own.run.records number ends_none (one_end own number n is_own stands (subst P same is)))
+        (let P : ℕ → Type 0 = IsEndPlace own in
+        no_end own.run.records number ends_none (one_end own number n is_own stands (subst P same is)))
     | inr apart ↦ are.each i (omega (arith, below, apart)) is
   ];
   only = λ k i there. let old = are.only k i there in let less = old.0 in (omega (arith, less), old.1);
@@ -134,7 +134,7 @@ ends_more own n number wait ends stands are is_wait = record {
   each = λ i below is. elim (cases_eq i n) [
     | inl same ↦
         get_contains (ends ++ n ∷ []) i (length ends)
-            (get_last ends n (length ends) refl ∙ ap Some (sym same))
+        (get_last ends n (length ends) refl ∙ ap Some (sym same))
     | inr apart ↦
         let found = contains_get ends i (are.each i (omega (arith, below, apart)) is) in
         get_contains (ends ++ n ∷ []) i found.0 (get_pushed ends n i found.0 found.1)
@@ -143,9 +143,10 @@ ends_more own n number wait ends stands are is_wait = record {
     | inl old ↦ let known = are.only k i old in let less = known.0 in (omega (arith, less), known.1)
     | inr last ↦
         let same = last.1 in
-        let P : ℕ → Type 0 = IsEndPlace own in
-        (omega (arith, same),
-            subst P same (number, stands, wait_end own.run.records own.run.family.tasks number wait is_wait))
+        let P : ℕ → Type 0 = IsEndPlace own in (
+          omega (arith, same),
+          subst P same (number, stands, wait_end own.run.records own.run.family.tasks number wait is_wait),
+        )
   ];
   rising = λ k j i after less there then. elim (pushed_cases ends n after j then) [
     | inl old ↦ elim (pushed_cases ends n i k there) [
@@ -167,9 +168,9 @@ waits_start own ends found empty no_wait = record {
   all = ap length no_wait ∙ sym (ap length empty);
   each =
       λ k place number wait there at_place stands.
-          absurd
-              (let inside = slice_get_within ends k place there in
-               let none = ap length empty in omega (arith, inside, none));
+      absurd
+      (let inside = slice_get_within ends k place there in
+      let none = ap length empty in omega (arith, inside, none));
 }
 
 pub waits_more : (own : OwnView) (n number : ℕ) (wait : Wait) (ends : List ℕ) (found : List Wait) → IsOwn own
@@ -193,7 +194,7 @@ waits_more own n number wait ends found is_own at_n are is_wait = record {
           let P : ℕ → Type 0 = λ j. IsWaitAt own.run.records own.run.family.tasks j other in
           let Q : Wait → Type 0 = IsWaitAt own.run.records own.run.family.tasks number in
           subst P (is_own.places.apart number one n at_n (at_place ∙ ap Some (sym end.1)))
-              (subst Q last.1 is_wait)
+          (subst Q last.1 is_wait)
     ]
   ];
 }
@@ -205,7 +206,7 @@ begin_subject : (rs : List Record) (i task begin : ℕ) (kind : SyncKind) → Is
 begin_subject rs i task begin kind (ended ends) =
     let own = own_begin rs i task begin kind ends in
     at_through region subject (task, own.kind, Begin) task rs begin (region_subject task own.kind Begin)
-        own.begins
+    own.begins
 begin_subject rs i task begin kind (at_once says) =
     at_through region subject (task, kind, BeginEnd) task rs i (region_subject task kind BeginEnd) says
 
@@ -214,7 +215,7 @@ end_subject : (rs : List Record) (i task begin : ℕ) (kind : SyncKind) → IsRe
 end_subject rs i task begin kind there =
     let ends = ends_at rs i task begin kind there in
     at_through region subject (task, kind, ends.endpoint) task rs i (region_subject task kind ends.endpoint)
-        ends.says
+    ends.says
 
 -- the records at which a wait begins and ends have numbers
 pub wait_begin : (coverage : CoverageView) (index begin end : ℕ) → IsCoverage coverage
@@ -249,7 +250,7 @@ span_is rs family index id span is here stands =
 pub wait_spans : (coverage : CoverageView) (index begin to end : ℕ) (list : List Span) → IsCoverage coverage
     → slice_get coverage.numbers begin ≡ Some to
     → ((id : ℕ) → slice_get coverage.teams.run.family.tasks index ≡ Some id
-          → IsOnly coverage.teams.run.records id 0 to list)
+    → IsOnly coverage.teams.run.records id 0 to list)
     → IsWaitAt coverage.teams.run.records coverage.teams.run.family.tasks end (ForTaskwait index begin)
     → AreSpans coverage.teams.run.records end Children list
 wait_spans coverage index begin to end list is is_to each (waits {parent = parent} is_parent there) =
@@ -260,58 +261,63 @@ wait_spans coverage index begin to end list is is_to each (waits {parent = paren
       from_there = one.is_span.from_there;
       to_there =
           one.is_span.to_there
-              ∙ is.numbers.each begin to is_to parent
-                  (begin_subject coverage.teams.run.records end parent begin Taskwait there);
+          ∙ is.numbers.each begin to is_to parent
+          (begin_subject coverage.teams.run.records end parent begin Taskwait there);
     }))
 
 pub group_spans : (coverage : CoverageView) (index begin last from to end : ℕ) (list : List Span)
     → IsCoverage coverage → slice_get coverage.numbers begin ≡ Some from
     → slice_get coverage.numbers last ≡ Some to
     → ((id : ℕ) → slice_get coverage.teams.run.family.tasks index ≡ Some id
-          → IsOnly coverage.teams.run.records id from to list)
+    → IsOnly coverage.teams.run.records id from to list)
     → IsWaitAt coverage.teams.run.records coverage.teams.run.family.tasks end (ForTaskgroup index begin last)
     → AreSpans coverage.teams.run.records end Descendants list
 group_spans coverage index begin last from to end list is is_from is_to each
-    (groups { parent = parent } is_parent there) =
+    (groups {parent = parent} is_parent there) =
     let one = each parent is_parent in
     let P : List Span → Type 0 = AreSpans coverage.teams.run.records end Descendants in
     subst P (sym one.only) (spans.grouped there (record {
       stands = one.is_span.stands;
       from_there =
           one.is_span.from_there
-              ∙ is.numbers.each begin from is_from parent
-                  (begin_subject coverage.teams.run.records end parent begin Taskgroup there);
+          ∙ is.numbers.each begin from is_from parent
+          (begin_subject coverage.teams.run.records end parent begin Taskgroup there);
       to_there =
           one.is_span.to_there
-              ∙ is.numbers.each end to is_to parent
-                  (end_subject coverage.teams.run.records end parent begin Taskgroup there);
+          ∙ is.numbers.each end to is_to parent
+          (end_subject coverage.teams.run.records end parent begin Taskgroup there);
     }))
 
 pub barrier_spans : (rs : List Record) (tasks : List ℕ) (index number end : ℕ) (list : List Span)
     → ((id : ℕ) → slice_get tasks index ≡ Some id → AreMemberSpans rs id number list)
     → IsWaitAt rs tasks end (ForBarrier index number) → AreSpans rs end Descendants list
-barrier_spans rs tasks index number end list each (meets { own = own } is_own there barrier begins) =
+barrier_spans rs tasks index number end list each (meets {own = own} is_own there barrier begins) =
     spans.synchronised number there barrier begins (each own is_own)
 
 -- what ends there
 pub wait_cover : (rs : List Record) (tasks : List ℕ) (end : ℕ) (wait : Wait) → IsWaitAt rs tasks end wait
     → IsCoverAt rs end (cover_of wait)
-wait_cover rs tasks end wait (waits { parent = parent } { begin = begin } is_parent there) =
+wait_cover rs tasks end wait (waits {parent = parent} {begin = begin} is_parent there) =
     (parent, begin, Taskwait, there, refl, (λ same. refl, λ same. refl))
-wait_cover rs tasks end wait (groups { parent = parent } { begin = begin } is_parent there) =
+wait_cover rs tasks end wait (groups {parent = parent} {begin = begin} is_parent there) =
     (parent, begin, Taskgroup, there, refl, (λ same. absurd (cc), λ same. absurd (cc)))
-wait_cover rs tasks end wait (meets {own = own} {begin = begin} {kind = kind} is_own there barrier begins) =
-    (own, begin, kind, there, barrier_waits kind barrier,
-        (λ same. absurd (cc), λ same. absurd (barrier_is_other kind Taskwait barrier refl same)))
+wait_cover rs tasks end wait (meets {own = own} {begin = begin} {kind = kind} is_own there barrier begins) = (
+  own,
+  begin,
+  kind,
+  there,
+  barrier_waits kind barrier,
+  (λ same. absurd (cc), λ same. absurd (barrier_is_other kind Taskwait barrier refl same)),
+)
 
 -- ---- the members of a team
 
 -- the place at which a task begins its barrier with a number
 pub record IsStart (rs : List Record) (tasks : List ℕ) (numbers : List ℕ) (index number start : ℕ) : Type 0
-    where
-  pub within : index < length tasks
-  pub inside : start < length numbers
-  pub begins : (id : ℕ) → slice_get tasks index ≡ Some id → IsBarrierBegin rs id number start
+  where
+    pub within : index < length tasks
+    pub inside : start < length numbers
+    pub begins : (id : ℕ) → slice_get tasks index ≡ Some id → IsBarrierBegin rs id number start
 
 has_start : (coverage : CoverageView) (index number start : ℕ) → IsCoverage coverage
     → slice_get (row_at coverage.teams.begins index) number ≡ Some start
@@ -336,12 +342,12 @@ has_start coverage index number start is there =
 pub read_start : (coverage : CoverageView) (index number : ℕ) (list : List ℕ) → IsCoverage coverage
     → HasBegun coverage.teams.begins number index → list ≡ row_at coverage.teams.begins index
     → IsStart coverage.teams.run.records coverage.teams.run.family.tasks coverage.numbers index number
-        (get_or list number 0)
+    (get_or list number 0)
 read_start coverage index number list is begun read =
     let long = ap length read in
     has_start coverage index number (get_or list number 0) is
-        (ap (λ l. slice_get l number) (sym read)
-            ∙ slice_get-get_or list number 0 (omega (arith, begun, long)))
+    (ap (λ l. slice_get l number) (sym read)
+    ∙ slice_get-get_or list number 0 (omega (arith, begun, long)))
 
 pub member_span_is : (coverage : CoverageView) (index number start to id : ℕ) (span : Span)
     → IsCoverage coverage
@@ -358,19 +364,19 @@ member_span_is coverage index number start to id span is starts is_to is_id is_s
         from_there = is_span.from_there;
         to_there =
             is_span.to_there
-                ∙ is.numbers.each start to is_to id
-                    (begun_subject rs start id (begin_says rs id number start begins));
+            ∙ is.numbers.each start to is_to id
+            (begun_subject rs start id (begin_says rs id number start begins));
       },
     )
 
 -- the member of the task's team with a number: a task in the roster
 pub record IsSeated (rs : List Record) (tasks : List ℕ) (own place : ℕ) (roster : List (Option ℕ)) : Type 0
-    where
-  pub index : ℕ
-  pub member : ℕ
-  pub here : slice_get roster place ≡ Some (Some index)
-  pub is_member : slice_get tasks index ≡ Some member
-  pub numbered : IsMemberNumbered rs own place member
+  where
+    pub index : ℕ
+    pub member : ℕ
+    pub here : slice_get roster place ≡ Some (Some index)
+    pub is_member : slice_get tasks index ≡ Some member
+    pub numbered : IsMemberNumbered rs own place member
 
 seated : (known : TeamsView) (task team own place : ℕ) (roster : Vec (Option ℕ)) → IsTeams known
     → slice_get known.run.family.tasks task ≡ Some own → slice_get known.teams task ≡ Some (Some team)
@@ -386,8 +392,8 @@ seated known task team own place roster is is_own is_team is_roster below =
       is_member = is_member;
       numbered =
           (is.rosters.each task own team place full.0 (get_or known.run.family.tasks full.0 0) roster is_own
-              is_team is_roster is_member).0
-              full.1;
+          is_team is_roster is_member).0
+          full.1;
     }
 
 -- no member misses a barrier that ends
@@ -396,7 +402,7 @@ pub have_begun : (known : TeamsView) (task team number end : ℕ) (roster : Vec 
     → IsWaitAt known.run.records known.run.family.tasks end (ForBarrier task number)
     → HaveBegun known.begins number roster.items
 have_begun known task team number end roster is is_team is_roster
-    (meets { own = own } { begin = begin } { kind = kind } is_own there barrier begins) place below =
+    (meets {own = own} {begin = begin} {kind = kind} is_own there barrier begins) place below =
     let seat = seated known task team own place roster is is_own is_team is_roster below in
     let same = is.begins.each seat.index seat.member seat.is_member in (
       seat.index,
@@ -404,13 +410,13 @@ have_begun known task team number end roster is is_team is_roster
       elim (cases_lt number (length (row_at known.begins seat.index))) [
         | inl less ↦ less
         | inr more ↦
-            absurd ( is.whole end ( team_short ( missed own seat.member begin number kind there barrier begins
-                (mate_of_number known.run.records own place seat.member seat.numbered)
+            absurd (is.whole end (team_short (missed own seat.member begin number kind there barrier begins
+            (mate_of_number known.run.records own place seat.member seat.numbered)
             (λ start begun.
-                let found =
-                    slice_get_within (row_at known.begins seat.index) number start
-                        (ap (λ l. slice_get l number) same ∙ begun) in
-                omega (arith, found, more)))))
+            let found =
+            slice_get_within (row_at known.begins seat.index) number start
+            (ap (λ l. slice_get l number) same ∙ begun) in
+            omega (arith, found, more)))))
       ],
     )
 
@@ -425,17 +431,17 @@ member_spans_are known task team own number roster list is is_own is_team is_ros
       let inside = slice_get_within list place span there in
       let count = are.count in
       let seat =
-          seated known task team own place roster is is_own is_team is_roster
-              (omega (arith, inside, count)) in
+      seated known task team own place roster is is_own is_team is_roster
+      (omega (arith, inside, count)) in
       let found = are.each place seat.index seat.member span seat.here seat.is_member there in
       (seat.member, found.0, seat.numbered, found.1, found.2);
   all = λ place member numbered.
       let other =
-          mate_index known.run.records known.run.family.tasks task own member is.run.family.noted is_own
-              (mate_of_number known.run.records own place member numbered) in
+      mate_index known.run.records known.run.family.tasks task own member is.run.family.noted is_own
+      (mate_of_number known.run.records own place member numbered) in
       let there =
-          (is.rosters.each task own team place other.0 member roster is_own is_team is_roster other.1).1
-              numbered in
+      (is.rosters.each task own team place other.0 member roster is_own is_team is_roster other.1).1
+      numbered in
       let inside = slice_get_within roster.items place (Some other.0) there in
       let count = are.count in
       omega (arith, inside, count);
@@ -448,12 +454,12 @@ pub teamless_spans : (rs : List Record) (tasks : List ℕ) (teams : List (Option
 teamless_spans rs tasks teams task own number list are is_own no_team empty = record {
   each =
       λ place span there.
-          absurd
-              (let inside = slice_get_within list place span there in
-               let none = ap length empty in omega (arith, inside, none));
+      absurd
+      (let inside = slice_get_within list place span there in
+      let none = ap length empty in omega (arith, inside, none));
   all =
       λ place member numbered.
-          absurd (are.none task own member is_own no_team (mate_of_number rs own place member numbered));
+      absurd (are.none task own member is_own no_team (mate_of_number rs own place member numbered));
 }
 
 pub roster_more : (rs : List Record) (tasks : List ℕ) (number n index : ℕ) (roster : List (Option ℕ))
@@ -468,7 +474,7 @@ roster_more rs tasks number n index roster list last are here is = record {
     | inr new ↦
         let at_n : place ≡ n = new.0 ∙ are.count in
         let same_seat : Some index ≡ Some other =
-            same_Some (Some index) (Some other) (sym here ∙ ap (slice_get roster) (sym at_n) ∙ seat) in
+        same_Some (Some index) (Some other) (sym here ∙ ap (slice_get roster) (sym at_n) ∙ seat) in
         let same = same_Some index other same_seat in
         let P : Span → Type 0 = IsMemberSpan rs member number in
         subst P new.1 (is member (ap (slice_get tasks) same ∙ is_member))
@@ -498,8 +504,8 @@ pub held_complete : (coverage : CoverageView) (entries : List Entry) (end seen :
 held_complete coverage entries end seen cover list is right ledger are names held =
     let P : ℕ → Type 0 = λ n. AreHeldBelow n in
     (held_is_complete coverage.teams.run.records entries end cover list is.teams.run.trace right
-        is.teams.whole ledger are).1
-        (subst P (sym names) held)
+    is.teams.whole ledger are).1
+    (subst P (sym names) held)
   where
     AreHeldBelow : ℕ → Type 0
     AreHeldBelow n = (span : Span) → Contains list span → IsSpanHeld (take n entries) span cover
@@ -509,20 +515,20 @@ pub one_number_of : (coverage : CoverageView) (index end other : ℕ) → IsCove
     → IsEndNumber coverage index end → IsEndNumber coverage index other → end ≡ other
 one_number_of coverage index end other is (place, here, stands) (place', here', stands') =
     is.teams.placed.places.apart end other place stands
-        (stands' ∙ ap Some (sym (same_Some place place' (sym here ∙ here'))))
+    (stands' ∙ ap Some (sym (same_Some place place' (sym here ∙ here'))))
 
 -- what the search finds where the lengths are those of the records
 pub open_first : (known : TeamsView) (done : DoneView) (number end : ℕ) (found : Option ℕ)
     → done.teams ≡ known → IsDoneView done → AreDone done → number ≡ end
     → (AreChildrenDone done
-          → MatchOption found (IsCoverComplete (records_of done) number)
-              (IsFirstOpen (own_of done.teams) number))
+    → MatchOption found (IsCoverComplete (records_of done) number)
+    (IsFirstOpen (own_of done.teams) number))
     → MatchOption found (IsCoverComplete known.run.records end) (IsFirstOpen (own_of known) end)
 open_first known done number end found same is are at_end answer =
     let P : TeamsView → Type 0 =
-        λ t. MatchOption found (IsCoverComplete t.run.records number) (IsFirstOpen (own_of t) number) in
+    λ t. MatchOption found (IsCoverComplete t.run.records number) (IsFirstOpen (own_of t) number) in
     let Q : ℕ → Type 0 =
-        λ e. MatchOption found (IsCoverComplete known.run.records e) (IsFirstOpen (own_of known) e) in
+    λ e. MatchOption found (IsCoverComplete known.run.records e) (IsFirstOpen (own_of known) e) in
     subst Q at_end (subst P same (answer (own_children_done done is are)))
 
 -- ---- several ends
@@ -533,9 +539,9 @@ none_asked coverage of found empty = record {
   count = ap length empty;
   each =
       λ k index end answer asked here there.
-          absurd
-              (let inside = slice_get_within found k answer there in
-               let none = ap length empty in omega (arith, inside, none));
+      absurd
+      (let inside = slice_get_within found k answer there in
+      let none = ap length empty in omega (arith, inside, none));
 }
 
 pub one_more : (coverage : CoverageView) (of : List ℕ) (n index : ℕ) (answer : Option ℕ)
@@ -559,9 +565,9 @@ one_more coverage of n index answer found asked are is = record {
 -- the task of a wait has an index
 pub waiting_within : (rs : List Record) (tasks : List ℕ) (i : ℕ) (wait : Wait) → IsWaitAt rs tasks i wait
     → waiting wait < length tasks
-waiting_within rs tasks i wait (waits { parent = parent } { index = index } is_task there) =
+waiting_within rs tasks i wait (waits {parent = parent} {index = index} is_task there) =
     slice_get_within tasks index parent is_task
-waiting_within rs tasks i wait (groups { parent = parent } { index = index } is_task there) =
+waiting_within rs tasks i wait (groups {parent = parent} {index = index} is_task there) =
     slice_get_within tasks index parent is_task
-waiting_within rs tasks i wait (meets { own = own } { index = index } is_task there barrier begins) =
+waiting_within rs tasks i wait (meets {own = own} {index = index} is_task there barrier begins) =
     slice_get_within tasks index own is_task

@@ -43,14 +43,15 @@ own_by rs counts tasks table own all are is = record {
       let l : Lengths = get_or table index zero in
       let there = slice_get-get_or table index zero (omega (arith, inside, count)) in
       let mapped : slice_get own index ≡ Some (done_length l) =
-          ap (λ xs. slice_get xs index) is ∙ map_get done_length table index l there in
+      ap (λ xs. slice_get xs index) is ∙ map_get done_length table index l there in
       let least = are.each index task l here there in
       let P : ℕ → Type 0 = IsDoneFrom rs task in
       subst P (same_Some (done_length l) limit (sym mapped ∙ stands))
-      (λ m small.
-          (λ low.
-              done_below rs counts task m l least small low,
-                  λ done. below_done rs counts task m l all least done));
+      (λ m small. (
+        λ low.
+            done_below rs counts task m l least small low,
+        λ done. below_done rs counts task m l all least done,
+      ));
 }
 
 pub own_of_records : (rs : List Record) (tasks : List ℕ) (table : List Lengths) (own : List ℕ)
@@ -64,7 +65,7 @@ pub own_of_entries : (rs : List Record) (entries : List Entry) (tasks : List ℕ
     → own ≡ map done_length table → AreOwn rs tasks own
 own_of_entries rs entries tasks table own trace ledger are is =
     own_by rs (λ k. seen_at rs k < length entries) tasks table own (all_entered rs entries trace ledger) are
-        is
+    is
 
 -- what holds of a result that has both
 pub ok_both : {A E : Type 0} (r : Result A E) (P Q R : A → Type 0) → IfOk r P → IfOk r Q
@@ -80,11 +81,11 @@ raised_start family order floor limits same = record {
   all = ap length same;
   own =
       λ index.
-          let is : slice_index limits index ≡ slice_index floor index = ap (λ l. slice_index l index) same in
-          omega (arith, is);
+      let is : slice_index limits index ≡ slice_index floor index = ap (λ l. slice_index l index) same in
+      omega (arith, is);
   passed =
       λ place child up past here.
-          let inside = slice_get_within order place child here in absurd (omega (arith, inside, past));
+      let inside = slice_get_within order place child here in absurd (omega (arith, inside, past));
   least = λ top m low.
       let is : slice_index limits top ≡ slice_index floor top = ap (λ l. slice_index l top) same in
       let own = low top itself in
@@ -115,13 +116,13 @@ raised_more family order floor limits new place index first here within is are =
     of : (o : Option ℕ) → parent_index family index ≡ o → AreRaised family order floor place new
     of None none =
         let same : new ≡ limits =
-            is
-                ∙ ap
-                    (λ o.
-                        option_map_or
-                            (λ u. slice_set limits u (max (slice_index limits u) (slice_index limits index)))
-                            o limits)
-                    none in
+        is
+        ∙ ap
+        (λ o.
+        option_map_or
+        (λ u. slice_set limits u (max (slice_index limits u) (slice_index limits index)))
+        o limits)
+        none in
         let P : List ℕ → Type 0 = AreRaised family order floor place in
         subst P (sym same) record {
           all = are.all;
@@ -129,7 +130,7 @@ raised_more family order floor limits new place index first here within is are =
           passed = λ k child up past there above. elim (cases_eq k place) [
             | inl at_place ↦
                 let is_index : child ≡ index =
-                    same_Some child index (sym there ∙ ap (slice_get order) at_place ∙ here) in
+                same_Some child index (sym there ∙ ap (slice_get order) at_place ∙ here) in
                 absurd (none-some up (sym none ∙ ap (parent_index family) (sym is_index) ∙ above))
             | inr apart ↦ are.passed k child up (omega (arith, past, apart)) there above
           ];
@@ -138,21 +139,21 @@ raised_more family order floor limits new place index first here within is are =
     of (Some up) above =
         let value = max (slice_index limits up) (slice_index limits index) in
         let same : new ≡ slice_set limits up value =
-            is
-                ∙ ap
-                    (λ o.
-                        option_map_or
-                            (λ u. slice_set limits u (max (slice_index limits u) (slice_index limits index)))
-                            o limits)
-                    above in
+        is
+        ∙ ap
+        (λ o.
+        option_map_or
+        (λ u. slice_set limits u (max (slice_index limits u) (slice_index limits index)))
+        o limits)
+        above in
         let there = index_set_same limits up value (within up above) in
         let grown : (k : ℕ) → slice_index limits k ≤ slice_index (slice_set limits up value) k =
-            λ k. elim (cases_eq up k) [
+        λ k. elim (cases_eq up k) [
           | inl here_up ↦
               let kept : slice_index (slice_set limits up value) k ≡ value =
-                  ap (slice_index (slice_set limits up value)) (sym here_up) ∙ there in
+              ap (slice_index (slice_set limits up value)) (sym here_up) ∙ there in
               let old : slice_index limits k ≡ slice_index limits up =
-                  ap (slice_index limits) (sym here_up) in
+              ap (slice_index limits) (sym here_up) in
               omega (arith, kept, old)
           | inr apart ↦ let kept = index_set_other limits up k value apart in omega (arith, kept)
         ] in
@@ -162,21 +163,21 @@ raised_more family order floor limits new place index first here within is are =
           own = λ k. let old = are.own k in let more = grown k in omega (arith, old, more);
           passed = λ k child other past is_child parent.
               let kept =
-                  index_set_other limits up child value
-                      (λ same_up.
-                          let less =
-                              first.first place k index up here (is_child ∙ ap Some (sym same_up)) above in
-                          absurd (omega (arith, less, past))) in
+              index_set_other limits up child value
+              (λ same_up.
+              let less =
+              first.first place k index up here (is_child ∙ ap Some (sym same_up)) above in
+              absurd (omega (arith, less, past))) in
               elim (cases_eq k place) [
                 | inl at_place ↦
                     let is_index : child ≡ index =
-                        same_Some child index (sym is_child ∙ ap (slice_get order) at_place ∙ here) in
+                    same_Some child index (sym is_child ∙ ap (slice_get order) at_place ∙ here) in
                     let is_up : other ≡ up =
-                        same_Some other up (sym parent ∙ ap (parent_index family) is_index ∙ above) in
+                    same_Some other up (sym parent ∙ ap (parent_index family) is_index ∙ above) in
                     let new_up : slice_index (slice_set limits up value) other ≡ value =
-                        ap (slice_index (slice_set limits up value)) is_up ∙ there in
+                    ap (slice_index (slice_set limits up value)) is_up ∙ there in
                     let old_child : slice_index limits child ≡ slice_index limits index =
-                        ap (slice_index limits) is_index in
+                    ap (slice_index limits) is_index in
                     omega (arith, kept, new_up, old_child)
                 | inr apart ↦
                     let old = are.passed k child other (omega (arith, past, apart)) is_child parent in
@@ -188,13 +189,13 @@ raised_more family order floor limits new place index first here within is are =
               elim (cases_eq up top) [
                 | inl same_top ↦
                     let is_value : slice_index (slice_set limits up value) top ≡ value =
-                        ap (slice_index (slice_set limits up value)) (sym same_top) ∙ there in
+                    ap (slice_index (slice_set limits up value)) (sym same_top) ∙ there in
                     let is_up : slice_index limits up ≡ slice_index limits top =
-                        ap (slice_index limits) same_top in
+                    ap (slice_index limits) same_top in
                     let child_low =
-                        are.least index m
-                            (λ k under.
-                                low k (above_child family index top (above ∙ ap Some same_top) under)) in
+                    are.least index m
+                    (λ k under.
+                    low k (above_child family index top (above ∙ ap Some same_top) under)) in
                     omega (arith, before, is_value, is_up, child_low)
                 | inr apart ↦
                     let kept = index_set_other limits up top value apart in omega (arith, before, kept)
@@ -212,7 +213,7 @@ raised_step family order floor limits new passed index first less here within is
     let next : length order - passed ≡ place + 1 = omega (arith, less) in
     let now : length order - (passed + 1) ≡ place = omega (arith, less) in
     let there : slice_get order place ≡ Some index =
-        slice_get-get_or order place 0 (omega (arith, less)) ∙ ap Some (sym here) in
+    slice_get-get_or order place 0 (omega (arith, less)) ∙ ap Some (sym here) in
     rw now (raised_more family order floor limits new place index first there within is (rw next at are))
 
 -- ---- from parents to descendants
@@ -228,22 +229,22 @@ pub indices_of : (rs : List Record) (family : FamilyView) (i parent task : ℕ) 
     → at creation rs i ≡ Some (parent, task) → HasIndices rs family.tasks parent task
 indices_of rs family i parent task are creates =
     let own =
-        contains_get family.tasks task
-            (are.noted.each i task (at_within creation rs i (parent, task) creates)
-                (creation_made rs parent task i creates)) in
+    contains_get family.tasks task
+    (are.noted.each i task (at_within creation rs i (parent, task) creates)
+    (creation_made rs parent task i creates)) in
     let up =
-        contains_get family.tasks parent
-            (parent_noted rs family.tasks i parent task are.noted are.rooted creates) in
+    contains_get family.tasks parent
+    (parent_noted rs family.tasks i parent task are.noted are.rooted creates) in
     record { index = own.0; up = up.0; is_task = own.1; is_parent = up.1 }
 
 -- where no parent has less than its child, no task has less than one of its descendants
 descends : (rs : List Record) (family : FamilyView) (limits : List ℕ) (ancestor top task : ℕ)
     → IsFamilyOf rs family
     → ((index up : ℕ) → parent_index family index ≡ Some up
-          → slice_index limits index ≤ slice_index limits up)
+    → slice_index limits index ≤ slice_index limits up)
     → slice_get family.tasks top ≡ Some ancestor → IsDescendant rs ancestor task
     → (index : ℕ) × (slice_get family.tasks index ≡ Some task)
-        × (slice_index limits index ≤ slice_index limits top)
+    × (slice_index limits index ≤ slice_index limits top)
 descends rs family limits ancestor top task are rising is_top (child i creates) =
     let known = indices_of rs family i ancestor task are creates in
     let is = parent_at_is rs family known.index task top are known.is_task (ancestor, is_top, (i, creates)) in
@@ -252,7 +253,7 @@ descends rs family limits ancestor top task are rising is_top (deeper i {parent 
     let known = indices_of rs family i parent task are creates in
     let before = descends rs family limits ancestor top parent are rising is_top above in
     let is =
-        parent_at_is rs family known.index task before.0 are known.is_task (parent, before.1, (i, creates)) in
+    parent_at_is rs family known.index task before.0 are known.is_task (parent, before.1, (i, creates)) in
     let step = rising known.index before.0 is in
     let rest = before.2 in
     (known.index, known.is_task, omega (arith, step, rest))
@@ -294,7 +295,7 @@ low_of rs family order own limits index task t are first raised_all here (inl sa
     (index, here ∙ ap Some (sym same), omega arith)
 low_of rs family order own limits index task t are first raised_all here (inr below) =
     descends rs family limits task index t are (rising rs family order own limits are first raised_all) here
-        below
+    below
 
 index_at : (xs : List ℕ) (i x : ℕ) → slice_get xs i ≡ Some x → slice_index xs i ≡ x
 index_at xs i x is =
@@ -311,11 +312,11 @@ greatest_by done order are own_all first raised_all = record {
         let is = index_at done.families index limit stands in
         let is_own = index_at done.own t_index t_limit t_stands in
         let known =
-            low_of (records_of done) done.teams.run.family order done.own done.families index task t are first
-                raised_all here of in
+        low_of (records_of done) done.teams.run.family order done.own done.families index task t are first
+        raised_all here of in
         let same : known.0 ≡ t_index = are.makers.apart known.0 t_index t known.1 t_here in
         let is_limit : slice_index done.families known.0 ≡ slice_index done.families t_index =
-            ap (slice_index done.families) same in
+        ap (slice_index done.families) same in
         let floor = raised_all.own t_index in
         let less = known.2 in
         omega (arith, is, low, is_own, floor, less, is_limit),
@@ -325,7 +326,7 @@ greatest_by done order are own_all first raised_all = record {
         let member = above_family (records_of done) done.teams.run.family index task are here under in
         let inside = slice_get_within (tasks_of done) k member.0 member.1 in
         early member.0 member.2 k (slice_index done.own k) member.1
-            (slice_get-get_or done.own k 0 (omega (arith, inside, own_all)))) in
+        (slice_get-get_or done.own k 0 (omega (arith, inside, own_all)))) in
         omega (arith, is, low),
   );
 }

@@ -39,7 +39,7 @@ own_early done index task m is are here small = (
   λ early.
       let there = own_there done index task is here in
       (are.each index task (slice_index done.own index) here there m small).0
-          (early index (slice_index done.own index) here there),
+      (early index (slice_index done.own index) here there),
   λ finished other limit other_here stands. (are.each other task limit other_here stands m small).1 finished,
 )
 
@@ -57,7 +57,7 @@ member_index : (rs : List Record) (family : FamilyView) (index task t : ℕ) →
 member_index rs family index task t are here (inl same) = (index, here ∙ ap Some (sym same))
 member_index rs family index task t are here (inr (child i creates)) =
     let found = indices_of rs family i task t are creates in (found.index, found.is_task)
-member_index rs family index task t are here (inr (deeper i { parent = parent } above creates)) =
+member_index rs family index task t are here (inr (deeper i {parent = parent} above creates)) =
     let found = indices_of rs family i parent t are creates in (found.index, found.is_task)
 
 pub family_early : (done : DoneView) (index task m : ℕ) → IsDoneView done → AreDone done
@@ -66,11 +66,11 @@ pub family_early : (done : DoneView) (index task m : ℕ) → IsDoneView done �
 family_early done index task m is are here small = (
   λ early t of.
       let found =
-          member_index (records_of done) done.teams.run.family index task t is.teams.run.family here of in
+      member_index (records_of done) done.teams.run.family index task t is.teams.run.family here of in
       (own_early done found.0 t m is are found.1 small).0 (early t of),
   λ finished t of.
       let found =
-          member_index (records_of done) done.teams.run.family index task t is.teams.run.family here of in
+      member_index (records_of done) done.teams.run.family index task t is.teams.run.family here of in
       (own_early done found.0 t m is are found.1 small).1 (finished t of),
 )
 
@@ -82,14 +82,14 @@ held_from done entries is are right ledger = record {
   pool = λ index task limit n root parent number path here stands has_path is_child small.
       let from = are.each index task limit here stands n small in
       let held =
-          held_in_pool (records_of done) entries n root parent number task path is.teams.run.trace right
-              ledger has_path is_child in
+      held_in_pool (records_of done) entries n root parent number task path is.teams.run.trace right
+      ledger has_path is_child in
       (λ low. held.0 (from.0 low), λ holds. from.1 (held.1 holds));
   tree = λ index task limit n root path here stands has_path small.
       let greatest = is.families.each index task limit n here stands in
       let early = family_early done index task n is are here small in
       let held =
-          held_in_tree (records_of done) entries n root task path is.teams.run.trace right ledger has_path in
+      held_in_tree (records_of done) entries n root task path is.teams.run.trace right ledger has_path in
       (λ low. held.0 (early.0 (greatest.0 low)), λ holds. greatest.1 (early.1 (held.1 holds)));
 }
 
@@ -111,9 +111,9 @@ place_of rs family task are (i, is) =
     let found = indices_of rs family i made.0 task are made.1 in
     let stands = root_known rs family made.0 found.up are found.is_parent in
     let numbered =
-        contains_get (children rs made.0) task
-            (child_before rs made.0 task (length rs) i (at_within creation rs i (made.0, task) made.1)
-                made.1) in
+    contains_get (children rs made.0) task
+    (child_before rs made.0 task (length rs) i (at_within creation rs i (made.0, task) made.1)
+    made.1) in
     record {
       index = found.index;
       root = stands.0;
@@ -131,17 +131,16 @@ pub held_children_done : (done : DoneView) (entries : List Entry) → IsDoneView
 held_children_done done entries is right ledger from = λ task m explicit small.
     let at = place_of (records_of done) done.teams.run.family task is.teams.run.family explicit in
     let held =
-        held_in_pool (records_of done) entries m at.root at.parent at.number task at.path is.teams.run.trace
-            right ledger at.has_path at.is_child in
-    (
+    held_in_pool (records_of done) entries m at.root at.parent at.number task at.path is.teams.run.trace
+    right ledger at.has_path at.is_child in (
       λ early.
           let there = own_there done at.index task is at.indexed in
           held.1
-              ((from.pool at.index task (slice_index done.own at.index) m at.root at.parent at.number at.path
-                   at.indexed there at.has_path at.is_child small).0
-                  (early at.index (slice_index done.own at.index) at.indexed there)),
+          ((from.pool at.index task (slice_index done.own at.index) m at.root at.parent at.number at.path
+          at.indexed there at.has_path at.is_child small).0
+          (early at.index (slice_index done.own at.index) at.indexed there)),
       λ finished index limit here stands.
           (from.pool index task limit m at.root at.parent at.number at.path here stands at.has_path
-              at.is_child small).1
-              (held.0 finished),
+          at.is_child small).1
+          (held.0 finished),
     )

@@ -26,11 +26,11 @@ pub taskwait_says : (run : RunView) (i index : ℕ) (kind : WaitKind) (endpoint 
     → kind ≡ ForTaskwait → at region run.records i ≡ Some (event.task, Taskwait, endpoint)
 taskwait_says run i index kind endpoint event is =
     event.says
-        ∙ ap (λ k. Some (event.task, k, endpoint)) (taskwait_kind event.sync (event.waits ∙ ap Some is))
+    ∙ ap (λ k. Some (event.task, k, endpoint)) (taskwait_kind event.sync (event.waits ∙ ap Some is))
 
 pub taskgroup_says : (run : RunView) (i index : ℕ) (kind : WaitKind) (endpoint : Endpoint)
     (event : IsWaitEvent run i index kind endpoint)
     → kind ≡ ForTaskgroup → at region run.records i ≡ Some (event.task, Taskgroup, endpoint)
 taskgroup_says run i index kind endpoint event is =
     event.says
-        ∙ ap (λ k. Some (event.task, k, endpoint)) (taskgroup_kind event.sync (event.waits ∙ ap Some is))
+    ∙ ap (λ k. Some (event.task, k, endpoint)) (taskgroup_kind event.sync (event.waits ∙ ap Some is))

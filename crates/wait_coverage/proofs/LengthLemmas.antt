@@ -10,7 +10,6 @@ use Rattle.std.specs.Prelude.{min, slice_get, slice_index_or, replicate}
 use Rattle.ompt_events.specs.declared.records.Record.{Record}
 use Rattle.ompt_events.specs.declared.records.Part.{Part}
 use Rattle.ompt_events.specs.declared.records.Part.TheVariants.{Whole, Body as BodyPart, Event}
-
 use Rattle.ompt_events.specs.Records.{finish}
 use Rattle.ompt_events.specs.Places.{at, seen_at}
 use Rattle.ompt_events.specs.Completion.{IsPartFinished}
@@ -39,7 +38,7 @@ min_or a m = elim (cases_lt a m) [
 -- a part has the lesser of its length and the new one, and the others keep theirs
 with_cases : (l : Lengths) (part : Part) (m : ℕ) (p : Part)
     → (length_of (with_length l part m) p ≡ length_of l p)
-        ⊎ ((p ≡ part) × (length_of (with_length l part m) p ≡ m))
+    ⊎ ((p ≡ part) × (length_of (with_length l part m) p ≡ m))
 with_cases l Whole m Whole = elim (min_or l.whole m) [ inl same ↦ inl same | inr is ↦ inr (refl, is) ]
 with_cases l Whole m BodyPart = inl refl
 with_cases l Whole m Event = inl refl
@@ -104,8 +103,8 @@ least_more rs old new i task seen part l are finishes names before = record {
     | inr (is_part, is_seen) ↦
         let here = with_here l part (seen + 1) in
         let is_length : length_of (with_length l part (seen + 1)) p
-                ≡ length_of (with_length l part (seen + 1)) part =
-            ap (length_of (with_length l part (seen + 1))) is_part in
+        ≡ length_of (with_length l part (seen + 1)) part =
+        ap (length_of (with_length l part (seen + 1))) is_part in
         omega (arith, here, is_length, is_seen)
   ];
   only = λ p. elim (with_cases l part (seen + 1) p) [
@@ -141,9 +140,10 @@ pub done_below : (rs : List Record) (counts : ℕ → Type 0) (task m : ℕ) (l 
     → AreLeast rs counts task l → m < 2 ^ 32 → done_length l ≤ m → IsDone rs m task
 done_below rs counts task m l are small low = elim (cases_lt m l.whole) [
   | inl late ↦
-      inr
-          (part_below rs counts task m BodyPart l are small (omega arith),
-              part_below rs counts task m Event l are small (omega arith))
+      inr (
+        part_below rs counts task m BodyPart l are small (omega arith),
+        part_below rs counts task m Event l are small (omega arith),
+      )
   | inr early ↦ inl (part_below rs counts task m Whole l are small early)
 ]
 
@@ -166,12 +166,12 @@ lengths_start rs counts tasks table empty is = record {
   each = λ index task l is_task stands.
       let within = slice_get_within tasks index task is_task in
       let same : no_lengths ≡ l =
-          same_Some no_lengths l
-              (sym (ap Some (get_or-replicate (length tasks) index no_lengths no_lengths within))
-                  ∙ sym
-                      (slice_get-get_or (replicate (length tasks) no_lengths) index no_lengths
-                          (rw (length-replicate (length tasks) no_lengths) within))
-                  ∙ ap (λ t. slice_get t index) (sym is) ∙ stands) in
+      same_Some no_lengths l
+      (sym (ap Some (get_or-replicate (length tasks) index no_lengths no_lengths within))
+      ∙ sym
+      (slice_get-get_or (replicate (length tasks) no_lengths) index no_lengths
+      (rw (length-replicate (length tasks) no_lengths) within))
+      ∙ ap (λ t. slice_get t index) (sym is) ∙ stands) in
       let P : Lengths → Type 0 = AreLeast rs counts task in
       subst P same (least_none rs counts task empty);
 }
@@ -195,37 +195,37 @@ pub lengths_more : (rs : List Record) (old new : ℕ → Type 0) (i own task see
     → AreApart tasks → AreLengthsBy rs old tasks table → slice_get tasks own ≡ Some task
     → at finish rs i ≡ Some (task, part) → seen_at rs i ≡ seen
     → ((t : ℕ) (p : Part) (k : ℕ) → new k → at finish rs k ≡ Some (t, p)
-          → IsSameFinish rs old task seen part t p k)
+    → IsSameFinish rs old task seen part t p k)
     → AreLengthsBy rs new tasks (set table own (with_length (get_or table own d) part (seen + 1)))
 lengths_more rs old new i own task seen part tasks table d apart are is_own finishes names before = record {
   all = length-set table own (with_length (get_or table own d) part (seen + 1)) ∙ are.all;
   each = λ index other l is_other stands. elim (cases_eq index own) [
     | inl same ↦
         let is_task : task ≡ other =
-            same_Some task other (sym is_own ∙ ap (slice_get tasks) (sym same) ∙ is_other) in
+        same_Some task other (sym is_own ∙ ap (slice_get tasks) (sym same) ∙ is_other) in
         let is_l : with_length (get_or table own d) part (seen + 1) ≡ l =
-            same_Some (with_length (get_or table own d) part (seen + 1)) l
-                (sym (get_set_same table own (with_length (get_or table own d) part (seen + 1)) within)
-                    ∙ ap (slice_get (set table own (with_length (get_or table own d) part (seen + 1))))
-                        (sym same)
-                    ∙ stands) in
+        same_Some (with_length (get_or table own d) part (seen + 1)) l
+        (sym (get_set_same table own (with_length (get_or table own d) part (seen + 1)) within)
+        ∙ ap (slice_get (set table own (with_length (get_or table own d) part (seen + 1))))
+        (sym same)
+        ∙ stands) in
         let P : Lengths → Type 0 = AreLeast rs new other in
         let Q : ℕ → Type 0 = λ t. AreLeast rs new t (with_length (get_or table own d) part (seen + 1)) in
         subst P is_l
-            (subst Q is_task
-                (least_more rs old new i task seen part (get_or table own d)
-                    (are.each own task (get_or table own d) is_own (slice_get-get_or table own d within))
-                    finishes names
-                    (λ p k counted finishes_there. here p k (before task p k counted finishes_there))))
+        (subst Q is_task
+        (least_more rs old new i task seen part (get_or table own d)
+        (are.each own task (get_or table own d) is_own (slice_get-get_or table own d within))
+        finishes names
+        (λ p k counted finishes_there. here p k (before task p k counted finishes_there))))
     | inr different ↦
         let kept =
-            are.each index other l is_other
-                (sym
-                    (get_set_other table own index (with_length (get_or table own d) part (seen + 1))
-                        different)
-                    ∙ stands) in
+        are.each index other l is_other
+        (sym
+        (get_set_other table own index (with_length (get_or table own d) part (seen + 1))
+        different)
+        ∙ stands) in
         least_other rs old new other l kept (
-            λ p k counted finishes_other. elim (before other p k counted finishes_other) [
+        λ p k counted finishes_other. elim (before other p k counted finishes_other) [
           | inl first ↦ first
           | inr (is_task, is_part, is_seen) ↦
               absurd (different (apart index own task (is_other ∙ ap Some is_task) is_own))
@@ -247,10 +247,10 @@ pub records_other : (rs : List Record) (n : ℕ) (tasks : List ℕ) (table : Lis
     → AreLengths rs n tasks table → at finish rs n ≡ None → AreLengths rs (n + 1) tasks table
 records_other rs n tasks table are none =
     lengths_other rs (λ k. k < n) (λ k. k < n + 1) tasks table are (
-        λ task part k below finishes. elim (cases_eq k n) [
-  | inl same ↦ absurd (none-some (task, part) (sym none ∙ ap (at finish rs) (sym same) ∙ finishes))
-  | inr apart ↦ omega arith
-])
+    λ task part k below finishes. elim (cases_eq k n) [
+      | inl same ↦ absurd (none-some (task, part) (sym none ∙ ap (at finish rs) (sym same) ∙ finishes))
+      | inr apart ↦ omega arith
+    ])
 
 -- and where it does
 pub records_more : (rs : List Record) (n own task seen : ℕ) (part : Part) (tasks : List ℕ)
@@ -260,13 +260,13 @@ pub records_more : (rs : List Record) (n own task seen : ℕ) (part : Part) (tas
     → AreLengths rs (n + 1) tasks (set table own (with_length (get_or table own d) part (seen + 1)))
 records_more rs n own task seen part tasks table d apart are is_own finishes names =
     lengths_more rs (λ k. k < n) (λ k. k < n + 1) n own task seen part tasks table d apart are is_own finishes
-        (sym names) ( λ t p k below finishes_there. elim (cases_eq k n) [
-  | inl same ↦
-      let is : (t, p) ≡ (task, part) =
+    (sym names) (λ t p k below finishes_there. elim (cases_eq k n) [
+      | inl same ↦
+          let is : (t, p) ≡ (task, part) =
           same_Some (t, p) (task, part) (sym finishes_there ∙ ap (at finish rs) same ∙ finishes) in
-      inr (ap (λ (x : ℕ × Part). x.0) is, ap (λ (x : ℕ × Part). x.1) is, ap (seen_at rs) same ∙ sym names)
-  | inr different ↦ inl (omega arith)
-])
+          inr (ap (λ (x : ℕ × Part). x.0) is, ap (λ (x : ℕ × Part). x.1) is, ap (seen_at rs) same ∙ sym names)
+      | inr different ↦ inl (omega arith)
+    ])
 
 -- ---- by the first entries
 
@@ -277,9 +277,10 @@ pub entry_finishes : (rs : List Record) (entries : List Entry) (index k task : �
 entry_finishes rs entries index k task part e trace are there finishes names =
     let made = entry_made rs k task part trace finishes in
     let stands = (are (seen_at rs k) made.0).1 (k, made.1.made) in
-    let same : made.0 ≡ e = same_Some made.0 e (sym stands ∙ ap (slice_get entries) names ∙ there) in
-    (sym made.1.task_is ∙ ap (λ (x : Entry). x.task) same,
-        sym made.1.part_is ∙ ap (λ (x : Entry). x.part) same)
+    let same : made.0 ≡ e = same_Some made.0 e (sym stands ∙ ap (slice_get entries) names ∙ there) in (
+      sym made.1.task_is ∙ ap (λ (x : Entry). x.task) same,
+      sym made.1.part_is ∙ ap (λ (x : Entry). x.part) same,
+    )
 
 pub entry_there : (entries : List Entry) (index : ℕ) → index < length entries → slice_get entries index ≡ None
     → ⊥
@@ -296,9 +297,9 @@ entry_indexed rs entries index e family family_of are there =
     let made = (are index e).0 there in
     let from = entry_says rs made.0 e made.1.made in
     let called =
-        subject_index finish (e.task, e.part) e.task rs made.0 family.tasks
-            (slice_index_or family.subjects made.0 None) (finish_subject e.task e.part)
-            (subject_calls rs family made.0 family_of) from.finishes in
+    subject_index finish (e.task, e.part) e.task rs made.0 family.tasks
+    (slice_index_or family.subjects made.0 None) (finish_subject e.task e.part)
+    (subject_calls rs family made.0 family_of) from.finishes in
     (called.0, called.2)
 
 -- whose part is finished then
@@ -307,13 +308,13 @@ pub entries_more : (rs : List Record) (entries : List Entry) (index own : ℕ) (
     → IsTrace rs → AreApart tasks → IsLedgerOf rs entries → slice_get entries index ≡ Some e
     → slice_get tasks own ≡ Some e.task → AreLengthsBelow rs index tasks table
     → AreLengthsBelow rs (index + 1) tasks
-        (set table own (with_length (get_or table own d) e.part (index + 1)))
+    (set table own (with_length (get_or table own d) e.part (index + 1)))
 entries_more rs entries index own e tasks table d trace apart are there is_own before =
     let made = (are index e).0 there in
     let from = entry_says rs made.0 e made.1.made in
     lengths_more rs (λ k. seen_at rs k < index) (λ k. seen_at rs k < index + 1) made.0 own e.task index e.part
-        tasks table d apart before is_own from.finishes made.1.seen (
-        λ t p k below finishes_there. elim (cases_eq (seen_at rs k) index) [
+    tasks table d apart before is_own from.finishes made.1.seen (
+    λ t p k below finishes_there. elim (cases_eq (seen_at rs k) index) [
       | inl same ↦
           let is = entry_finishes rs entries index k t p e trace are there finishes_there same in
           inr (is.0, is.1, same)

@@ -94,17 +94,20 @@ created_between rs parent begin i child inside found =
     let other = child_with rs parent i numbered.number inside few in
     let is_child : other.0 ≡ child = same_Some other.0 child (sym other.1.numbered ∙ numbered.numbered) in
     let P : ℕ → Type 0 = λ t. slice_get (children_before rs parent i) numbered.number ≡ Some t in
-    let place = child_place rs parent i numbered.number child (subst P is_child other.1.there) in
-    (place.0, after begin place.0 place.2 (let same = place.3 in omega (arith, enough, same)), place.1,
-        place.2)
+    let place = child_place rs parent i numbered.number child (subst P is_child other.1.there) in (
+      place.0,
+      after begin place.0 place.2 (let same = place.3 in omega (arith, enough, same)),
+      place.1,
+      place.2,
+    )
   where
     after : (b c : ℕ) → at creation rs c ≡ Some (parent, child)
         → child_number rs parent b ≤ child_number rs parent c → b ≤ c
     after b c creates low = elim (cases_lt c b) [
       | inl less ↦
           let few =
-              slice_get_within (children_before rs parent b) (child_number rs parent c) child
-                  (created_child rs c parent child b creates less) in
+          slice_get_within (children_before rs parent b) (child_number rs parent c) child
+          (created_child rs c parent child b creates less) in
           absurd (omega (arith, few, low))
       | inr at_most ↦ at_most
     ]
@@ -125,40 +128,40 @@ covers_cases rs i task (grouped {parent = parent} {begin = begin} {child = child
     let inside = (ends_at rs i parent begin Taskgroup there).inside in
     let place = created_between rs parent begin i child (omega (arith, inside)) found in
     inr
-        (inl record {
-          parent = parent;
-          begin = begin;
-          child = child;
-          place = place.0;
-          is_region = there;
-          from = place.1;
-          before = place.2;
-          creates = place.3;
-          of = of;
-        })
+    (inl record {
+      parent = parent;
+      begin = begin;
+      child = child;
+      place = place.0;
+      is_region = there;
+      from = place.1;
+      before = place.2;
+      creates = place.3;
+      of = of;
+    })
 covers_cases rs i task
-    (synchronised { own = own } { begin = begin } { member = member } { start = start } { child = child }
-        { kind = kind } number there barrier begins mate starts found of) =
+    (synchronised {own = own} {begin = begin} {member = member} {start = start} {child = child}
+    {kind = kind} number there barrier begins mate starts found of) =
     let place = before_child rs member child start found in
     inr
-        (inr record {
-          own = own;
-          begin = begin;
-          kind = kind;
-          number = number;
-          member = member;
-          start = start;
-          child = child;
-          place = place.0;
-          is_region = there;
-          barrier = barrier;
-          begins = begins;
-          mate = mate;
-          starts = starts;
-          before = place.1;
-          creates = place.2;
-          of = of;
-        })
+    (inr record {
+      own = own;
+      begin = begin;
+      kind = kind;
+      number = number;
+      member = member;
+      start = start;
+      child = child;
+      place = place.0;
+      is_region = there;
+      barrier = barrier;
+      begins = begins;
+      mate = mate;
+      starts = starts;
+      before = place.1;
+      creates = place.2;
+      of = of;
+    })
 
 -- ---- one record more
 
@@ -182,37 +185,39 @@ latest_more done n own parent child value early d latest apart are is_own create
   all = length-set latest own value ∙ are.all;
   each =
       λ index other limit is_other stands m c born small low below creates_there. elim (cases_eq index own) [
-    | inl same ↦
-        let is_parent : parent ≡ other =
+        | inl same ↦
+            let is_parent : parent ≡ other =
             same_Some parent other (sym is_own ∙ ap (slice_get (tasks_of done)) (sym same) ∙ is_other) in
-        let is_limit : value ≡ limit =
+            let is_limit : value ≡ limit =
             same_Some value limit
-                (sym (get_set_same latest own value within) ∙ ap (slice_get (set latest own value)) (sym same)
-                    ∙ stands) in
-        elim (cases_eq c n) [
+            (sym (get_set_same latest own value within) ∙ ap (slice_get (set latest own value)) (sym same)
+            ∙ stands) in
+            elim (cases_eq c n) [
+              | inl here ↦
+                  let pair =
+                  same_Some (parent, child) (other, born)
+                  (sym creates ∙ ap (at creation (records_of done)) (sym here) ∙ creates_there) in
+                  let P : ℕ → Type 0 = IsEarly done m in
+                  subst P (ap (λ (p : ℕ × ℕ). p.1) pair) (finished m small (omega arith))
+              | inr earlier ↦
+                  are.each own parent (get_or latest own d) is_own
+                  (slice_get-get_or latest own d within) m c born
+                  small (omega arith) (omega arith) (creates_there ∙ ap (λ t. Some (t, born)) (sym is_parent))
+            ]
+        | inr different ↦ elim (cases_eq c n) [
           | inl here ↦
               let pair =
-                  same_Some (parent, child) (other, born)
-                      (sym creates ∙ ap (at creation (records_of done)) (sym here) ∙ creates_there) in
-              let P : ℕ → Type 0 = IsEarly done m in
-              subst P (ap (λ (p : ℕ × ℕ). p.1) pair) (finished m small (omega arith))
-          | inr earlier ↦
-              are.each own parent (get_or latest own d) is_own (slice_get-get_or latest own d within) m c born
-                  small (omega arith) (omega arith) (creates_there ∙ ap (λ t. Some (t, born)) (sym is_parent))
-        ]
-    | inr different ↦ elim (cases_eq c n) [
-      | inl here ↦
-          let pair =
               same_Some (parent, child) (other, born)
-                  (sym creates ∙ ap (at creation (records_of done)) (sym here) ∙ creates_there) in
-          absurd
+              (sym creates ∙ ap (at creation (records_of done)) (sym here) ∙ creates_there) in
+              absurd
               (different
-                  (apart index own parent (is_other ∙ ap Some (sym (ap (λ (p : ℕ × ℕ). p.0) pair))) is_own))
-      | inr earlier ↦
-          are.each index other limit is_other (sym (get_set_other latest own index value different) ∙ stands)
+              (apart index own parent (is_other ∙ ap Some (sym (ap (λ (p : ℕ × ℕ). p.0) pair))) is_own))
+          | inr earlier ↦
+              are.each index other limit is_other
+              (sym (get_set_other latest own index value different) ∙ stands)
               m c born small low (omega arith) creates_there
-    ]
-  ];
+        ]
+      ];
 }
   where
     within : own < length latest
@@ -236,44 +241,45 @@ families_more : (done : DoneView) (n own parent child value early d : ℕ) (fami
     → AreLatestFamilies done (n + 1) (set families own value)
 families_more done n own parent child value early d families apart are is_own creates is_value finished =
     record {
-  all = length-set families own value ∙ are.all;
-  each = λ index other limit is_other stands c born below creates_there. elim (cases_eq index own) [
-    | inl same ↦
-        let is_parent : parent ≡ other =
+      all = length-set families own value ∙ are.all;
+      each = λ index other limit is_other stands c born below creates_there. elim (cases_eq index own) [
+        | inl same ↦
+            let is_parent : parent ≡ other =
             same_Some parent other (sym is_own ∙ ap (slice_get (tasks_of done)) (sym same) ∙ is_other) in
-        let is_limit : value ≡ limit =
+            let is_limit : value ≡ limit =
             same_Some value limit
-                (sym (get_set_same families own value within)
-                    ∙ ap (slice_get (set families own value)) (sym same) ∙ stands) in
-        elim (cases_eq c n) [
+            (sym (get_set_same families own value within)
+            ∙ ap (slice_get (set families own value)) (sym same) ∙ stands) in
+            elim (cases_eq c n) [
+              | inl here ↦
+                  let pair =
+                  same_Some (parent, child) (other, born)
+                  (sym creates ∙ ap (at creation (records_of done)) (sym here) ∙ creates_there) in
+                  let P : ℕ → Type 0 = λ t. IsFamilyLimit done t limit in
+                  subst P (ap (λ (p : ℕ × ℕ). p.1) pair)
+                  (weaker child early limit finished (omega (arith, is_value, is_limit)))
+              | inr earlier ↦
+                  weaker born (get_or families own d) limit
+                  (are.each own parent (get_or families own d) is_own
+                  (slice_get-get_or families own d within) c
+                  born (omega arith) (creates_there ∙ ap (λ t. Some (t, born)) (sym is_parent)))
+                  (omega (arith, is_value, is_limit))
+            ]
+        | inr different ↦ elim (cases_eq c n) [
           | inl here ↦
               let pair =
-                  same_Some (parent, child) (other, born)
-                      (sym creates ∙ ap (at creation (records_of done)) (sym here) ∙ creates_there) in
-              let P : ℕ → Type 0 = λ t. IsFamilyLimit done t limit in
-              subst P (ap (λ (p : ℕ × ℕ). p.1) pair)
-                  (weaker child early limit finished (omega (arith, is_value, is_limit)))
-          | inr earlier ↦
-              weaker born (get_or families own d) limit
-              (are.each own parent (get_or families own d) is_own (slice_get-get_or families own d within) c
-                  born (omega arith) (creates_there ∙ ap (λ t. Some (t, born)) (sym is_parent)))
-              (omega (arith, is_value, is_limit))
-        ]
-    | inr different ↦ elim (cases_eq c n) [
-      | inl here ↦
-          let pair =
               same_Some (parent, child) (other, born)
-                  (sym creates ∙ ap (at creation (records_of done)) (sym here) ∙ creates_there) in
-          absurd
+              (sym creates ∙ ap (at creation (records_of done)) (sym here) ∙ creates_there) in
+              absurd
               (different
-                  (apart index own parent (is_other ∙ ap Some (sym (ap (λ (p : ℕ × ℕ). p.0) pair))) is_own))
-      | inr earlier ↦
-          are.each index other limit is_other
+              (apart index own parent (is_other ∙ ap Some (sym (ap (λ (p : ℕ × ℕ). p.0) pair))) is_own))
+          | inr earlier ↦
+              are.each index other limit is_other
               (sym (get_set_other families own index value different) ∙ stands) c born (omega arith)
               creates_there
-    ]
-  ];
-}
+        ]
+      ];
+    }
   where
     within : own < length families
     within = let inside = slice_get_within (tasks_of done) own parent is_own in omega (arith, inside, are.all)
@@ -306,11 +312,11 @@ pub noted_alone : (done : DoneView) (n : ℕ) (nodes : List Node) (new : Node) (
     → IsMark done n new.limit → AreNoted done (n + 1) (nodes ++ new ∷ []) progress
 noted_alone done n nodes new progress are none alone mark =
     noted_push done n nodes new progress progress are
-        (latest_other done n progress.latest.items are.latest none)
+    (latest_other done n progress.latest.items are.latest none)
     (families_other done n progress.families.items are.families none)
     (chains_other done nodes new progress.heads.items are.chains alone
-        (ap (at creation (records_of done)) are.count ∙ none))
-        mark
+    (ap (at creation (records_of done)) are.count ∙ none))
+    mark
 
 -- ---- the kinds of record
 
@@ -336,30 +342,30 @@ pub created_noted : (done : DoneView) (n own parent child early : ℕ) (nodes : 
     → ((m : ℕ) → m < 2 ^ 32 → early ≤ m → IsEarly done m child)
     → after.heads.items ≡ set before.heads.items own (Some n)
     → ((old : ℕ) → slice_get before.latest.items own ≡ Some old
-          → after.latest.items ≡ set before.latest.items own (max old early))
+    → after.latest.items ≡ set before.latest.items own (max old early))
     → ((old : ℕ) → slice_get before.families.items own ≡ Some old
-          → after.families.items ≡ set before.families.items own (max old new.limit))
+    → after.families.items ≡ set before.families.items own (max old new.limit))
     → AreNoted done (n + 1) (nodes ++ new ∷ []) after
 created_noted done n own parent child early nodes new before after apart are creates is_own head_there limit
     finished heads latest families =
     noted_push done n nodes new before after are
     (subst (AreLatest done (n + 1)) (sym latest_are)
-        (latest_more done n own parent child (max (get_or before.latest.items own 0) early) early 0
-            before.latest.items apart are.latest is_own creates refl finished))
+    (latest_more done n own parent child (max (get_or before.latest.items own 0) early) early 0
+    before.latest.items apart are.latest is_own creates refl finished))
     (subst (AreLatestFamilies done (n + 1)) (sym families_are)
-        (families_more done n own parent child (max (get_or before.families.items own 0) new.limit) new.limit
-            0 before.families.items apart are.families is_own creates refl limit))
+    (families_more done n own parent child (max (get_or before.families.items own 0) new.limit) new.limit
+    0 before.families.items apart are.families is_own creates refl limit))
     (subst (AreChains done (nodes ++ new ∷ [])) (sym heads_are)
-        (chains_more done nodes new before.heads.items own parent apart are.chains is_own known makes kept))
+    (chains_more done nodes new before.heads.items own parent apart are.chains is_own known makes kept))
     (record {
       begins =
           λ task says.
-              absurd (creates_no_region (records_of done) n parent child task Taskwait Begin creates says);
+          absurd (creates_no_region (records_of done) n parent child task Taskwait Begin creates says);
       meets =
           λ task begun.
-              absurd
-                  (let known = begun_region (records_of done) n task begun in
-                   creates_no_region (records_of done) n parent child task known.0 known.1 creates known.2);
+          absurd
+          (let known = begun_region (records_of done) n task begun in
+          creates_no_region (records_of done) n parent child task known.0 known.1 creates known.2);
       ends = record {
         waits = λ p b there. absurd (no_region p b Taskwait there);
         groups = λ p b c t there from below made_it. absurd (no_region p b Taskgroup there);
@@ -378,17 +384,17 @@ created_noted done n own parent child early nodes new before after apart are cre
         ≡ set before.latest.items own (max (get_or before.latest.items own 0) early)
     latest_are =
         latest (get_or before.latest.items own 0)
-            (slice_get-get_or before.latest.items own 0
-                (let inside = slice_get_within (tasks_of done) own parent is_own in
-                 let count = are.latest.all in omega (arith, inside, count)))
+        (slice_get-get_or before.latest.items own 0
+        (let inside = slice_get_within (tasks_of done) own parent is_own in
+        let count = are.latest.all in omega (arith, inside, count)))
 
     families_are : after.families.items
         ≡ set before.families.items own (max (get_or before.families.items own 0) new.limit)
     families_are =
         families (get_or before.families.items own 0)
-            (slice_get-get_or before.families.items own 0
-                (let inside = slice_get_within (tasks_of done) own parent is_own in
-                 let count = are.families.all in omega (arith, inside, count)))
+        (slice_get-get_or before.families.items own 0
+        (let inside = slice_get_within (tasks_of done) own parent is_own in
+        let count = are.families.all in omega (arith, inside, count)))
 
     known : (next : ℕ) → new.previous ≡ Some next → next < length nodes
     known next is = are.chains.known own next (head_there ∙ ap Some is)
@@ -397,8 +403,8 @@ created_noted done n own parent child early nodes new before after apart are cre
         → (other ≡ parent) × IsFamilyLimit done born new.limit
     makes other born made_it =
         let pair =
-            same_Some (parent, child) (other, born)
-                (sym creates ∙ ap (at creation (records_of done)) (sym are.count) ∙ made_it) in
+        same_Some (parent, child) (other, born)
+        (sym creates ∙ ap (at creation (records_of done)) (sym are.count) ∙ made_it) in
         let P : ℕ → Type 0 = λ t. IsFamilyLimit done t new.limit in
         (sym (ap (λ (x : ℕ × ℕ). x.0) pair), subst P (ap (λ (x : ℕ × ℕ). x.1) pair) limit)
 
@@ -420,34 +426,34 @@ closed_noted done n own parent begin nodes new before after apart are ends is_ow
     heads latest families =
     noted_push done n nodes new before after are
     (subst (AreLatest done (n + 1)) (sym latest)
-        (latest_other done n before.latest.items are.latest no_creation))
+    (latest_other done n before.latest.items are.latest no_creation))
     (subst (AreLatestFamilies done (n + 1)) (sym families)
-        (families_other done n before.families.items are.families no_creation))
+    (families_other done n before.families.items are.families no_creation))
     (subst (AreChains done (nodes ++ new ∷ [])) (sym heads_are)
-        (chains_more done nodes new before.heads.items own parent apart are.chains is_own gathered.known makes
-            kept))
+    (chains_more done nodes new before.heads.items own parent apart are.chains is_own gathered.known makes
+    kept))
     (record {
       begins =
           λ task says.
-              absurd
-                  (let same =
-                       same_Some (parent, Taskgroup, End) (task, Taskwait, Begin) (sym ends.ends ∙ says) in
-                   let kinds : End ≡ Begin = ap (λ (x : ℕ × SyncKind × Endpoint). x.2) same in cc);
+          absurd
+          (let same =
+          same_Some (parent, Taskgroup, End) (task, Taskwait, Begin) (sym ends.ends ∙ says) in
+          let kinds : End ≡ Begin = ap (λ (x : ℕ × SyncKind × Endpoint). x.2) same in cc);
       meets =
           λ task begun.
-              absurd (begun_other (records_of done) n task parent Taskgroup End ends.ends refl begun);
+          absurd (begun_other (records_of done) n task parent Taskgroup End ends.ends refl begun);
       ends = record {
         waits =
             λ p b there.
-                let same =
-                    one_region (records_of done) n parent p begin b Taskgroup Taskwait (ended ends) there in
-                absurd (let kinds = same.kind_is in cc);
+            let same =
+            one_region (records_of done) n parent p begin b Taskgroup Taskwait (ended ends) there in
+            absurd (let kinds = same.kind_is in cc);
         groups = λ p b c t there from less creates.
             let same =
-                one_region (records_of done) n parent p begin b Taskgroup Taskgroup (ended ends) there in
+            one_region (records_of done) n parent p begin b Taskgroup Taskgroup (ended ends) there in
             let begins = same.begin_is in
             grouped_limit c t (omega (arith, begins, from)) less
-                (creates ∙ ap (λ x. Some (x, t)) (sym same.task_is));
+            (creates ∙ ap (λ x. Some (x, t)) (sym same.task_is));
       };
     })
   where
@@ -466,8 +472,8 @@ closed_noted done n own parent begin nodes new before after apart are ends is_ow
         → (other ≡ parent) × IsFamilyLimit done born new.limit
     makes other born made_it =
         absurd
-            (none-some (other, born)
-                (sym no_creation ∙ ap (at creation (records_of done)) (sym are.count) ∙ made_it))
+        (none-some (other, born)
+        (sym no_creation ∙ ap (at creation (records_of done)) (sym are.count) ∙ made_it))
 
     weaker : (born : ℕ) (node : Node) → IsFamilyLimit done born node.limit → node.limit ≤ new.limit
         → IsFamilyLimit done born new.limit
@@ -479,7 +485,7 @@ closed_noted done n own parent begin nodes new before after apart are ends is_ow
     kept c born first stands less has =
         let P : Option ℕ → Type 0 = λ h. IsOnChain nodes h has.number in
         let on : IsOnChain nodes head has.number =
-            subst P (same_Some first head (sym stands ∙ head_there)) has.on in
+        subst P (same_Some first head (sym stands ∙ head_there)) has.on in
         elim (cases_lt begin has.number) [
           | inl later ↦
               inr (weaker born has.node has.limit (gathered.within has.number has.node on later has.there))
@@ -499,16 +505,16 @@ closed_noted done n own parent begin nodes new before after apart are ends is_ow
     grouped_limit c born from less creates =
         let count = are.count in
         let has =
-            are.chains.each own parent c born head is_own head_there (omega (arith, less, count)) creates in
+        are.chains.each own parent c born head is_own head_there (omega (arith, less, count)) creates in
         let begins = own_begin (records_of done) n parent begin Taskgroup ends in
         let apart_from : c ≢ begin =
-            λ same.
-                creates_no_region (records_of done) c parent born parent begins.kind Begin creates
-                    (ap (at region (records_of done)) same ∙ begins.begins) in
+        λ same.
+        creates_no_region (records_of done) c parent born parent begins.kind Begin creates
+        (ap (at region (records_of done)) same ∙ begins.begins) in
         let after = has.after in
         let later : begin < has.number =
-            elim (cases_eq c begin)
-                [inl same ↦ absurd (apart_from same) | inr other ↦ omega (arith, from, after, other)] in
+        elim (cases_eq c begin)
+        [ inl same ↦ absurd (apart_from same) | inr other ↦ omega (arith, from, after, other) ] in
         weaker born has.node has.limit (gathered.within has.number has.node has.on later has.there)
 
 -- the begin of a region that ends at a later record
@@ -518,8 +524,8 @@ pub ended_region : (rs : List Record) (i task begin : ℕ) (kind : SyncKind)
 ended_region rs i task begin kind says (ended ends) = ends
 ended_region rs i task begin kind says (at_once once) =
     absurd
-        (let same = same_Some (task, kind, End) (task, kind, BeginEnd) (sym says ∙ once) in
-         let never : End ≡ BeginEnd = ap (λ (p : ℕ × SyncKind × Endpoint). p.2) same in cc)
+    (let same = same_Some (task, kind, End) (task, kind, BeginEnd) (sym says ∙ once) in
+    let never : End ≡ BeginEnd = ap (λ (p : ℕ × SyncKind × Endpoint). p.2) same in cc)
 
 -- ---- records that create nothing
 
@@ -538,20 +544,20 @@ pub ended_mark : (done : DoneView) (n task limit : ℕ) (nodes : List Node) → 
 ended_mark done n task limit nodes marks says right = record {
   begins =
       λ t begins.
-          absurd
-              (let same = (same_says (records_of done) n task t Taskwait Taskwait End Begin says begins).2 in
-               cc);
+      absurd
+      (let same = (same_says (records_of done) n task t Taskwait Taskwait End Begin says begins).2 in
+      cc);
   meets = λ t begun. absurd (begun_other (records_of done) n t task Taskwait End says refl begun);
   ends = record {
     waits = waits;
     groups =
         λ p b c t there from less creates.
-            absurd
-                (let ends = ends_at (records_of done) n p b Taskgroup there in
-                 let same =
-                     (same_says (records_of done) n task p Taskwait Taskgroup End ends.endpoint says
-                         ends.says).1 in
-                 cc);
+        absurd
+        (let ends = ends_at (records_of done) n p b Taskgroup there in
+        let same =
+        (same_says (records_of done) n task p Taskwait Taskgroup End ends.endpoint says
+        ends.says).1 in
+        cc);
   };
 }
   where
@@ -560,16 +566,16 @@ ended_mark done n task limit nodes marks says right = record {
         let there = right p b ends in
         let begins = own_begin (records_of done) n p b Taskwait ends in
         let kinds : begins.kind ≡ Taskwait =
-            same_Some begins.kind Taskwait
-                (sym (ap (option_map (λ (r : ℕ × SyncKind × Endpoint). r.1)) begins.begins)
-                    ∙ ends.same_kind) in
+        same_Some begins.kind Taskwait
+        (sym (ap (option_map (λ (r : ℕ × SyncKind × Endpoint). r.1)) begins.begins)
+        ∙ ends.same_kind) in
         let P : ℕ → Type 0 = λ l. IsChildLimit done b p l in
         subst P there.2
-            ((marks b there.0 there.1).begins p (begins.begins ∙ ap (λ k. Some (p, k, Begin)) kinds))
+        ((marks b there.0 there.1).begins p (begins.begins ∙ ap (λ k. Some (p, k, Begin)) kinds))
     waits p b (at_once once) =
         absurd
-            (let same = (same_says (records_of done) n task p Taskwait Taskwait End BeginEnd says once).2 in
-             cc)
+        (let same = (same_says (records_of done) n task p Taskwait Taskwait End BeginEnd says once).2 in
+        cc)
 
 -- the begin of one, or one that begins and ends at once
 pub begun_mark : (done : DoneView) (n task limit : ℕ) (endpoint : Endpoint)
@@ -582,12 +588,12 @@ begun_mark done n task limit endpoint says not_end right = record {
     waits = waits;
     groups =
         λ p b c t there from less creates.
-            absurd
-                (let ends = ends_at (records_of done) n p b Taskgroup there in
-                 let same =
-                     (same_says (records_of done) n task p Taskwait Taskgroup endpoint ends.endpoint says
-                         ends.says).1 in
-                 cc);
+        absurd
+        (let ends = ends_at (records_of done) n p b Taskgroup there in
+        let same =
+        (same_says (records_of done) n task p Taskwait Taskgroup endpoint ends.endpoint says
+        ends.says).1 in
+        cc);
   };
 }
   where
@@ -600,7 +606,7 @@ begun_mark done n task limit endpoint says not_end right = record {
     waits : (p b : ℕ) → IsRegion (records_of done) n p Taskwait b → IsChildLimit done b p limit
     waits p b (ended ends) =
         absurd
-            (not_end (same_says (records_of done) n task p Taskwait Taskwait endpoint End says ends.ends).2)
+        (not_end (same_says (records_of done) n task p Taskwait Taskwait endpoint End says ends.ends).2)
     waits p b (at_once once) = mine p BeginEnd once
 
 -- the begin of a taskgroup, or one that begins and ends at once
@@ -609,20 +615,20 @@ pub group_mark : (done : DoneView) (n task limit : ℕ) (endpoint : Endpoint)
 group_mark done n task limit endpoint says not_end = record {
   begins =
       λ t begins.
-          absurd
-              (let same =
-                   (same_says (records_of done) n task t Taskgroup Taskwait endpoint Begin says begins).1 in
-               cc);
+      absurd
+      (let same =
+      (same_says (records_of done) n task t Taskgroup Taskwait endpoint Begin says begins).1 in
+      cc);
   meets = λ t begun. absurd (begun_other (records_of done) n t task Taskgroup endpoint says refl begun);
   ends = record {
     waits =
         λ p b there.
-            absurd
-                (let ends = ends_at (records_of done) n p b Taskwait there in
-                 let same =
-                     (same_says (records_of done) n task p Taskgroup Taskwait endpoint ends.endpoint says
-                         ends.says).1 in
-                 cc);
+        absurd
+        (let ends = ends_at (records_of done) n p b Taskwait there in
+        let same =
+        (same_says (records_of done) n task p Taskgroup Taskwait endpoint ends.endpoint says
+        ends.says).1 in
+        cc);
     groups = groups;
   };
 }
@@ -631,7 +637,7 @@ group_mark done n task limit endpoint says not_end = record {
         → at creation (records_of done) c ≡ Some (p, t) → IsFamilyLimit done t limit
     groups p b c t (ended ends) from less creates =
         absurd
-            (not_end (same_says (records_of done) n task p Taskgroup Taskgroup endpoint End says ends.ends).2)
+        (not_end (same_says (records_of done) n task p Taskgroup Taskgroup endpoint End says ends.ends).2)
     groups p b c t (at_once once) from less creates = absurd (omega (arith, from, less))
 
 -- the begin or end of a barrier
@@ -647,14 +653,14 @@ barrier_mark done n task limit kind endpoint says barrier right = record {
   ends = record {
     waits =
         λ p b there.
-            absurd
-                (let ends = ends_at (records_of done) n p b Taskwait there in
-                 other Taskwait ends.endpoint p refl ends.says);
+        absurd
+        (let ends = ends_at (records_of done) n p b Taskwait there in
+        other Taskwait ends.endpoint p refl ends.says);
     groups =
         λ p b c t there from less creates.
-            absurd
-                (let ends = ends_at (records_of done) n p b Taskgroup there in
-                 other Taskgroup ends.endpoint p refl ends.says);
+        absurd
+        (let ends = ends_at (records_of done) n p b Taskgroup there in
+        other Taskgroup ends.endpoint p refl ends.says);
   };
 }
   where
@@ -662,31 +668,31 @@ barrier_mark done n task limit kind endpoint says barrier right = record {
         → at region (records_of done) n ≡ Some (t, another, e) → ⊥
     other another e t none there =
         barrier_is_other kind another barrier none
-            (same_says (records_of done) n task t kind another endpoint e says there).1
+        (same_says (records_of done) n task t kind another endpoint e says there).1
 
 -- a record that begins or ends no region that waits for tasks
 pub quiet_mark : (done : DoneView) (n limit : ℕ)
     → ((task : ℕ) (kind : SyncKind) (endpoint : Endpoint)
-          → at region (records_of done) n ≡ Some (task, kind, endpoint) → wait_kind kind ≡ None)
+    → at region (records_of done) n ≡ Some (task, kind, endpoint) → wait_kind kind ≡ None)
     → IsMark done n limit
 quiet_mark done n limit none = record {
   begins = λ t begins. absurd (none-some ForTaskwait (sym (none t Taskwait Begin begins)));
   meets =
       λ t begun.
-          absurd
-              (let known = begun_region (records_of done) n t begun in
-               false≢true (sym (no_wait known.0 (none t known.0 known.1 known.2)) ∙ known.3));
+      absurd
+      (let known = begun_region (records_of done) n t begun in
+      false≢true (sym (no_wait known.0 (none t known.0 known.1 known.2)) ∙ known.3));
   ends = record {
     waits =
         λ p b there.
-            absurd
-                (let ends = ends_at (records_of done) n p b Taskwait there in
-                 none-some ForTaskwait (sym (none p Taskwait ends.endpoint ends.says)));
+        absurd
+        (let ends = ends_at (records_of done) n p b Taskwait there in
+        none-some ForTaskwait (sym (none p Taskwait ends.endpoint ends.says)));
     groups =
         λ p b c t there from less creates.
-            absurd
-                (let ends = ends_at (records_of done) n p b Taskgroup there in
-                 none-some ForTaskgroup (sym (none p Taskgroup ends.endpoint ends.says)));
+        absurd
+        (let ends = ends_at (records_of done) n p b Taskgroup there in
+        none-some ForTaskgroup (sym (none p Taskgroup ends.endpoint ends.says)));
   };
 }
 
@@ -700,10 +706,10 @@ unended_noted done n own nodes new progress are says never alone =
     (record {
       begins =
           λ t begins.
-              absurd
-                  (let same =
-                       (same_says (records_of done) n own t Taskgroup Taskwait End Begin says begins).2 in
-                   cc);
+          absurd
+          (let same =
+          (same_says (records_of done) n own t Taskgroup Taskwait End Begin says begins).2 in
+          cc);
       meets = λ t begun. absurd (begun_other (records_of done) n t own Taskgroup End says refl begun);
       ends = record {
         waits = λ p b there. absurd (never p b Taskwait there);
@@ -720,5 +726,5 @@ pub early_at : (done : DoneView) (index task limit m : ℕ) → AreApart (tasks_
 early_at done index task limit m apart is_task stands low other length_there is_task_too stands_there =
     let same = apart other index task is_task_too is_task in
     let is_limit : length_there ≡ limit =
-        same_Some length_there limit (sym stands_there ∙ ap (slice_get done.own) same ∙ stands) in
+    same_Some length_there limit (sym stands_there ∙ ap (slice_get done.own) same ∙ stands) in
     omega (arith, is_limit, low)

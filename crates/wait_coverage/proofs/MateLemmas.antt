@@ -24,37 +24,37 @@ one_index rs parallel m e whole here there same = elim (cases_order here.place t
   | inl one ↦ same_Some m e (sym here.joins ∙ ap (at joined rs) one ∙ there.joins)
   | inr (inl less) ↦
       absurd
-          (whole there.place
-              (team_short
-                  (same_index e m there.joins
-                      (place_member rs e.parallel there.place here.place m less here.joins
-                          (here.same ∙ sym there.same))
-                      same)))
+      (whole there.place
+      (team_short
+      (same_index e m there.joins
+      (place_member rs e.parallel there.place here.place m less here.joins
+      (here.same ∙ sym there.same))
+      same)))
   | inr (inr more) ↦
       absurd
-          (whole here.place
-              (team_short
-                  (same_index m e here.joins
-                      (place_member rs m.parallel here.place there.place e more there.joins
-                          (there.same ∙ sym here.same))
-                      (sym same))))
+      (whole here.place
+      (team_short
+      (same_index m e here.joins
+      (place_member rs m.parallel here.place there.place e more there.joins
+      (there.same ∙ sym here.same))
+      (sym same))))
 ]
 
 own_together : (rs : List Record) (task parallel : ℕ) (own : Membership) → IsFreeOf rs CreatedTwice
     → IsInitial rs task → Contains (members rs parallel) own → own.member ≡ task → ⊥
 own_together rs task parallel own once (k, begins) found is =
     initial_once rs k (member_place rs parallel (length rs) own found).place task own once begins
-        (member_place rs parallel (length rs) own found).joins is
+    (member_place rs parallel (length rs) own found).joins is
 
 pub one_member : (rs : List Record) (task index other member mate : ℕ) → IsFreeOf rs CreatedTwice
     → IsFreeOf rs TeamShort → IsMemberNumbered rs task index member → IsMemberNumbered rs task other mate
     → index ≡ other → member ≡ mate
 one_member rs task _ _ _ _ once whole (numbered.alone initial) (numbered.alone again) same = refl
 one_member rs task _ _ _ _ once whole (numbered.alone initial)
-        (numbered.together parallel own m found is mate) same =
+    (numbered.together parallel own m found is mate) same =
     absurd (own_together rs task parallel own once initial found is)
 one_member rs task _ _ _ _ once whole (numbered.together parallel own m found is mate)
-        (numbered.alone initial) same =
+    (numbered.alone initial) same =
     absurd (own_together rs task parallel own once initial found is)
 one_member rs task _ _ _ _ once whole (numbered.together parallel own m found is mate)
     (numbered.together other self e seen its also) same =
@@ -64,8 +64,8 @@ one_member rs task _ _ _ _ once whole (numbered.together parallel own m found is
     let team = sym here.same ∙ ap (λ (q : Membership). q.parallel) one.1 ∙ there.same in
     let P : ℕ → Type 0 = λ p. Contains (members rs p) e in
     ap (λ (q : Membership). q.member)
-        (one_index rs parallel m e whole (member_place rs parallel (length rs) m mate)
-            (member_place rs parallel (length rs) e (subst P (sym team) also)) same)
+    (one_index rs parallel m e whole (member_place rs parallel (length rs) m mate)
+    (member_place rs parallel (length rs) e (subst P (sym team) also)) same)
 
 pub number_of_mate : (rs : List Record) (task mate : ℕ) → IsTeammate rs task mate
     → (index : ℕ) × IsMemberNumbered rs task index mate

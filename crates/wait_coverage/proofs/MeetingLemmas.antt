@@ -38,17 +38,17 @@ use Rattle.task_states.proofs.RowLemmas.{row_here, row_there, row_set_same, row_
 -- where no member begins a barrier
 pub met_other : (done : DoneView) (n : ℕ) (meetings : List (Vec ℕ)) → AreMet done n meetings
     → ((index task team : ℕ) → barrier_begun (at region (records_of done) n) ≡ Some task
-          → slice_get (tasks_of done) index ≡ Some task → slice_get done.teams.teams index ≡ Some (Some team)
-          → ⊥)
+    → slice_get (tasks_of done) index ≡ Some task → slice_get done.teams.teams index ≡ Some (Some team)
+    → ⊥)
     → AreMet done (n + 1) meetings
 met_other done n meetings are none = record {
   each = λ index task team number i is_task in_team starts below. elim (cases_eq i n) [
     | inl same ↦
         absurd
-            (none index task team
-                (ap (λ k. barrier_begun (at region (records_of done) k)) (sym same)
-                    ∙ begin_says (records_of done) task number i starts)
-                is_task in_team)
+        (none index task team
+        (ap (λ k. barrier_begun (at region (records_of done) k)) (sym same)
+        ∙ begin_says (records_of done) task number i starts)
+        is_task in_team)
     | inr apart ↦ are.each index task team number i is_task in_team starts (omega (arith, below, apart))
   ];
 }
@@ -64,7 +64,7 @@ met_reached : (done : DoneView) (n : ℕ) (before after : List (Vec ℕ)) → Ar
 met_reached done n before after same are = record {
   each = λ index task team number i is_task in_team starts below.
       in_row done task number i (row_at before team) (row_at after team) (same team)
-          (are.each index task team number i is_task in_team starts below);
+      (are.each index task team number i is_task in_team starts below);
 }
 
 -- a greater limit is one too
@@ -82,51 +82,53 @@ pub met_more : (done : DoneView) (n own task team number limit : ℕ) (meetings 
     → IsFamiliesLimit done n task limit → IsRaised number limit old.items new.items
     → AreMet done (n + 1) (set reached team new)
 met_more done n own task team number limit meetings reached old new apart met same_rows is_own in_team
-        row_there begins families raised =
+    row_there begins families raised =
     record {
-  each = λ index other t k i is_other other_team starts below. elim (cases_eq i n) [
-    | inl last ↦
-        let P : ℕ → Type 0 = IsBarrierBegin (records_of done) other k in
-        let Q : ℕ → Type 0 = λ x. IsBarrierBegin (records_of done) x k n in
-        let starts_here : IsBarrierBegin (records_of done) other k n = subst P last starts in
-        let is_task : other ≡ task =
+      each = λ index other t k i is_other other_team starts below. elim (cases_eq i n) [
+        | inl last ↦
+            let P : ℕ → Type 0 = IsBarrierBegin (records_of done) other k in
+            let Q : ℕ → Type 0 = λ x. IsBarrierBegin (records_of done) x k n in
+            let starts_here : IsBarrierBegin (records_of done) other k n = subst P last starts in
+            let is_task : other ≡ task =
             same_Some other task
-                (sym (begin_says (records_of done) other k n starts_here)
-                    ∙ begin_says (records_of done) task number n begins) in
-        let is_number : k ≡ number =
+            (sym (begin_says (records_of done) other k n starts_here)
+            ∙ begin_says (records_of done) task number n begins) in
+            let is_number : k ≡ number =
             one_number (records_of done) task k number n (subst Q is_task starts_here) begins in
-        let is_index : index ≡ own = apart index own other is_other (is_own ∙ ap Some (sym is_task)) in
-        let is_team : t ≡ team =
+            let is_index : index ≡ own = apart index own other is_other (is_own ∙ ap Some (sym is_task)) in
+            let is_team : t ≡ team =
             same_Some t team
-                (same_Some (Some t) (Some team)
-                    (sym other_team ∙ ap (slice_get done.teams.teams) is_index ∙ in_team)) in
-        let R : ℕ → Type 0 = λ x. IsFamiliesLimit done x other raised.raised.0 in
-        let S : ℕ → Type 0 = λ x. IsFamiliesLimit done n x raised.raised.0 in
-        in_row done other k i new.items (row_at (set reached team new) t) (row_new t is_team) (record {
-          limit = raised.raised.0;
-          there = ap (slice_get new.items) is_number ∙ raised.raised.1;
-          families =
-              subst R (sym last)
+            (same_Some (Some t) (Some team)
+            (sym other_team ∙ ap (slice_get done.teams.teams) is_index ∙ in_team)) in
+            let R : ℕ → Type 0 = λ x. IsFamiliesLimit done x other raised.raised.0 in
+            let S : ℕ → Type 0 = λ x. IsFamiliesLimit done n x raised.raised.0 in
+            in_row done other k i new.items (row_at (set reached team new) t) (row_new t is_team) (record {
+              limit = raised.raised.0;
+              there = ap (slice_get new.items) is_number ∙ raised.raised.1;
+              families =
+                  subst R (sym last)
                   (subst S (sym is_task) (weaker done n task limit raised.raised.0 families raised.raised.2));
-        })
-    | inr earlier ↦
-        let known = are.each index other t k i is_other other_team starts (omega (arith, below, earlier)) in
-        elim (cases_eq t team) [
-          | inl is_team ↦
-              let kept =
+            })
+        | inr earlier ↦
+            let known =
+            are.each index other t k i is_other other_team starts (omega (arith, below, earlier)) in
+            elim (cases_eq t team) [
+              | inl is_team ↦
+                  let kept =
                   raised.kept k known.limit
-                      (sym (ap (λ l. slice_get l k) (row_old t is_team)) ∙ known.there) in
-              in_row done other k i new.items (row_at (set reached team new) t) (row_new t is_team) (record {
-                limit = kept.0;
-                there = kept.1;
-                families = weaker done i other known.limit kept.0 known.families kept.2;
-              })
-          | inr different ↦
-              in_row done other k i (row_at reached t) (row_at (set reached team new) t)
+                  (sym (ap (λ l. slice_get l k) (row_old t is_team)) ∙ known.there) in
+                  in_row done other k i new.items (row_at (set reached team new) t) (row_new t is_team)
+                  (record {
+                    limit = kept.0;
+                    there = kept.1;
+                    families = weaker done i other known.limit kept.0 known.families kept.2;
+                  })
+              | inr different ↦
+                  in_row done other k i (row_at reached t) (row_at (set reached team new) t)
                   (row_set_other reached team t new different) known
-        ]
-  ];
-}
+            ]
+      ];
+    }
   where
     are : AreMet done n reached
     are = met_reached done n meetings reached same_rows met
@@ -134,7 +136,7 @@ met_more done n own task team number limit meetings reached old new apart met sa
     row_new : (t : ℕ) → t ≡ team → row_at (set reached team new) t ≡ new.items
     row_new t is_team =
         ap (row_at (set reached team new)) is_team
-            ∙ row_set_same reached team new (slice_get_within reached team old row_there)
+        ∙ row_set_same reached team new (slice_get_within reached team old row_there)
 
     row_old : (t : ℕ) → t ≡ team → row_at reached t ≡ old.items
     row_old t is_team = ap (row_at reached) is_team ∙ row_here reached team old row_there
@@ -149,7 +151,7 @@ plain_limit done i limit noted none m t small low covers = elim (covers_cases (r
   | inr other ↦ elim other [
     | inl one ↦
         noted.groups one.parent one.begin one.place one.child one.is_region one.from one.before one.creates m
-            t small low one.of
+        t small low one.of
     | inr one ↦ absurd (none one.own one.begin one.kind one.is_region one.barrier)
   ]
 ]
@@ -171,7 +173,7 @@ own_begins : (done : DoneView) (i index begin number : ℕ) → IsTeams done.tea
 own_begins done i index begin number teams ends numbered =
     let barrier = ends.barrier in
     teams.numbers.each begin number numbered barrier.task
-        (barrier_begins_at (records_of done) i barrier.task begin barrier.kind barrier.ends barrier.barrier)
+    (barrier_begins_at (records_of done) i barrier.task begin barrier.kind barrier.ends barrier.barrier)
 
 own_limit : (done : DoneView) (i index team begin number : ℕ) (meetings : List (Vec ℕ)) → IsTeams done.teams
     → AreMet done (length (records_of done)) meetings → (ends : IsBarrierEnd done.teams.run i index begin)
@@ -181,7 +183,7 @@ own_limit done i index team begin number meetings teams met ends in_team numbere
     let inside = begin_inside done i index begin teams ends in
     let all = teams.numbers.all in
     met.each index ends.barrier.task team number begin ends.indexed in_team
-        (own_begins done i index begin number teams ends numbered) (omega (arith, inside, all))
+    (own_begins done i index begin number teams ends numbered) (omega (arith, inside, all))
 
 -- the team has a row, and the barrier's number a limit in it
 pub own_row : (done : DoneView) (i index team begin : ℕ) (meetings : List (Vec ℕ)) → IsTeams done.teams
@@ -190,8 +192,8 @@ pub own_row : (done : DoneView) (i index team begin : ℕ) (meetings : List (Vec
 own_row done i index team begin meetings teams met ends in_team =
     let numbered = slice_get-get_or done.teams.numbers begin 0 (begin_inside done i index begin teams ends) in
     let known =
-        own_limit done i index team begin (get_or done.teams.numbers begin 0) meetings teams met ends in_team
-            numbered in
+    own_limit done i index team begin (get_or done.teams.numbers begin 0) meetings teams met ends in_team
+    numbered in
     let row = row_there meetings team (get_or done.teams.numbers begin 0) known.limit known.there in
     slice_get_within meetings team row.0 row.1
 
@@ -203,7 +205,7 @@ pub own_meeting : (done : DoneView) (i index team begin number : ℕ) (meetings 
 own_meeting done i index team begin number meetings row teams met ends in_team numbered stands =
     let known = own_limit done i index team begin number meetings teams met ends in_team numbered in
     slice_get_within row.items number known.limit
-        (sym (ap (λ l. slice_get l number) (row_here meetings team row stands)) ∙ known.there)
+    (sym (ap (λ l. slice_get l number) (row_here meetings team row stands)) ∙ known.there)
 
 pub met_limit : (done : DoneView) (i index team begin number limit : ℕ) (meetings : List (Vec ℕ))
     (row : Vec ℕ)
@@ -212,48 +214,50 @@ pub met_limit : (done : DoneView) (i index team begin number limit : ℕ) (meeti
     → slice_get done.teams.numbers begin ≡ Some number → slice_get meetings team ≡ Some row
     → slice_get row.items number ≡ Some limit → IsEndLimit done i limit
 met_limit done i index team begin number limit meetings row teams met ends in_team numbered stands is_limit m
-        t small low covers =
+    t small low covers =
     elim (covers_cases rs i t covers) [
-  | inl one ↦
-      absurd
+      | inl one ↦
+          absurd
           (barrier_is_other kind Taskwait barrier.barrier refl
-              (one_region rs i own one.parent begin one.begin kind Taskwait barrier.ends
-                  one.is_region).kind_is)
-  | inr other ↦ elim other [
-    | inl one ↦
-        absurd
+          (one_region rs i own one.parent begin one.begin kind Taskwait barrier.ends
+          one.is_region).kind_is)
+      | inr other ↦ elim other [
+        | inl one ↦
+            absurd
             (barrier_is_other kind Taskgroup barrier.barrier refl
-                (one_region rs i own one.parent begin one.begin kind Taskgroup barrier.ends
-                    one.is_region).kind_is)
-    | inr one ↦
-        let same = one_region rs i one.own own one.begin begin one.kind kind one.is_region barrier.ends in
-        let P : ℕ → Type 0 = λ x. IsBarrierBegin rs x one.number one.begin in
-        let Q : ℕ → Type 0 = λ b. IsBarrierBegin rs own one.number b in
-        let R : ℕ → Type 0 = λ x. IsTeammate rs x one.member in
-        let begins = own_begins done i index begin number teams ends numbered in
-        let is_number =
+            (one_region rs i own one.parent begin one.begin kind Taskgroup barrier.ends
+            one.is_region).kind_is)
+        | inr one ↦
+            let same = one_region rs i one.own own one.begin begin one.kind kind one.is_region barrier.ends in
+            let P : ℕ → Type 0 = λ x. IsBarrierBegin rs x one.number one.begin in
+            let Q : ℕ → Type 0 = λ b. IsBarrierBegin rs own one.number b in
+            let R : ℕ → Type 0 = λ x. IsTeammate rs x one.member in
+            let begins = own_begins done i index begin number teams ends numbered in
+            let is_number =
             one_number rs own one.number number begin
-                (subst Q same.begin_is (subst P same.task_is one.begins)) begins in
-        let says = begin_says rs one.member one.number one.start one.starts in
-        let says_region = begun_region rs one.start one.member says in
-        let calls = subject_calls rs done.teams.run.family one.start teams.run.family in
-        let called =
+            (subst Q same.begin_is (subst P same.task_is one.begins)) begins in
+            let says = begin_says rs one.member one.number one.start one.starts in
+            let says_region = begun_region rs one.start one.member says in
+            let calls = subject_calls rs done.teams.run.family one.start teams.run.family in
+            let called =
             call_index (tasks_of done) (at subject rs one.start) _ one.member calls
-                (begun_subject rs one.start one.member says) in
-        let in_team_too =
+            (begun_subject rs one.start one.member says) in
+            let in_team_too =
             (teams.teams.mates index called.0 own one.member team ends.indexed called.2 in_team).1
-                (subst R same.task_is one.mate) in
-        let inside = at_within region rs one.start (one.member, says_region.0, says_region.1) says_region.2 in
-        let meeting =
+            (subst R same.task_is one.mate) in
+            let inside =
+            at_within region rs one.start (one.member, says_region.0, says_region.1) says_region.2 in
+            let meeting =
             met.each called.0 one.member team one.number one.start called.2 in_team_too one.starts inside in
-        let is_same : meeting.limit ≡ limit =
+            let is_same : meeting.limit ≡ limit =
             same_Some meeting.limit limit
-                (sym meeting.there ∙ ap (λ l. slice_get l one.number) (row_here meetings team row stands)
-                    ∙ ap (slice_get row.items) is_number ∙ is_limit) in
-        meeting.families one.place one.child one.before one.creates m t small (omega (arith, is_same, low))
+            (sym meeting.there ∙ ap (λ l. slice_get l one.number) (row_here meetings team row stands)
+            ∙ ap (slice_get row.items) is_number ∙ is_limit) in
+            meeting.families one.place one.child one.before one.creates m t small
+            (omega (arith, is_same, low))
             one.of
-  ]
-]
+      ]
+    ]
   where
     rs : List Record
     rs = records_of done
@@ -273,23 +277,23 @@ pub teamless_limit : (done : DoneView) (i index begin limit : ℕ) → IsTeams d
     → IsEndLimit done i limit
 teamless_limit done i index begin limit teams ends alone m t small low covers =
     elim (covers_cases (records_of done) i t covers) [
-  | inl one ↦
-      absurd
+      | inl one ↦
+          absurd
           (barrier_is_other barrier.kind Taskwait barrier.barrier refl
-              (same one.parent one.begin Taskwait one.is_region).kind_is)
-  | inr other ↦ elim other [
-    | inl one ↦
-        absurd
+          (same one.parent one.begin Taskwait one.is_region).kind_is)
+      | inr other ↦ elim other [
+        | inl one ↦
+            absurd
             (barrier_is_other barrier.kind Taskgroup barrier.barrier refl
-                (same one.parent one.begin Taskgroup one.is_region).kind_is)
-    | inr one ↦
-        let is_task = (same one.own one.begin one.kind one.is_region).task_is in
-        let R : ℕ → Type 0 = λ x. IsTeammate (records_of done) x one.member in
-        absurd
+            (same one.parent one.begin Taskgroup one.is_region).kind_is)
+        | inr one ↦
+            let is_task = (same one.own one.begin one.kind one.is_region).task_is in
+            let R : ℕ → Type 0 = λ x. IsTeammate (records_of done) x one.member in
+            absurd
             (teams.teams.none index barrier.task one.member ends.indexed alone
-                (subst R (sym is_task) one.mate))
-  ]
-]
+            (subst R (sym is_task) one.mate))
+      ]
+    ]
   where
     barrier : EndsBarrier (records_of done) i begin
     barrier = ends.barrier
@@ -311,7 +315,7 @@ added_other done n nodes are none = record {
         let P : ℕ → Type 0 = λ k. IsEndLimit done k node.limit in
         let Q : ℕ → Type 0 = λ k. IsWaitLimit done k node.limit in
         subst P (sym same)
-            (plain_limit done n node.limit (subst Q same (are.noted i node (omega (arith, same)) there)) none)
+        (plain_limit done n node.limit (subst Q same (are.noted i node (omega (arith, same)) there)) none)
     | inr apart ↦ are.known i node (omega (arith, below, apart)) there
   ];
   noted = λ i node past there. are.noted i node (omega (arith, past)) there;
@@ -328,17 +332,17 @@ added_more done n nodes new are below limit = record {
         let P : ℕ → Type 0 = λ k. IsEndLimit done k node.limit in
         let Q : Node → Type 0 = λ x. IsEndLimit done n x.limit in
         let is : new ≡ node =
-            same_Some new node
-                (sym (get_set_same nodes n new within) ∙ ap (slice_get (set nodes n new)) (sym same)
-                    ∙ there) in
+        same_Some new node
+        (sym (get_set_same nodes n new within) ∙ ap (slice_get (set nodes n new)) (sym same)
+        ∙ there) in
         subst P (sym same) (subst Q is limit)
     | inr apart ↦
         are.known i node (omega (arith, low, apart)) (sym (get_set_other nodes n i new apart) ∙ there)
   ];
   noted =
       λ i node past there.
-          are.noted i node (omega (arith, past))
-              (sym (get_set_other nodes n i new (λ same. absurd (omega (arith, same, past)))) ∙ there);
+      are.noted i node (omega (arith, past))
+      (sym (get_set_other nodes n i new (λ same. absurd (omega (arith, same, past)))) ∙ there);
 }
   where
     within : n < length nodes

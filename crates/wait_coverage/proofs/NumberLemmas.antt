@@ -20,8 +20,8 @@ counts_other rs n tasks counts are none = record {
   all = are.all;
   each =
       λ index task count is_task stands.
-          are.each index task count is_task stands
-              ∙ ap length (sym (children_same rs task n (child_at_none rs task n none)));
+      are.each index task count is_task stands
+      ∙ ap length (sym (children_same rs task n (child_at_none rs task n none)));
 }
 
 pub counts_more : (rs : List Record) (n own parent child old : ℕ) (tasks counts : List ℕ) → AreApart tasks
@@ -32,19 +32,19 @@ counts_more rs n own parent child old tasks counts apart are is_own stands_old c
   each = λ index task count is_task stands. elim (cases_eq index own) [
     | inl same ↦
         let is_parent : task ≡ parent =
-            same_Some task parent (sym is_task ∙ ap (slice_get tasks) same ∙ is_own) in
+        same_Some task parent (sym is_task ∙ ap (slice_get tasks) same ∙ is_own) in
         let is_count : count ≡ old + 1 =
-            same_Some count (old + 1)
-                (sym stands ∙ ap (slice_get (set counts own (old + 1))) same
-                    ∙ get_set_same counts own (old + 1) (slice_get_within counts own old stands_old)) in
+        same_Some count (old + 1)
+        (sym stands ∙ ap (slice_get (set counts own (old + 1))) same
+        ∙ get_set_same counts own (old + 1) (slice_get_within counts own old stands_old)) in
         let before = are.each own parent old is_own stands_old in
         is_count ∙ ap (λ k. k + 1) before ∙ sym (length_push (children_before rs parent n) child)
-            ∙ ap length (sym (children_more rs parent child n creates))
-            ∙ ap (λ t. child_number rs t (n + 1)) (sym is_parent)
+        ∙ ap length (sym (children_more rs parent child n creates))
+        ∙ ap (λ t. child_number rs t (n + 1)) (sym is_parent)
     | inr different ↦
         let other : parent ≢ task =
-            λ same. different (apart index own parent (is_task ∙ ap Some (sym same)) is_own) in
+        λ same. different (apart index own parent (is_task ∙ ap Some (sym same)) is_own) in
         are.each index task count is_task (sym (get_set_other counts own index (old + 1) different) ∙ stands)
-            ∙ ap length (sym (children_same rs task n (child_at_other rs task parent child n creates other)))
+        ∙ ap length (sym (children_same rs task n (child_at_other rs task parent child n creates other)))
   ];
 }

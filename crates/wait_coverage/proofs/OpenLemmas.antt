@@ -45,37 +45,37 @@ number_rises : (rs : List Record) (parent n m : ℕ) → n ≤ m → m ≤ lengt
     → child_number rs parent n ≤ child_number rs parent m
 number_rises rs parent n m less inside =
     elim (cases_lt (child_number rs parent m) (child_number rs parent n)) [
-  | inl more ↦
-      let found = child_with rs parent n (child_number rs parent m) (omega (arith, less, inside)) more in
-      let past =
+      | inl more ↦
+          let found = child_with rs parent n (child_number rs parent m) (omega (arith, less, inside)) more in
+          let past =
           slice_get_within (children_before rs parent m) (child_number rs parent m) found.0
-              (child_stays rs parent n m (child_number rs parent m) found.0 found.1.there less) in
-      absurd (omega (arith, past))
-  | inr at_most ↦ at_most
-]
+          (child_stays rs parent n m (child_number rs parent m) found.0 found.1.there less) in
+          absurd (omega (arith, past))
+      | inr at_most ↦ at_most
+    ]
 
 between : (rs : List Record) (parent begin i c task : ℕ) → c < length rs → begin ≤ c → c < i
     → at creation rs c ≡ Some (parent, task) → Contains (children_between rs parent begin i) task
 between rs parent begin i c task inside from before creates =
     dropped (children_before rs parent i) (child_number rs parent begin) (child_number rs parent c) task
     (number_rises rs parent begin c from (omega (arith, inside)))
-        (created_child rs c parent task i creates before)
+    (created_child rs c parent task i creates before)
 
 awaited_covered : (rs : List Record) (tasks : List ℕ) (i task : ℕ) (wait : Wait) → IsWaitAt rs tasks i wait
     → IsAwaited rs tasks wait task → Covers rs i task
 awaited_covered rs tasks i task wait
-        (waits { parent = parent } { begin = begin } { index = index } is_parent there) own =
+    (waits {parent = parent} {begin = begin} {index = index} is_parent there) own =
     of own.within own.creates
   where
     of : {p c : ℕ} → IsWithin rs tasks p c (ForTaskwait index begin) → at creation rs c ≡ Some (p, task)
         → Covers rs i task
     of {p} {c} (before_begin own_is before) creates =
         waited there
-            (child_before rs parent task begin c before
-                (creates ∙ ap (λ t. Some (t, task)) (same_Some p parent (sym own_is ∙ is_parent))))
+        (child_before rs parent task begin c before
+        (creates ∙ ap (λ t. Some (t, task)) (same_Some p parent (sym own_is ∙ is_parent))))
 awaited_covered rs tasks i task wait
-        (groups { parent = parent } { begin = begin } { index = index } is_parent there) (first, own, family)
-        =
+    (groups {parent = parent} {begin = begin} {index = index} is_parent there) (first, own, family)
+    =
     of own.within own.creates
   where
     of : {p c : ℕ} → IsWithin rs tasks p c (ForTaskgroup index begin i) → at creation rs c ≡ Some (p, first)
@@ -84,13 +84,13 @@ awaited_covered rs tasks i task wait
         let ends = ends_at rs i parent begin Taskgroup there in
         let inside = ends.inside in
         grouped there
-            (between rs parent begin i c first (omega (arith, inside, before)) from before
-                (creates ∙ ap (λ t. Some (t, first)) (same_Some p parent (sym own_is ∙ is_parent))))
-            family
+        (between rs parent begin i c first (omega (arith, inside, before)) from before
+        (creates ∙ ap (λ t. Some (t, first)) (same_Some p parent (sym own_is ∙ is_parent))))
+        family
 awaited_covered rs tasks i task wait
-        (meets { own = waiter } { begin = begin } { index = index } { number = number } is_own there barrier
-            begins)
-        (first, own, family) =
+    (meets {own = waiter} {begin = begin} {index = index} {number = number} is_own there barrier
+    begins)
+    (first, own, family) =
     of own.within own.creates
   where
     of : {p c : ℕ} → IsWithin rs tasks p c (ForBarrier index number) → at creation rs c ≡ Some (p, first)
@@ -98,110 +98,114 @@ awaited_covered rs tasks i task wait
     of {p} {c} (by_member {own = other} {start = start} own_is mate starts before) creates =
         let P : ℕ → Type 0 = λ t. IsTeammate rs t p in
         synchronised number there barrier begins (subst P (same_Some other waiter (sym own_is ∙ is_own)) mate)
-            starts (child_before rs p first start c before creates) family
+        starts (child_before rs p first start c before creates) family
 
 covered_awaited : (rs : List Record) (tasks : List ℕ) (i task : ℕ) (wait : Wait) → IsWaitAt rs tasks i wait
     → Covers rs i task → IsAwaited rs tasks wait task
-covered_awaited rs tasks i task wait (waits { parent = parent } { begin = begin } is_parent there) covers =
+covered_awaited rs tasks i task wait (waits {parent = parent} {begin = begin} is_parent there) covers =
     elim (covers_cases rs i task covers) [
-  | inl one ↦
-      let same = one_region rs i one.parent parent one.begin begin Taskwait Taskwait one.is_region there in
-      let begins = same.begin_is in
-      let before = one.before in
-      record {
-        parent = parent;
-        made = one.place;
-        within = before_begin is_parent (omega (arith, begins, before));
-        creates = one.creates ∙ ap (λ p. Some (p, task)) same.task_is;
-      }
-  | inr other ↦ elim other [
-    | inl one ↦
-        let same =
+      | inl one ↦
+          let same =
+          one_region rs i one.parent parent one.begin begin Taskwait Taskwait one.is_region there in
+          let begins = same.begin_is in
+          let before = one.before in
+          record {
+            parent = parent;
+            made = one.place;
+            within = before_begin is_parent (omega (arith, begins, before));
+            creates = one.creates ∙ ap (λ p. Some (p, task)) same.task_is;
+          }
+      | inr other ↦ elim other [
+        | inl one ↦
+            let same =
             (one_region rs i one.parent parent one.begin begin Taskgroup Taskwait one.is_region
-                there).kind_is in
-        absurd (cc)
-    | inr one ↦
-        absurd
+            there).kind_is in
+            absurd (cc)
+        | inr one ↦
+            absurd
             (barrier_is_other one.kind Taskwait one.barrier refl
-                (one_region rs i one.own parent one.begin begin one.kind Taskwait one.is_region
-                    there).kind_is)
-  ]
-]
-covered_awaited rs tasks i task wait (groups { parent = parent } { begin = begin } is_parent there) covers =
+            (one_region rs i one.own parent one.begin begin one.kind Taskwait one.is_region
+            there).kind_is)
+      ]
+    ]
+covered_awaited rs tasks i task wait (groups {parent = parent} {begin = begin} is_parent there) covers =
     elim (covers_cases rs i task covers) [
-  | inl one ↦
-      let same =
+      | inl one ↦
+          let same =
           (one_region rs i one.parent parent one.begin begin Taskwait Taskgroup one.is_region
-              there).kind_is in
-      absurd (cc)
-  | inr other ↦ elim other [
-    | inl one ↦
-        let same =
+          there).kind_is in
+          absurd (cc)
+      | inr other ↦ elim other [
+        | inl one ↦
+            let same =
             one_region rs i one.parent parent one.begin begin Taskgroup Taskgroup one.is_region there in
-        let begins = same.begin_is in
-        let from = one.from in
-        (one.child,
-            record {
-              parent = parent;
-              made = one.place;
-              within = in_group is_parent (omega (arith, begins, from)) one.before;
-              creates = one.creates ∙ ap (λ p. Some (p, one.child)) same.task_is;
-            },
-            one.of)
-    | inr one ↦
-        absurd
+            let begins = same.begin_is in
+            let from = one.from in (
+              one.child,
+              record {
+                parent = parent;
+                made = one.place;
+                within = in_group is_parent (omega (arith, begins, from)) one.before;
+                creates = one.creates ∙ ap (λ p. Some (p, one.child)) same.task_is;
+              },
+              one.of,
+            )
+        | inr one ↦
+            absurd
             (barrier_is_other one.kind Taskgroup one.barrier refl
-                (one_region rs i one.own parent one.begin begin one.kind Taskgroup one.is_region
-                    there).kind_is)
-  ]
-]
+            (one_region rs i one.own parent one.begin begin one.kind Taskgroup one.is_region
+            there).kind_is)
+      ]
+    ]
 covered_awaited rs tasks i task wait
-        (meets { own = waiter } { begin = begin } { number = number } { kind = kind } is_own there barrier
-            begins)
-        covers =
+    (meets {own = waiter} {begin = begin} {number = number} {kind = kind} is_own there barrier
+    begins)
+    covers =
     elim (covers_cases rs i task covers) [
-  | inl one ↦
-      absurd
+      | inl one ↦
+          absurd
           (barrier_is_other kind Taskwait barrier refl
-              (one_region rs i waiter one.parent begin one.begin kind Taskwait there one.is_region).kind_is)
-  | inr other ↦ elim other [
-    | inl one ↦
-        absurd
+          (one_region rs i waiter one.parent begin one.begin kind Taskwait there one.is_region).kind_is)
+      | inr other ↦ elim other [
+        | inl one ↦
+            absurd
             (barrier_is_other kind Taskgroup barrier refl
-                (one_region rs i waiter one.parent begin one.begin kind Taskgroup there
-                    one.is_region).kind_is)
-    | inr one ↦
-        let same = one_region rs i one.own waiter one.begin begin one.kind kind one.is_region there in
-        let P : ℕ → Type 0 = λ t. IsTeammate rs t one.member in
-        let Q : ℕ → Type 0 = λ t. IsBarrierBegin rs t one.number one.begin in
-        let R : ℕ → Type 0 = λ b. IsBarrierBegin rs waiter one.number b in
-        let S : ℕ → Type 0 = λ n. IsBarrierBegin rs one.member n one.start in
-        let is_number =
+            (one_region rs i waiter one.parent begin one.begin kind Taskgroup there
+            one.is_region).kind_is)
+        | inr one ↦
+            let same = one_region rs i one.own waiter one.begin begin one.kind kind one.is_region there in
+            let P : ℕ → Type 0 = λ t. IsTeammate rs t one.member in
+            let Q : ℕ → Type 0 = λ t. IsBarrierBegin rs t one.number one.begin in
+            let R : ℕ → Type 0 = λ b. IsBarrierBegin rs waiter one.number b in
+            let S : ℕ → Type 0 = λ n. IsBarrierBegin rs one.member n one.start in
+            let is_number =
             one_number rs waiter one.number number begin
-                (subst R same.begin_is (subst Q same.task_is one.begins)) begins in
-        (one.child,
-            record {
-              parent = one.member;
-              made = one.place;
-              within =
-                  by_member is_own (subst P same.task_is one.mate) (subst S is_number one.starts) one.before;
-              creates = one.creates;
-            },
-            one.of)
-  ]
-]
+            (subst R same.begin_is (subst Q same.task_is one.begins)) begins in (
+              one.child,
+              record {
+                parent = one.member;
+                made = one.place;
+                within =
+                    by_member is_own (subst P same.task_is one.mate) (subst S is_number one.starts)
+                    one.before;
+                creates = one.creates;
+              },
+              one.of,
+            )
+      ]
+    ]
 
 -- ---- unfinished tasks
 
 -- what ends there
 wait_ends : (rs : List Record) (tasks : List ℕ) (i : ℕ) (wait : Wait) → IsWaitAt rs tasks i wait
     → (task begin : ℕ) × (kind : SyncKind) × EndsAt rs i task begin kind
-wait_ends rs tasks i wait (waits { parent = parent } { begin = begin } is_parent there) =
+wait_ends rs tasks i wait (waits {parent = parent} {begin = begin} is_parent there) =
     (parent, begin, Taskwait, ends_at rs i parent begin Taskwait there)
-wait_ends rs tasks i wait (groups { parent = parent } { begin = begin } is_parent there) =
+wait_ends rs tasks i wait (groups {parent = parent} {begin = begin} is_parent there) =
     (parent, begin, Taskgroup, ends_at rs i parent begin Taskgroup there)
-wait_ends rs tasks i wait (meets { own = own } { begin = begin } { kind = kind } is_own there barrier begins)
-        =
+wait_ends rs tasks i wait (meets {own = own} {begin = begin} {kind = kind} is_own there barrier begins)
+    =
     (own, begin, kind, ends_at rs i own begin kind there)
 
 -- a task that is waited for was created
@@ -215,7 +219,7 @@ awaited_created rs tasks task wait is = of (cover_of wait) is
     of Descendants (first, own, inl same) =
         (own.made, creation_at_created own.parent first rs own.made own.creates ∙ ap Some (sym same))
     of Descendants (first, own, inr (child i creates)) = (i, creation_at_created first task rs i creates)
-    of Descendants (first, own, inr (deeper i { parent = parent } above creates)) =
+    of Descendants (first, own, inr (deeper i {parent = parent} above creates)) =
         (i, creation_at_created parent task rs i creates)
 
 -- a covered task was created
@@ -234,7 +238,7 @@ covered_explicit rs i task covers = elim (covers_cases rs i task covers) [
         (place, creation_at_created parent first rs place creates ∙ ap Some (sym same))
     family_explicit rs parent first task place creates (inr (child i born)) =
         (i, creation_at_created first task rs i born)
-    family_explicit rs parent first task place creates (inr (deeper i { parent = above } below born)) =
+    family_explicit rs parent first task place creates (inr (deeper i {parent = above} below born)) =
         (i, creation_at_created above task rs i born)
 
 -- each record stands at a place in the file
@@ -252,8 +256,8 @@ limit_complete done i limit seen exact is_limit names small low task covers =
     let early = is_limit seen task small low covers in
     let P : ℕ → Type 0 = λ n. IsDone (records_of done) n task in
     complete_there (records_of done) i task
-        (subst P (sym names)
-            ((exact task seen (covered_explicit (records_of done) i task covers) small).0 early))
+    (subst P (sym names)
+    ((exact task seen (covered_explicit (records_of done) i task covers) small).0 early))
 
 -- each kind of barrier waits
 pub barrier_waits : (kind : SyncKind) → is_barrier kind ≡ true → waits_for_tasks kind ≡ true
@@ -307,7 +311,7 @@ none_complete rs i ends_none task covers =
 pub none_or_wait : (done : DoneView) (i : ℕ) (found : Option Wait)
     → MatchOption found (EndsNoWaitAt (records_of done) i) (IsWaitAt (records_of done) (tasks_of done) i)
     → MatchOption found (AreChildrenDone done → IsCoverComplete (records_of done) i)
-        (IsWaitAt (records_of done) (tasks_of done) i)
+    (IsWaitAt (records_of done) (tasks_of done) i)
 none_or_wait done i None ends_none = λ exact. none_complete (records_of done) i ends_none
 none_or_wait done i (Some wait) is = is
 
@@ -321,19 +325,19 @@ late_if_open done i seen task wait exact small is names = (
     incomplete = λ complete.
         let made = awaited_created (records_of done) (tasks_of done) task wait late.0 in
         late.1
-            ((exact task seen made small).1
-                (subst (done_below done task) names
-                    (done_there (records_of done) i ends.0 task ends.2 ends.3.endpoint ends.3.says
-                        complete)));
+        ((exact task seen made small).1
+        (subst (done_below done task) names
+        (done_there (records_of done) i ends.0 task ends.2 ends.3.endpoint ends.3.says
+        complete)));
   },
   λ is_open. (
     covered_awaited (records_of done) (tasks_of done) i task wait is is_open.covered,
     λ early.
         is_open.incomplete
-            (complete_there (records_of done) i task
-                (subst (done_below done task) (sym names)
-                    ((exact task seen (covered_explicit (records_of done) i task is_open.covered) small).0
-                        early))),
+        (complete_there (records_of done) i task
+        (subst (done_below done task) (sym names)
+        ((exact task seen (covered_explicit (records_of done) i task is_open.covered) small).0
+        early))),
   ),
 )
   where
@@ -344,34 +348,37 @@ pub late_open : (done : DoneView) (i seen : ℕ) (wait : Wait) (found : Option �
     → AreChildrenDone done → seen < 2 ^ 32 → IsWaitAt (records_of done) (tasks_of done) i wait
     → seen_at (records_of done) i ≡ seen
     → MatchOption found ((place task : ℕ) → IsLateAt done wait seen place task → ⊥)
-        (IsFirstLate done wait seen)
+    (IsFirstLate done wait seen)
     → MatchOption found (IsCoverComplete (records_of done) i) (IsFirstOpen (own_of done.teams) i)
 late_open done i seen wait None view exact small is names in_time =
     λ task covers. elim (done_or_not (records_of done) seen task) [
-  | inl finished ↦ complete_there (records_of done) i task (subst (done_below done task) (sym names) finished)
-  | inr not_done ↦
-      let awaited = covered_awaited (records_of done) (tasks_of done) i task wait is covers in
-      let made = awaited_created (records_of done) (tasks_of done) task wait awaited in
-      let there =
+      | inl finished ↦
+          complete_there (records_of done) i task (subst (done_below done task) (sym names) finished)
+      | inr not_done ↦
+          let awaited = covered_awaited (records_of done) (tasks_of done) i task wait is covers in
+          let made = awaited_created (records_of done) (tasks_of done) task wait awaited in
+          let there =
           place_there (own_of done.teams) view.teams.placed made.0
-              (at_within created (records_of done) made.0 task made.1) in
-      absurd
-          (in_time there.0 task
-              ((made.0, there.1, made.1),
-                  (awaited, λ early. not_done ((exact task seen made small).0 early))))
-]
+          (at_within created (records_of done) made.0 task made.1) in
+          absurd
+          (in_time there.0 task (
+            (made.0, there.1, made.1),
+            (awaited, λ early. not_done ((exact task seen made small).0 early)),
+          ))
+    ]
 late_open done i seen wait (Some task) view exact small is names late = record {
   is_open = (late_if_open done i seen task wait exact small is names).0 late.late.1;
   creation = late.place;
   is_created = late.late.0;
   created_first =
       λ place other below creates is_open.
-          late.first place other below
-              (creates, (late_if_open done i seen other wait exact small is names).1 is_open);
+      late.first place other below
+      (creates, (late_if_open done i seen other wait exact small is names).1 is_open);
 }
 
 -- where all is complete no task is open
 pub none_open : (rs : List Record) (i task : ℕ) → IsCoverComplete rs i → IsTrue false ↔ IsOpen rs i task
-none_open rs i task complete =
-    ((λ never. absurd (false≢true never)),
-        (λ is_open. absurd (is_open.incomplete (complete task is_open.covered))))
+none_open rs i task complete = (
+  (λ never. absurd (false≢true never)),
+  (λ is_open. absurd (is_open.incomplete (complete task is_open.covered))),
+)

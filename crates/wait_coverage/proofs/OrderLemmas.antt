@@ -32,8 +32,8 @@ range_first family n all lower = record {
   all = λ index less. (index, range_get n index (omega (arith, less, all)));
   within =
       λ place index is.
-          let got = get_range n place index is in
-          let low = got.1 in let same = got.0 in omega (arith, low, same, all);
+      let got = get_range n place index is in
+      let low = got.1 in let same = got.0 in omega (arith, low, same, all);
   first = λ a b child up is_child is_up is.
       let there = get_range n a child is_child in
       let above = get_range n b up is_up in
@@ -53,7 +53,7 @@ ranked_more family n ranked are = record {
     | inl same ↦ rw same (Contains-push ranked (depth_in family n, n))
     | inr apart ↦
         Contains-append_left ranked ((depth_in family n, n) ∷ []) (depth_in family index, index)
-            (are.all index (omega arith))
+        (are.all index (omega arith))
   ];
   only = λ entry has. elim (Contains-push_cases ranked (depth_in family n, n) entry has) [
     | inl before ↦ let old = are.only entry before in let less = old.0 in (omega (arith, less), old.1)
@@ -68,10 +68,10 @@ pub ranked_moved : (family : FamilyView) (n : ℕ) (old new : List (ℕ × ℕ))
 ranked_moved family n old new are permutation = record {
   all =
       λ index less.
-          Contains-permutation old new (depth_in family index, index) permutation (are.all index less);
+      Contains-permutation old new (depth_in family index, index) permutation (are.all index less);
   only =
       λ entry has.
-          are.only entry (Contains-permutation new old entry (IsPermutation-sym old new permutation) has);
+      are.only entry (Contains-permutation new old entry (IsPermutation-sym old new permutation) has);
 }
 
 -- what stands at a place of a mapped list
@@ -93,9 +93,10 @@ pub ranked_first : (rs : List Record) (family : FamilyView) (ranked : List (ℕ 
 ranked_first rs family ranked family_of are rises = record {
   all =
       λ index less.
-          let found = contains_get ranked (depth_in family index, index) (are.all index less) in
-          (found.0,
-              map_get (λ (entry : ℕ × ℕ). entry.1) ranked found.0 (depth_in family index, index) found.1);
+      let found = contains_get ranked (depth_in family index, index) (are.all index less) in (
+        found.0,
+        map_get (λ (entry : ℕ × ℕ). entry.1) ranked found.0 (depth_in family index, index) found.1,
+      );
   within = λ place index is. let entry = entry_at place index is in let less = entry.2.0 in less;
   first = λ a b child up is_child is_up is. elim (cases_lt b a) [
     | inl before ↦ before
@@ -104,18 +105,18 @@ ranked_first rs family ranked family_of are rises = record {
         let upper = entry_at b up is_up in
         let less = lower.2.0 in
         let deeper =
-            parent_depth rs family child (get_or family.tasks child 0) up family_of
-                (slice_get-get_or family.tasks child 0 less) is in
+        parent_depth rs family child (get_or family.tasks child 0) up family_of
+        (slice_get-get_or family.tasks child 0 less) is in
         let d : ℕ × ℕ = (0, 0) in
         let rising = rises a b d behind (slice_get_within ranked b (upper.0, up) upper.1) in
         let first : get_or ranked a d ≡ (lower.0, child) =
-            same_Some (get_or ranked a d) (lower.0, child)
-                (sym (slice_get-get_or ranked a d (slice_get_within ranked a (lower.0, child) lower.1))
-                    ∙ lower.1) in
+        same_Some (get_or ranked a d) (lower.0, child)
+        (sym (slice_get-get_or ranked a d (slice_get_within ranked a (lower.0, child) lower.1))
+        ∙ lower.1) in
         let second : get_or ranked b d ≡ (upper.0, up) =
-            same_Some (get_or ranked b d) (upper.0, up)
-                (sym (slice_get-get_or ranked b d (slice_get_within ranked b (upper.0, up) upper.1))
-                    ∙ upper.1) in
+        same_Some (get_or ranked b d) (upper.0, up)
+        (sym (slice_get-get_or ranked b d (slice_get_within ranked b (upper.0, up) upper.1))
+        ∙ upper.1) in
         let shallow : lower.0 ≤ upper.0 = rw (first, second) at rising in
         let is_lower = lower.2.1 in
         let is_upper = upper.2.1 in
@@ -125,11 +126,16 @@ ranked_first rs family ranked family_of are rises = record {
   where
     entry_at : (place index : ℕ) → slice_get (map (λ (entry : ℕ × ℕ). entry.1) ranked) place ≡ Some index
         → (depth : ℕ) × (slice_get ranked place ≡ Some (depth, index))
-            × ((index < length family.tasks) × (depth ≡ depth_in family index))
+        × ((index < length family.tasks) × (depth ≡ depth_in family index))
     entry_at place index is =
         let found = get_map (λ (entry : ℕ × ℕ). entry.1) ranked place index is in
         let only = are.only found.0 (get_contains ranked found.0 place found.1) in
-        let pair : found.0 ≡ (found.0.0, index) = ap (λ i. (found.0.0, i)) found.2 in
-        (found.0.0, found.1 ∙ ap Some pair,
-            (let less = only.0 in
-             let same = found.2 in omega (arith, less, same), only.1 ∙ ap (depth_in family) found.2))
+        let pair : found.0 ≡ (found.0.0, index) = ap (λ i. (found.0.0, i)) found.2 in (
+          found.0.0,
+          found.1 ∙ ap Some pair,
+          (
+            let less = only.0 in
+                let same = found.2 in omega (arith, less, same),
+            only.1 ∙ ap (depth_in family) found.2,
+          ),
+        )

@@ -28,25 +28,29 @@ own_seen : (rs : List Record) (own : OwnView) → IsOwnOf rs own → (number pla
     → slice_get own.places number ≡ Some place → seen_at own.run.records number ≡ seen_at rs place
 own_seen rs own of number place stands =
     ap (λ (o : Option Record). option_map_or (λ (r : Record). r.seen) o 0)
-        (own_record rs own of number place stands)
+    (own_record rs own of number place stands)
 
 part_in_file : (rs : List Record) (own : OwnView) (n task : ℕ) (part : Part) → IsOwnOf rs own → IsOwn own
     → IsPartFinished own.run.records (λ k. seen_at own.run.records k < n) task part
     → IsPartFinished rs (λ k. seen_at rs k < n) task part
 part_in_file rs own n task part of is (k, says, seen) =
     let there = place_of_number rs own is.places k (at_within finish own.run.records k (task, part) says) in
-    let P : ℕ → Type 0 = λ s. s < n in
-    (there.0, sym (own_says finish rs own of k there.0 there.1) ∙ says,
-        subst P (own_seen rs own of k there.0 there.1) seen)
+    let P : ℕ → Type 0 = λ s. s < n in (
+      there.0,
+      sym (own_says finish rs own of k there.0 there.1) ∙ says,
+      subst P (own_seen rs own of k there.0 there.1) seen,
+    )
 
 part_in_own : (rs : List Record) (own : OwnView) (n task : ℕ) (part : Part) → IsOwnOf rs own → IsOwn own
     → IsPartFinished rs (λ k. seen_at rs k < n) task part
     → IsPartFinished own.run.records (λ k. seen_at own.run.records k < n) task part
 part_in_own rs own n task part of is (place, says, seen) =
     let there = number_of_place rs own of is.places place (at_within finish rs place (task, part) says) in
-    let P : ℕ → Type 0 = λ s. s < n in
-    (there.0, own_says finish rs own of there.0 place there.1 ∙ says,
-        subst P (sym (own_seen rs own of there.0 place there.1)) seen)
+    let P : ℕ → Type 0 = λ s. s < n in (
+      there.0,
+      own_says finish rs own of there.0 place there.1 ∙ says,
+      subst P (sym (own_seen rs own of there.0 place there.1)) seen,
+    )
 
 -- the entries below a length finish the same tasks
 pub own_done : (rs : List Record) (own : OwnView) (n task : ℕ) → IsOwnOf rs own → IsOwn own
@@ -70,19 +74,19 @@ pub own_complete : (rs : List Record) (own : OwnView) (number place task covered
 own_complete rs own number place task covered of is stands covers = (
   λ complete.
       let done =
-          (own_done rs own (seen_at own.run.records number) task of is).0
-              (done_there own.run.records number ends.task task ends.kind at_end.endpoint at_end.says
-                  complete) in
+      (own_done rs own (seen_at own.run.records number) task of is).0
+      (done_there own.run.records number ends.task task ends.kind at_end.endpoint at_end.says
+      complete) in
       let P : ℕ → Type 0 = λ n. IsDone rs n task in
       complete_there rs place task (subst P (own_seen rs own of number place stands) done),
   λ complete.
       let done =
-          done_there rs place ends.task task ends.kind at_end.endpoint
-              (sym (own_says region rs own of number place stands) ∙ at_end.says) complete in
+      done_there rs place ends.task task ends.kind at_end.endpoint
+      (sym (own_says region rs own of number place stands) ∙ at_end.says) complete in
       let P : ℕ → Type 0 = λ n. IsDone rs n task in
       complete_there own.run.records number task
-          ((own_done rs own (seen_at own.run.records number) task of is).1
-              (subst P (sym (own_seen rs own of number place stands)) done)),
+      ((own_done rs own (seen_at own.run.records number) task of is).1
+      (subst P (sym (own_seen rs own of number place stands)) done)),
 )
   where
     ends : EndsWaitAt own.run.records number
@@ -102,8 +106,8 @@ own_open rs own number place task of is stands = (
     covered = (own_covers rs own of number place stands task).0 opened.covered;
     incomplete =
         λ complete.
-            opened.incomplete
-                ((own_complete rs own number place task task of is stands opened.covered).1 complete);
+        opened.incomplete
+        ((own_complete rs own number place task task of is stands opened.covered).1 complete);
   },
   λ opened.
       let covered = (own_covers rs own of number place stands task).1 opened.covered in
@@ -111,8 +115,8 @@ own_open rs own number place task of is stands = (
         covered = covered;
         incomplete =
             λ complete.
-                opened.incomplete
-                    ((own_complete rs own number place task task of is stands covered).0 complete);
+            opened.incomplete
+            ((own_complete rs own number place task task of is stands covered).0 complete);
       },
 )
 
@@ -133,7 +137,7 @@ first_shown rs own number place task of is stands first = record {
   created_first = λ k other less makes opened.
       let there = number_of_place rs own of is.places k (at_within created rs k other makes) in
       first.created_first k other less
-          (there.0, there.1, own_says created rs own of there.0 k there.1 ∙ makes)
+      (there.0, there.1, own_says created rs own of there.0 k there.1 ∙ makes)
       ((own_open rs own number place other of is stands).1 opened);
 }
 

@@ -51,7 +51,7 @@ pub own_by : (rs : List Record) (family : FamilyView) (index task up place : ℕ
     → IsFamilyOf rs family → slice_get family.tasks index ≡ Some task → parent_index family index ≡ Some up
     → at made rs place ≡ slice_get family.tasks index
     → ((parent : ℕ) → slice_get family.tasks up ≡ Some parent
-          → IsTrue answer ↔ IsWithin rs family.tasks parent place wait)
+    → IsTrue answer ↔ IsWithin rs family.tasks parent place wait)
     → IsTrue answer ↔ IsOwnChild rs family.tasks wait task
 own_by rs family index task up place wait answer are here above is_made exact = (
   λ yes_it. record {
@@ -62,11 +62,11 @@ own_by rs family index task up place wait answer are here above is_made exact = 
   },
   λ own.
       let same_place : own.made ≡ place =
-          made_once rs task own.made place are.once (creation_made rs own.parent task own.made own.creates)
-              (is_made ∙ here) in
+      made_once rs task own.made place are.once (creation_made rs own.parent task own.made own.creates)
+      (is_made ∙ here) in
       let pair =
-          same_Some (own.parent, task) (known.0, task)
-              (sym own.creates ∙ ap (at creation rs) same_place ∙ creates) in
+      same_Some (own.parent, task) (known.0, task)
+      (sym own.creates ∙ ap (at creation rs) same_place ∙ creates) in
       let P : ℕ → Type 0 = λ k. IsWithin rs family.tasks own.parent k wait in
       let Q : ℕ → Type 0 = λ p. IsWithin rs family.tasks p place wait in
       (exact known.0 known.1).1 (subst Q (ap (λ (p : ℕ × ℕ). p.0) pair) (subst P same_place own.within)),
@@ -78,10 +78,10 @@ own_by rs family index task up place wait answer are here above is_made exact = 
     creates : at creation rs place ≡ Some (known.0, task)
     creates =
         ap (at creation rs)
-            (sym
-                (made_once rs task known.2.0 place are.once
-                    (creation_made rs known.0 task known.2.0 known.2.1) (is_made ∙ here)))
-            ∙ known.2.1
+        (sym
+        (made_once rs task known.2.0 place are.once
+        (creation_made rs known.0 task known.2.0 known.2.1) (is_made ∙ here)))
+        ∙ known.2.1
 
 -- and one with none is none
 pub own_parentless : (rs : List Record) (family : FamilyView) (index task : ℕ) (wait : Wait)
@@ -90,9 +90,9 @@ pub own_parentless : (rs : List Record) (family : FamilyView) (index task : ℕ)
 own_parentless rs family index task wait are here none own =
     let known = indices_of rs family own.made own.parent task are own.creates in
     none-some known.up
-        (sym none
-            ∙ parent_at_is rs family index task known.up are here
-                (own.parent, known.is_parent, (own.made, own.creates)))
+    (sym none
+    ∙ parent_at_is rs family index task known.up are here
+    (own.parent, known.is_parent, (own.made, own.creates)))
 
 -- ---- which children
 
@@ -139,7 +139,7 @@ within_barrier rs tasks places own parent place index task number answer is_own 
 )
   where
     of : IsWithin rs tasks parent place (ForBarrier task number) → IsBeforeBegin places number place
-    of (by_member { start = start } there mates begins less) =
+    of (by_member {start = start} there mates begins less) =
         (start, ap (λ l. slice_get l number) are ∙ begins, less)
 
 -- ---- and their descendants
@@ -157,28 +157,31 @@ pub awaited_cases : (rs : List Record) (family : FamilyView) (index task : ℕ) 
     → IsFamilyOf rs family → slice_get family.tasks index ≡ Some task → cover_of wait ≡ Descendants
     → IsAwaited rs family.tasks wait task
     → IsOwnChild rs family.tasks wait task
-        ⊎ ((up parent : ℕ) × (parent_index family index ≡ Some up) × (slice_get family.tasks up ≡ Some parent)
-              × IsAwaited rs family.tasks wait parent)
+    ⊎ ((up parent : ℕ) × (parent_index family index ≡ Some up) × (slice_get family.tasks up ≡ Some parent)
+    × IsAwaited rs family.tasks wait parent)
 awaited_cases rs family index task wait are here deep is = of (as_deep rs family.tasks task wait deep is)
   where
     up_of : (i parent : ℕ) → at creation rs i ≡ Some (parent, task) → (other : ℕ)
         → IsOwnChild rs family.tasks wait other → IsFamily rs other parent
         → (up above : ℕ) × (parent_index family index ≡ Some up) × (slice_get family.tasks up ≡ Some above)
-            × IsAwaited rs family.tasks wait above
+        × IsAwaited rs family.tasks wait above
     up_of i parent creates other own family_of =
-        let known = indices_of rs family i parent task are creates in
-        (known.up, parent,
-            parent_at_is rs family index task known.up are here (parent, known.is_parent, (i, creates)),
-            known.is_parent, of_deep rs family.tasks parent wait deep (other, own, family_of))
+        let known = indices_of rs family i parent task are creates in (
+          known.up,
+          parent,
+          parent_at_is rs family index task known.up are here (parent, known.is_parent, (i, creates)),
+          known.is_parent,
+          of_deep rs family.tasks parent wait deep (other, own, family_of),
+        )
 
     of : IsAwaitedBy rs family.tasks task wait Descendants
         → IsOwnChild rs family.tasks wait task
-            ⊎ ((up parent : ℕ) × (parent_index family index ≡ Some up)
-                  × (slice_get family.tasks up ≡ Some parent) × IsAwaited rs family.tasks wait parent)
+        ⊎ ((up parent : ℕ) × (parent_index family index ≡ Some up)
+        × (slice_get family.tasks up ≡ Some parent) × IsAwaited rs family.tasks wait parent)
     of (other, own, inl same) =
         let P : ℕ → Type 0 = IsOwnChild rs family.tasks wait in inl (subst P (sym same) own)
     of (other, own, inr (child i creates)) = inr (up_of i other creates other own (inl refl))
-    of (other, own, inr (deeper i { parent = parent } above creates)) =
+    of (other, own, inr (deeper i {parent = parent} above creates)) =
         inr (up_of i parent creates other own (inr above))
 
 -- a child of one that is waited for is, where descendants are
@@ -232,15 +235,15 @@ marked_more rs tasks wait order n index marks mark here inside are exact = recor
   each = λ place other task below there is. elim (cases_eq other index) [
     | inl same ↦
         let there_is : slice_index_or (set marks index mark) other false ≡ mark =
-            ap (λ k. get_or (set marks index mark) k false) same
-                ∙ get_or-set_same marks index mark false (let all = are.all in omega (arith, inside, all)) in
+        ap (λ k. get_or (set marks index mark) k false) same
+        ∙ get_or-set_same marks index mark false (let all = are.all in omega (arith, inside, all)) in
         let known = exact task (ap (slice_get tasks) (sym same) ∙ is) in
         (λ yes_it. known.0 (sym there_is ∙ yes_it), λ awaited. there_is ∙ known.1 awaited)
     | inr apart ↦ elim (cases_eq place n) [
       | inl last ↦ absurd (apart (same_Some other index (sym there ∙ ap (slice_get order) last ∙ here)))
       | inr earlier ↦
           let kept : slice_index_or (set marks index mark) other false ≡ slice_index_or marks other false =
-              get_or-set_other marks index other mark false apart in
+          get_or-set_other marks index other mark false apart in
           let known = are.each place other task (omega (arith, below, earlier)) there is in
           (λ yes_it. known.0 (sym kept ∙ yes_it), λ awaited. kept ∙ known.1 awaited)
     ]
@@ -256,8 +259,8 @@ marked_all rs family wait order n marks first all are = record {
   each = λ index task is.
       let place = first.all index (slice_get_within family.tasks index task is) in
       are.each place.0 index task
-          (let inside = slice_get_within order place.0 index place.1 in omega (arith, inside, all)) place.1
-          is;
+      (let inside = slice_get_within order place.0 index place.1 in omega (arith, inside, all)) place.1
+      is;
 }
 
 -- ---- the record that ends a wait
@@ -273,8 +276,8 @@ pub taskwait_there : (run : RunView) (i index begin : ℕ) (kind : WaitKind) (en
 taskwait_there run i index begin kind endpoint is event begins =
     let P : SyncKind → Type 0 = λ k. IsRegion run.records i event.task k begin in
     waits event.indexed
-        (subst P (taskwait_kind event.sync (event.waits ∙ ap Some is))
-            (begins event.task event.sync endpoint event.says))
+    (subst P (taskwait_kind event.sync (event.waits ∙ ap Some is))
+    (begins event.task event.sync endpoint event.says))
 
 pub taskgroup_there : (run : RunView) (i index begin : ℕ) (kind : WaitKind) (endpoint : Endpoint)
     → kind ≡ TaskgroupKind → IsWaitEvent run i index kind endpoint → IsBeginOf run.records i begin
@@ -282,8 +285,8 @@ pub taskgroup_there : (run : RunView) (i index begin : ℕ) (kind : WaitKind) (e
 taskgroup_there run i index begin kind endpoint is event begins =
     let P : SyncKind → Type 0 = λ k. IsRegion run.records i event.task k begin in
     groups event.indexed
-        (subst P (taskgroup_kind event.sync (event.waits ∙ ap Some is))
-            (begins event.task event.sync endpoint event.says))
+    (subst P (taskgroup_kind event.sync (event.waits ∙ ap Some is))
+    (begins event.task event.sync endpoint event.says))
 
 pub barrier_there : (run : RunView) (numbers : List ℕ) (i index begin number : ℕ) (kind : WaitKind)
     (endpoint : Endpoint)
@@ -294,16 +297,16 @@ barrier_there run numbers i index begin number kind endpoint is event begins are
     let barrier = barrier_kind event.sync (event.waits ∙ ap Some is) in
     let there = begins event.task event.sync endpoint event.says in
     meets event.indexed there barrier
-        (are.each begin number stands event.task
-            (barrier_begins_at run.records i event.task begin event.sync there barrier))
+    (are.each begin number stands event.task
+    (barrier_begins_at run.records i event.task begin event.sync there barrier))
 
 -- a region begins at one of the records
 pub begins_within : (run : RunView) (i index begin : ℕ) (kind : WaitKind) (endpoint : Endpoint)
     → IsWaitEvent run i index kind endpoint → IsBeginOf run.records i begin → begin < length run.records
 begins_within run i index begin kind endpoint event begins =
     let ends =
-        ends_at run.records i event.task begin event.sync
-            (begins event.task event.sync endpoint event.says) in
+    ends_at run.records i event.task begin event.sync
+    (begins event.task event.sync endpoint event.says) in
     let below = ends.below in
     let inside = ends.inside in
     omega (arith, below, inside)

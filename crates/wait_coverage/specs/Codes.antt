@@ -20,5 +20,5 @@ code_again make code small = elim (cases_eq code 4294967295) [
   | inr apart ↦
       ap (λ (b : Bool). make (code_of_length (if b then 4294967296 else code))) (ne_eqb code 4294967295 apart)
       ∙ ap (λ (b : Bool). make (if b then 4294967295 else code))
-          (ne_eqb code 4294967296 (λ same. omega (arith, small, same)))
+      (ne_eqb code 4294967296 (λ same. omega (arith, small, same)))
 ]

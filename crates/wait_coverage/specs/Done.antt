@@ -83,7 +83,7 @@ pub record AreRanked (family : FamilyView) (n : ℕ) (ranked : List (ℕ × ℕ)
 abbrev pub raised : FamilyView → ℕ → List ℕ → List ℕ
 raised family index limits = option_map_or
     (λ up. slice_set limits up (max (slice_index limits up) (slice_index limits index)))
-        (parent_index family index) limits
+    (parent_index family index) limits
 
 -- the first index is that of the second's parent, of the parent's parent, and so on, or the second itself
 pub data IsAbove (family : FamilyView) (top : ℕ) : ℕ → Type 0 where

@@ -21,20 +21,20 @@ pub returns-in_err-ask-clause-turns : goal.returns-in_err-ask-clause-turns
 returns-in_err-ask-clause-turns g c =
     let p = err_from_is_err_and c.from_residual.result c.from_residual.ensures.1 in
     rw (p.1, p.2)
-        (TakesTurns-more _ c.args.turns.now c.asks.turns c.ask.new.turns (g.S.Source.agains c.args.source.now)
-            (g.S.Source.agains c.asks.source) (g.S.Source.agains c.ask.new.source) c.asks.invariant.turns
-            c.in_err-ask.ensures.turns)
+    (TakesTurns-more _ c.args.turns.now c.asks.turns c.ask.new.turns (g.S.Source.agains c.args.source.now)
+    (g.S.Source.agains c.asks.source) (g.S.Source.agains c.ask.new.source) c.asks.invariant.turns
+    c.in_err-ask.ensures.turns)
 
 pub returns-then-branch-eq0-clause-turns : goal.returns-then-branch-eq0-clause-turns
 returns-then-branch-eq0-clause-turns g c =
     TakesTurns-more _ c.args.turns.now c.asks.turns c.ask.new.turns (g.S.Source.agains c.args.source.now)
-        (g.S.Source.agains c.asks.source) (g.S.Source.agains c.ask.new.source) c.asks.invariant.turns
-        c.in_ok-ask.ensures.turns
+    (g.S.Source.agains c.asks.source) (g.S.Source.agains c.ask.new.source) c.asks.invariant.turns
+    c.in_ok-ask.ensures.turns
 
 pub asks-smaller : goal.asks-smaller
 asks-smaller g c =
     let below : length c.asks.block.waiting < c.asks.block.limit =
-        is_below _ _ _ c.is_full.ensures.few c.is_full.ensures.full c.asks-test.true in
+    is_below _ _ _ c.is_full.ensures.few c.is_full.ensures.full c.asks-test.true in
     let limit = c.asks.invariant.limit in
     omega (arith, c.in_ok-ask.ensures.more, ap length c.in-Ok.ensures.waiting, c.if-branch-eq0.false)
 
@@ -42,11 +42,11 @@ pub asks-preserved : goal.asks-preserved
 asks-preserved g c =
     let now = c.asks.invariant in
     let turns =
-        TakesTurns-more _ c.args.turns.now c.asks.turns c.ask.new.turns (g.S.Source.agains c.args.source.now)
-            (g.S.Source.agains c.asks.source) (g.S.Source.agains c.ask.new.source) now.turns
-            c.in_ok-ask.ensures.turns in
+    TakesTurns-more _ c.args.turns.now c.asks.turns c.ask.new.turns (g.S.Source.agains c.args.source.now)
+    (g.S.Source.agains c.asks.source) (g.S.Source.agains c.ask.new.source) now.turns
+    c.in_ok-ask.ensures.turns in
     let asked : g.S.Source.breaks c.ask.new.source ≡ g.S.Source.breaks c.asks.source =
-        c.in_ok-ask.ensures.breaks in
+    c.in_ok-ask.ensures.breaks in
     record {
       bytes = Keeps-both _ _ _ now.bytes (rw c.in-Ok.ensures.waiting at c.in_ok-ask.ensures.bytes);
       limit = c.in_ok-ask.ensures.limit ∙ c.in-Ok.ensures.limit ∙ now.limit;

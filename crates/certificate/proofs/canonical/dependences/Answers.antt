@@ -6,12 +6,12 @@ use Rattle.certificate.proofs.canonical.dependences.Goals as goal
 pub returns : goal.returns
 returns c =
     Takes-whole _ _ _
-        (line-dependences
-            (record {
-              thread = c.in-Some-task_tail.thread;
-              seq = c.in-Some-task_tail.seq;
-              seen = c.in-Some-task_tail.seen;
-              body = ThreadEnd;
-            })
-            c.in-Some-task_tail.task c.in-Some.list)
+    (line-dependences
+    (record {
+      thread = c.in-Some-task_tail.thread;
+      seq = c.in-Some-task_tail.seq;
+      seen = c.in-Some-task_tail.seen;
+      body = ThreadEnd;
+    })
+    c.in-Some-task_tail.task c.in-Some.list)
     (Takes-both _ _ _ _ _ c.in-Some.ensures c.in-Some-task_tail.ensures)

@@ -6,20 +6,20 @@ use Rattle.certificate.proofs.canonical.finishing.Goals as goal
 pub returns : goal.returns
 returns c =
     Takes-whole _ _ _
-        (line-finishing
-            (record {
-              thread = c.in-Some-status_tail.thread;
-              seq = c.in-Some-status_tail.seq;
-              seen = c.in-Some-status_tail.seen;
-              body = ThreadEnd;
-            })
-            c.in-Some-status_tail.status c.in-Some-id.prior c.in-Some-id_or_null.next (record {
-          kept = c.in-Some.kept;
-          root = c.in-Some-id-2.root;
-          path = c.in-Some-path.path;
-        }))
+    (line-finishing
+    (record {
+      thread = c.in-Some-status_tail.thread;
+      seq = c.in-Some-status_tail.seq;
+      seen = c.in-Some-status_tail.seen;
+      body = ThreadEnd;
+    })
+    c.in-Some-status_tail.status c.in-Some-id.prior c.in-Some-id_or_null.next (record {
+      kept = c.in-Some.kept;
+      root = c.in-Some-id-2.root;
+      path = c.in-Some-path.path;
+    }))
     (Takes-both _ _ _ _ _ c.in-Some.ensures
-        (Takes-both _ _ _ _ _ c.in-Some-id_or_null.ensures
-            (Takes-both _ _ _ _ _ c.in-Some-path.ensures
-                (Takes-both _ _ _ _ _ c.in-Some-id.ensures
-                    (Takes-both _ _ _ _ _ c.in-Some-id-2.ensures c.in-Some-status_tail.ensures)))))
+    (Takes-both _ _ _ _ _ c.in-Some-id_or_null.ensures
+    (Takes-both _ _ _ _ _ c.in-Some-path.ensures
+    (Takes-both _ _ _ _ _ c.in-Some-id.ensures
+    (Takes-both _ _ _ _ _ c.in-Some-id-2.ensures c.in-Some-status_tail.ensures)))))

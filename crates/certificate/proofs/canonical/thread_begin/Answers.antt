@@ -6,15 +6,15 @@ use Rattle.certificate.proofs.canonical.thread_begin.Goals as goal
 pub returns : goal.returns
 returns c =
     Takes-whole _ _ _
-        (line-thread_begin
-            (record {
-              thread = c.in-Some-byte.thread;
-              seq = c.in-Some-short-2.seq;
-              seen = c.in-Some-short.seen;
-              body = ThreadEnd;
-            })
-            c.in-Some.kind)
+    (line-thread_begin
+    (record {
+      thread = c.in-Some-byte.thread;
+      seq = c.in-Some-short-2.seq;
+      seen = c.in-Some-short.seen;
+      body = ThreadEnd;
+    })
+    c.in-Some.kind)
     (Takes-both _ _ _ _ _ c.in-Some.ensures
-        (Takes-both _ _ _ _ _ c.in-Some-short.ensures
-            (Takes-both _ _ _ _ _ c.in-Some-short-2.ensures
-                (Takes-both _ _ _ _ _ c.in-Some-byte.ensures c.in-Some-end.ensures))))
+    (Takes-both _ _ _ _ _ c.in-Some-short.ensures
+    (Takes-both _ _ _ _ _ c.in-Some-short-2.ensures
+    (Takes-both _ _ _ _ _ c.in-Some-byte.ensures c.in-Some-end.ensures))))

@@ -7,9 +7,10 @@ pub returns-in_default : goal.returns-in_default
 returns-in_default c =
     let no = c.in_default in
     λ _.
-        rw
-            (ok_or-some _ _ c.in_ok-text.ensures,
-                body_named-none c.args.version c.in_ok-text.field-0.now (meant_at c.args.value.now)
-                    no.not-thread_begin no.not-thread_end no.not-parallel_begin no.not-parallel_end
-                    no.not-implicit_task no.not-task_create no.not-dependences no.not-task_schedule
-                    no.not-sync_region no.not-cancel)
+    rw (
+      ok_or-some _ _ c.in_ok-text.ensures,
+      body_named-none c.args.version c.in_ok-text.field-0.now (meant_at c.args.value.now)
+          no.not-thread_begin no.not-thread_end no.not-parallel_begin no.not-parallel_end
+          no.not-implicit_task no.not-task_create no.not-dependences no.not-task_schedule
+          no.not-sync_region no.not-cancel,
+    )

@@ -13,26 +13,26 @@ pub returns-in_err-told : goal.returns-in_err-told
 returns-in_err-told c =
     let p = err_from_is_err_and c.from_residual-in_err-told.result c.from_residual-in_err-told.ensures.1 in
     rw (p.1, p.2) (
-        λ _.
-            schedule-no_turns c.args.version (meant_at c.args.value.now) c.in_ok-status.status
-                c.in_ok-prior.prior c.in_ok-next.next _ c.in_ok-status.ensures c.in_ok-prior.ensures
-                c.in_ok-next.ensures
+    λ _.
+    schedule-no_turns c.args.version (meant_at c.args.value.now) c.in_ok-status.status
+    c.in_ok-prior.prior c.in_ok-next.next _ c.in_ok-status.ensures c.in_ok-prior.ensures
+    c.in_ok-next.ensures
     (rw (← c.tells_turns.ensures) c.in_err-told.ensures))
 
 pub returns-in_err-share : goal.returns-in_err-share
 returns-in_err-share c =
     let p = err_from_is_err_and c.from_residual-in_err-share.result c.from_residual-in_err-share.ensures.1 in
     let finishes : c.is_some.result ≡ is_some (status_part c.in_ok-status.status) =
-        c.is_some.ensures ∙ ap is_some c.part.ensures in
+    c.is_some.ensures ∙ ap is_some c.part.ensures in
     let told = option_map as_turns c.in_ok-told.told in
     let read : Ok told
-            ≡ ok_or (turns (tells_turns c.args.version c.in_ok-status.status) (meant_at c.args.value.now))
-                Field =
-        (rw (← c.tells_turns.ensures) c.in_ok-told.ensures) in
+    ≡ ok_or (turns (tells_turns c.args.version c.in_ok-status.status) (meant_at c.args.value.now))
+    Field =
+    (rw (← c.tells_turns.ensures) c.in_ok-told.ensures) in
     rw (p.1, p.2) (
-        λ found.
-            schedule-err c.args.version (meant_at c.args.value.now) c.in_ok-status.status c.in_ok-prior.prior
-                c.in_ok-next.next told _
+    λ found.
+    schedule-err c.args.version (meant_at c.args.value.now) c.in_ok-status.status c.in_ok-prior.prior
+    c.in_ok-next.next told _
     (record {
       is_status = c.in_ok-status.ensures;
       is_prior = c.in_ok-prior.ensures;
@@ -45,16 +45,16 @@ pub returns-in_err-turns : goal.returns-in_err-turns
 returns-in_err-turns c =
     let p = err_from_is_err_and c.from_residual-in_err-turns.result c.from_residual-in_err-turns.ensures.1 in
     let finishes : c.is_some.result ≡ is_some (status_part c.in_ok-status.status) =
-        c.is_some.ensures ∙ ap is_some c.part.ensures in
+    c.is_some.ensures ∙ ap is_some c.part.ensures in
     let told = option_map as_turns c.in_ok-told.told in
     let read : Ok told
-            ≡ ok_or (turns (tells_turns c.args.version c.in_ok-status.status) (meant_at c.args.value.now))
-                Field =
-        (rw (← c.tells_turns.ensures) c.in_ok-told.ensures) in
+    ≡ ok_or (turns (tells_turns c.args.version c.in_ok-status.status) (meant_at c.args.value.now))
+    Field =
+    (rw (← c.tells_turns.ensures) c.in_ok-told.ensures) in
     rw (p.1, p.2) (
-        λ _.
-            schedule-past c.args.version (meant_at c.args.value.now) c.in_ok-status.status c.in_ok-prior.prior
-                c.in_ok-next.next told c.in_ok-share.share _
+    λ _.
+    schedule-past c.args.version (meant_at c.args.value.now) c.in_ok-status.status c.in_ok-prior.prior
+    c.in_ok-next.next told c.in_ok-share.share _
     (record {
       is_status = c.in_ok-status.ensures;
       is_prior = c.in_ok-prior.ensures;
@@ -66,15 +66,15 @@ returns-in_err-turns c =
 pub returns : goal.returns
 returns c =
     let finishes : c.is_some.result ≡ is_some (status_part c.in_ok-status.status) =
-        c.is_some.ensures ∙ ap is_some c.part.ensures in
+    c.is_some.ensures ∙ ap is_some c.part.ensures in
     let told = option_map as_turns c.in_ok-told.told in
     let read : Ok told
-            ≡ ok_or (turns (tells_turns c.args.version c.in_ok-status.status) (meant_at c.args.value.now))
-                Field =
-        (rw (← c.tells_turns.ensures) c.in_ok-told.ensures) in
+    ≡ ok_or (turns (tells_turns c.args.version c.in_ok-status.status) (meant_at c.args.value.now))
+    Field =
+    (rw (← c.tells_turns.ensures) c.in_ok-told.ensures) in
     λ _.
-        schedule-ok c.args.version (meant_at c.args.value.now) c.in_ok-status.status c.in_ok-prior.prior
-            c.in_ok-next.next told c.in_ok-turns.turns c.in_ok-share.share
+    schedule-ok c.args.version (meant_at c.args.value.now) c.in_ok-status.status c.in_ok-prior.prior
+    c.in_ok-next.next told c.in_ok-turns.turns c.in_ok-share.share
     (record {
       is_status = c.in_ok-status.ensures;
       is_prior = c.in_ok-prior.ensures;

@@ -11,10 +11,12 @@ returns-in_default c =
 
 pub found-init : goal.found-init
 found-init c =
-    let list = c.in-Some.ensures c.requires.0 c.requires.1 in
-    (list.0, list.2,
-        rw c.new-deps.ensures.items
-            (each-start dep_of _ list.0 (list-says c.args.item.now c.requires list.0 list.1)))
+    let list = c.in-Some.ensures c.requires.0 c.requires.1 in (
+      list.0,
+      list.2,
+      rw c.new-deps.ensures.items
+          (each-start dep_of _ list.0 (list-says c.args.item.now c.requires list.0 list.1)),
+    )
 
 pub dep-requires : goal.dep-requires
 dep-requires c =
@@ -27,18 +29,20 @@ returns-in_default-dep c =
     let now = c.found.invariant in
     let next = c.in-Some-next.ensures.value now.0 now.1 in
     λ _.
-        rw
-            (each-none dep_of _ c.found.deps.items now.0 next.1 next.0 c.in-Some-next.item now.2 next.2 next.3
-                (sym (ok_or-none _ _ c.in_default-dep.ensures)))
+    rw
+    (each-none dep_of _ c.found.deps.items now.0 next.1 next.0 c.in-Some-next.item now.2 next.2 next.3
+    (sym (ok_or-none _ _ c.in_default-dep.ensures)))
 
 pub found-preserved : goal.found-preserved
 found-preserved c =
     let now = c.found.invariant in
-    let next = c.in-Some-next.ensures.value now.0 now.1 in
-    (next.1, next.4,
-        rw c.in-Ok-push.ensures.items
-            (each-more dep_of _ c.found.deps.items c.in-Ok.dep now.0 next.1 next.0 c.in-Some-next.item now.2
-                next.2 next.3 (sym (ok_or-some _ _ c.in-Ok.ensures))))
+    let next = c.in-Some-next.ensures.value now.0 now.1 in (
+      next.1,
+      next.4,
+      rw c.in-Ok-push.ensures.items
+          (each-more dep_of _ c.found.deps.items c.in-Ok.dep now.0 next.1 next.0 c.in-Some-next.item now.2
+          next.2 next.3 (sym (ok_or-some _ _ c.in-Ok.ensures))),
+    )
 
 pub returns : goal.returns
 returns c =

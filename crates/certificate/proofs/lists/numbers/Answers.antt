@@ -9,10 +9,12 @@ returns-in_default c =
 
 pub found-init : goal.found-init
 found-init c =
-    let list = c.in-Some.ensures c.requires.0 c.requires.1 in
-    (list.0, list.2,
-        rw c.new-numbers.ensures.items
-            (each-start whole_of _ list.0 (list-says c.args.item.now c.requires list.0 list.1)))
+    let list = c.in-Some.ensures c.requires.0 c.requires.1 in (
+      list.0,
+      list.2,
+      rw c.new-numbers.ensures.items
+          (each-start whole_of _ list.0 (list-says c.args.item.now c.requires list.0 list.1)),
+    )
 
 pub whole-requires : goal.whole-requires
 whole-requires c =
@@ -25,23 +27,25 @@ returns-in_default-whole c =
     let now = c.found.invariant in
     let next = c.in-Some-next.ensures.value now.0 now.1 in
     λ _.
-        rw
-            (each-none whole_of _ c.found.numbers.items now.0 next.1 next.0 c.in-Some-next.number now.2 next.2
-                next.3 c.in_default-whole.ensures)
+    rw
+    (each-none whole_of _ c.found.numbers.items now.0 next.1 next.0 c.in-Some-next.number now.2 next.2
+    next.3 c.in_default-whole.ensures)
 
 pub found-preserved : goal.found-preserved
 found-preserved c =
     let now = c.found.invariant in
-    let next = c.in-Some-next.ensures.value now.0 now.1 in
-    (next.1, next.4,
-        rw c.in-Ok.ensures.items
-            (each-more whole_of _ c.found.numbers.items c.in-Some-whole.number now.0 next.1 next.0
-                c.in-Some-next.number now.2 next.2 next.3 c.in-Some-whole.ensures))
+    let next = c.in-Some-next.ensures.value now.0 now.1 in (
+      next.1,
+      next.4,
+      rw c.in-Ok.ensures.items
+          (each-more whole_of _ c.found.numbers.items c.in-Some-whole.number now.0 next.1 next.0
+          c.in-Some-next.number now.2 next.2 next.3 c.in-Some-whole.ensures),
+    )
 
 pub returns : goal.returns
 returns c =
     let now = c.found.invariant in
     λ _.
-        rw
-            (each-all whole_of _ c.found.numbers.items now.0 now.2
-                (c.in_default-next.ensures.value now.0 now.1))
+    rw
+    (each-all whole_of _ c.found.numbers.items now.0 now.2
+    (c.in_default-next.ensures.value now.0 now.1))

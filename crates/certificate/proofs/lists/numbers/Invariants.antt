@@ -11,7 +11,7 @@ use Rattle.certificate.proofs.lists.numbers.Given as goal
 abbrev pub invariant-found : goal.invariant-found
 invariant-found l = (left : json.Items) × InItems l.items left
     × (option_and_then (each whole_of) (as_array (meant_at l.item))
-          ≡ option_map (λ ns. l.numbers.items ++ ns) (each whole_of (items_meant left)))
+    ≡ option_map (λ ns. l.numbers.items ++ ns) (each whole_of (items_meant left)))
 
 abbrev pub decreases-found : goal.decreases-found
 decreases-found l = length l.items

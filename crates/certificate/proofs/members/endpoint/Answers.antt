@@ -12,5 +12,5 @@ every P all = elim [ Begin ↦ all.0 | End ↦ all.1.0 | BeginEnd ↦ all.1.1.0 
 pub returns : goal.returns
 returns c =
     c.ok_or.ensures.value
-        ∙ ok_or-named endpoint_name (Begin ∷ End ∷ BeginEnd ∷ []) every _ c.in_ok-text.field-0.now
-            c.from_name.result c.in_ok-text.ensures c.from_name.ensures
+    ∙ ok_or-named endpoint_name (Begin ∷ End ∷ BeginEnd ∷ []) every _ c.in_ok-text.field-0.now
+    c.from_name.result c.in_ok-text.ensures c.from_name.ensures

@@ -11,7 +11,7 @@ use Rattle.certificate.proofs.members.flags_in.Given as goal
 abbrev pub invariant-names : goal.invariant-names
 invariant-names g l = (left : json.Items) × InItems l.names left
     × (option_and_then (flags_from g.F.Flags.table 0) (as_array (meant_at l.item))
-          ≡ flags_from g.F.Flags.table (g.F.Flags.set_of l.flags) (items_meant left))
+    ≡ flags_from g.F.Flags.table (g.F.Flags.set_of l.flags) (items_meant left))
 
 abbrev pub decreases-names : goal.decreases-names
 decreases-names g l = length l.names

@@ -5,14 +5,14 @@ use Rattle.certificate.proofs.members.id_in.Goals as goal
 pub returns-then-is_null : goal.returns-then-is_null
 returns-then-is_null c =
     null-says c.args.item.now c.requires
-        (sym (c.is_null.ensures c.requires.0 c.requires.1) ∙ c.if-is_null.true)
+    (sym (c.is_null.ensures c.requires.0 c.requires.1) ∙ c.if-is_null.true)
 
 pub returns-in-Some : goal.returns-in-Some
 returns-in-Some c =
     id-says c.args.item.now c.requires (Some c.in-Some.number)
-        (sym (c.is_null.ensures c.requires.0 c.requires.1) ∙ c.if-is_null.false) c.in-Some.ensures
+    (sym (c.is_null.ensures c.requires.0 c.requires.1) ∙ c.if-is_null.false) c.in-Some.ensures
 
 pub returns-in-None : goal.returns-in-None
 returns-in-None c =
     id-says c.args.item.now c.requires None
-        (sym (c.is_null.ensures c.requires.0 c.requires.1) ∙ c.if-is_null.false) c.in-None.ensures
+    (sym (c.is_null.ensures c.requires.0 c.requires.1) ∙ c.if-is_null.false) c.in-None.ensures

@@ -9,22 +9,22 @@ use Rattle.certificate.proofs.members.status.Goals as goal
 
 every : (P : Status → Type 0)
     → AllByRecursion P
-        (Complete ∷ Yield ∷ Cancel ∷ Detach ∷ EarlyFulfill ∷ LateFulfill ∷ Switch ∷ TaskwaitComplete ∷ [])
+    (Complete ∷ Yield ∷ Cancel ∷ Detach ∷ EarlyFulfill ∷ LateFulfill ∷ Switch ∷ TaskwaitComplete ∷ [])
     → (x : Status) → P x
-every P all =
-    elim
-        [Complete ↦
-            all.0 | Yield ↦
-                all.1.0 | Cancel ↦
-                    all.1.1.0 | Detach ↦
-                        all.1.1.1.0 | EarlyFulfill ↦
-                            all.1.1.1.1.0 | LateFulfill ↦
-                                all.1.1.1.1.1.0 | Switch ↦
-                                    all.1.1.1.1.1.1.0 | TaskwaitComplete ↦ all.1.1.1.1.1.1.1.0]
+every P all = elim [
+  | Complete ↦ all.0
+  | Yield ↦ all.1.0
+  | Cancel ↦ all.1.1.0
+  | Detach ↦ all.1.1.1.0
+  | EarlyFulfill ↦ all.1.1.1.1.0
+  | LateFulfill ↦ all.1.1.1.1.1.0
+  | Switch ↦ all.1.1.1.1.1.1.0
+  | TaskwaitComplete ↦ all.1.1.1.1.1.1.1.0
+]
 
 pub returns : goal.returns
 returns c =
     c.ok_or.ensures.value
-        ∙ ok_or-named status_name
-            (Complete ∷ Yield ∷ Cancel ∷ Detach ∷ EarlyFulfill ∷ LateFulfill ∷ Switch ∷ TaskwaitComplete ∷ [])
-            every _ c.in_ok-text.field-0.now c.from_name.result c.in_ok-text.ensures c.from_name.ensures
+    ∙ ok_or-named status_name
+    (Complete ∷ Yield ∷ Cancel ∷ Detach ∷ EarlyFulfill ∷ LateFulfill ∷ Switch ∷ TaskwaitComplete ∷ [])
+    every _ c.in_ok-text.field-0.now c.from_name.result c.in_ok-text.ensures c.from_name.ensures

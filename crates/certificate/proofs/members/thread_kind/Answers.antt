@@ -13,5 +13,5 @@ every P all = elim [ Initial ↦ all.0 | Worker ↦ all.1.0 | Other ↦ all.1.1.
 pub returns : goal.returns
 returns c =
     c.ok_or.ensures.value
-        ∙ ok_or-named thread_kind_name (Initial ∷ Worker ∷ Other ∷ Unknown ∷ []) every _
-            c.in_ok-text.field-0.now c.from_name.result c.in_ok-text.ensures c.from_name.ensures
+    ∙ ok_or-named thread_kind_name (Initial ∷ Worker ∷ Other ∷ Unknown ∷ []) every _
+    c.in_ok-text.field-0.now c.from_name.result c.in_ok-text.ensures c.from_name.ensures

@@ -13,18 +13,18 @@ items-init c =
 pub items-preserved : goal.items-preserved
 items-preserved c =
     let grown : c.push.new.self.items ≡ c.items.items.items ++ c.in-Some.item ∷ [] =
-        c.push.ensures.items
-            ∙ (let ok : is_ok c.push.result ≡ true = c.is_err.ensures.negation ∙ ap not c.if-is_err.false in
-               rw ok refl) in
+    c.push.ensures.items
+    ∙ (let ok : is_ok c.push.result ≡ true = c.is_err.ensures.negation ∙ ap not c.if-is_err.false in
+    rw ok refl) in
     let takes : Takes c.items.rest.now (comma_if c.items.later ++ compact_text (dep_data c.in-Some.item))
-            c.in-Some.behind.now =
-        c.in-Some.ensures in
+    c.in-Some.behind.now =
+    c.in-Some.ensures in
     rw grown
-        (IsTaken-more dep_data c.items.items.items c.in-Some.item c.items.later c.args.rest.now
-            c.items.rest.now c.in-Some.behind.now [] c.items.invariant takes)
+    (IsTaken-more dep_data c.items.items.items c.in-Some.item c.items.later c.args.rest.now
+    c.items.rest.now c.in-Some.behind.now [] c.items.invariant takes)
 
 pub returns : goal.returns
 returns c =
     rw c.from_vec.ensures
-        (Takes-items dep_data c.items.items.items c.items.later c.args.rest.now c.items.rest.now
-            c.in_ok-behind.behind.now [] c.items.invariant c.in_ok-behind.ensures)
+    (Takes-items dep_data c.items.items.items c.items.later c.args.rest.now c.items.rest.now
+    c.in_ok-behind.behind.now [] c.items.invariant c.in_ok-behind.ensures)

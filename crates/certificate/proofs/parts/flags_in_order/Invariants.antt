@@ -8,4 +8,4 @@ use Rattle.certificate.proofs.parts.flags_in_order.Given as goal
 abbrev pub invariant-named : goal.invariant-named
 invariant-named g l =
     IsRead (flag_names (drop l.flag-index g.F.Flags.table) (g.F.Flags.set_of l.flags)) l.later l.fn.rest
-        l.rest (compact_text (names (flag_names g.F.Flags.table (g.F.Flags.set_of l.flags))))
+    l.rest (compact_text (names (flag_names g.F.Flags.table (g.F.Flags.set_of l.flags))))

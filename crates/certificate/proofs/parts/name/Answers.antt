@@ -7,4 +7,4 @@ pub returns : goal.returns
 returns c =
     Takes-same _ _ _ _ (quoted-plain [] c.args.name.now c.requires)
     (Takes-both _ _ _ _ _ c.in_ok-rest.ensures
-        (Takes-both _ _ _ _ _ c.in_ok-rest-2.ensures c.in_ok-behind.ensures))
+    (Takes-both _ _ _ _ _ c.in_ok-rest-2.ensures c.in_ok-behind.ensures))

@@ -13,18 +13,18 @@ numbers-init c =
 pub numbers-preserved : goal.numbers-preserved
 numbers-preserved c =
     let grown : c.push.new.self.items ≡ c.numbers.numbers.items ++ c.in-Some.number ∷ [] =
-        c.push.ensures.items
-            ∙ (let ok : is_ok c.push.result ≡ true = c.is_err.ensures.negation ∙ ap not c.if-is_err.false in
-               rw ok refl) in
+    c.push.ensures.items
+    ∙ (let ok : is_ok c.push.result ≡ true = c.is_err.ensures.negation ∙ ap not c.if-is_err.false in
+    rw ok refl) in
     let takes : Takes c.numbers.rest.now
-            (comma_if c.numbers.later ++ compact_text (whole_number c.in-Some.number)) c.in-Some.behind.now =
-        c.in-Some.ensures in
+    (comma_if c.numbers.later ++ compact_text (whole_number c.in-Some.number)) c.in-Some.behind.now =
+    c.in-Some.ensures in
     rw grown
-        (IsTaken-more whole_number c.numbers.numbers.items c.in-Some.number c.numbers.later c.args.rest.now
-            c.numbers.rest.now c.in-Some.behind.now [] c.numbers.invariant takes)
+    (IsTaken-more whole_number c.numbers.numbers.items c.in-Some.number c.numbers.later c.args.rest.now
+    c.numbers.rest.now c.in-Some.behind.now [] c.numbers.invariant takes)
 
 pub returns : goal.returns
 returns c =
     rw c.from_vec.ensures
-        (Takes-items whole_number c.numbers.numbers.items c.numbers.later c.args.rest.now c.numbers.rest.now
-            c.in_ok-behind.behind.now [] c.numbers.invariant c.in_ok-behind.ensures)
+    (Takes-items whole_number c.numbers.numbers.items c.numbers.later c.args.rest.now c.numbers.rest.now
+    c.in_ok-behind.behind.now [] c.numbers.invariant c.in_ok-behind.ensures)

@@ -8,5 +8,5 @@ returns-in_ok-one_more-in-Some c =
     let more = c.in_ok-one_more-in-Some.ensures in
     Takes-digits c.args.rest.now (c.args.len + 1) c.in_ok-one_more-in-Some.field-0
     (rw (more.0)
-        (digits-more c.args.rest.now c.args.len c.args.number c.in-Some.next next.1 next.2 c.requires.some
-            (rw more.0 at more.1) next.0 c.requires.taken))
+    (digits-more c.args.rest.now c.args.len c.args.number c.in-Some.next next.1 next.2 c.requires.some
+    (rw more.0 at more.1) next.0 c.requires.taken))

@@ -20,17 +20,23 @@ pub returns-clause-cuts : goal.returns-clause-cuts
 returns-clause-cuts c =
     let now = c.pieces.invariant in
     let all : c.push-2.new.self.items ≡ 0 ∷ (now.rest ++ length c.args.text.now ∷ []) =
-        c.in_ok-push-3.ensures.items ∙ ap (λ (xs : List ℕ). xs ++ length c.args.text.now ∷ []) now.parts in
-    rw all
-        (refl,
-            ArePieces-push c.args.text.now 0 now.rest c.pieces.start (length c.args.text.now) now.pieces
-                (IsPiece-rest c.args.text.now c.pieces.start c.requires.whole now.within))
+    c.in_ok-push-3.ensures.items ∙ ap (λ (xs : List ℕ). xs ++ length c.args.text.now ∷ []) now.parts in
+    rw all (
+      refl,
+      ArePieces-push c.args.text.now 0 now.rest c.pieces.start (length c.args.text.now) now.pieces
+          (IsPiece-rest c.args.text.now c.pieces.start c.requires.whole now.within),
+    )
 
 pub returns-clause-few : goal.returns-clause-few
 returns-clause-few c =
     let now = c.pieces.invariant in
     let all : c.push-2.new.self.items ≡ 0 ∷ (now.rest ++ length c.args.text.now ∷ []) =
-        c.in_ok-push-3.ensures.items ∙ ap (λ (xs : List ℕ). xs ++ length c.args.text.now ∷ []) now.parts in
-    omega
-        (arith, ap length all, length-append now.rest (length c.args.text.now ∷ []), now.count,
-            c.pieces-test.false, c.requires.count)
+    c.in_ok-push-3.ensures.items ∙ ap (λ (xs : List ℕ). xs ++ length c.args.text.now ∷ []) now.parts in
+    omega (
+      arith,
+      ap length all,
+      length-append now.rest (length c.args.text.now ∷ []),
+      now.count,
+      c.pieces-test.false,
+      c.requires.count,
+    )

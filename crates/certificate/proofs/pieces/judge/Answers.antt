@@ -17,11 +17,11 @@ lines-preserved c =
       within = omega (arith, rw take_rest at taken.4);
       read =
           rw more.records
-              (BeginsWithRecords-more c.args.version c.args.text.now c.lines.start c.in-Ok.len
-                  c.lines.piece.records.items taken.0 now.read (rw take_rest at taken.1));
+          (BeginsWithRecords-more c.args.version c.args.text.now c.lines.start c.in-Ok.len
+          c.lines.piece.records.items taken.0 now.read (rw take_rest at taken.1));
       counted =
           more.tasks ∙ ap (λ n. n + cond (is_some (made taken.0.body)) 1 0) now.counted
-              ∙ rw more.records (sym (tasks_more c.lines.piece.records.items taken.0));
+          ∙ rw more.records (sym (tasks_more c.lines.piece.records.items taken.0));
       in_range =
           rw more.records (All-push IsInRange c.lines.piece.records.items taken.0 now.in_range more.in_range);
       few = omega (arith, more.tasks, one (is_some (made taken.0.body)), taken.3);

@@ -6,10 +6,11 @@ use Rattle.certificate.proofs.pieces.judge_line.Goals as goal
 pub returns-in_err-judge_text-in-Some : goal.returns-in_err-judge_text-in-Some
 returns-in_err-judge_text-in-Some c =
     let p = err_from_is_err_and c.from_residual.result c.from_residual.ensures.1 in
-    rw (p.1, p.2)
-        (fault_of_text c.args.version c.in_err-judge_text-in-Some.field-0.0 c.args.rest.now c.in-Some.len
-            c.in-Some.ensures c.if-len-le-MAX_LINE.true c.in_err-judge_text-in-Some.ensures.0,
-            c.in_err-judge_text-in-Some.ensures.1)
+    rw (p.1, p.2) (
+      fault_of_text c.args.version c.in_err-judge_text-in-Some.field-0.0 c.args.rest.now c.in-Some.len
+          c.in-Some.ensures c.if-len-le-MAX_LINE.true c.in_err-judge_text-in-Some.ensures.0,
+      c.in_err-judge_text-in-Some.ensures.1,
+    )
 
 pub returns-in_ok-judge_text-in-Some : goal.returns-in_ok-judge_text-in-Some
 returns-in_ok-judge_text-in-Some c =

@@ -8,4 +8,4 @@ piece_of-requires c =
 pub judge-requires : goal.judge-requires
 judge-requires c =
     rw c.piece_of.ensures
-        ((AreCuts-at c.args.text.now c.args.cuts.now c.args.number c.requires.cuts c.requires.number).whole)
+    ((AreCuts-at c.args.text.now c.args.cuts.now c.args.number c.requires.cuts c.requires.number).whole)

@@ -25,6 +25,6 @@ turns-preserved g c =
       within = omega arith;
       counted =
           (rw c.in-Err-Again.field-0-is at call.agains) ∙ ap next_count now.counted
-              ∙ count_more-next _ _ _ now.later;
+          ∙ count_more-next _ _ _ now.later;
       breaks = (rw c.in-Err-Again.field-0-is at call.breaks) ∙ now.breaks;
     }

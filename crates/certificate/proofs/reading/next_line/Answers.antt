@@ -17,7 +17,7 @@ search-init g c = record {
 pub returns-else-len-eq0-clause-fault : goal.returns-else-len-eq0-clause-fault
 returns-else-len-eq0-clause-fault g c =
     let window : c.ask.new.window ≡ c.line_feed.new.self =
-        c.in_ok-ask.ensures.none (ap Ok c.if-branch-eq0.true) in
+    c.in_ok-ask.ensures.none (ap Ok c.if-branch-eq0.true) in
     let same : c.ask.new.window ≡ c.search.window = window ∙ c.line_feed.ensures.same in (
       omega arith,
       omega (arith, ap length window),
@@ -29,37 +29,37 @@ pub returns-in_err-ask-clause-turns : goal.returns-in_err-ask-clause-turns
 returns-in_err-ask-clause-turns g c =
     let p = err_from_is_err_and c.from_residual.result c.from_residual.ensures.1 in
     rw (p.1, p.2)
-        (TakesTurns-more (Some c.in_err-ask.field-0.0) c.args.turns.now c.search.turns c.ask.new.turns
-            (g.S.Source.agains c.args.source.now) (g.S.Source.agains c.search.source)
-            (g.S.Source.agains c.ask.new.source) c.search.invariant.turns c.in_err-ask.ensures.turns)
+    (TakesTurns-more (Some c.in_err-ask.field-0.0) c.args.turns.now c.search.turns c.ask.new.turns
+    (g.S.Source.agains c.args.source.now) (g.S.Source.agains c.search.source)
+    (g.S.Source.agains c.ask.new.source) c.search.invariant.turns c.in_err-ask.ensures.turns)
 
 pub returns-then-len-eq0-clause-turns : goal.returns-then-len-eq0-clause-turns
 returns-then-len-eq0-clause-turns g c =
     TakesTurns-more _ c.args.turns.now c.search.turns c.ask.new.turns (g.S.Source.agains c.args.source.now)
-        (g.S.Source.agains c.search.source) (g.S.Source.agains c.ask.new.source) c.search.invariant.turns
-        c.in_ok-ask.ensures.turns
+    (g.S.Source.agains c.search.source) (g.S.Source.agains c.ask.new.source) c.search.invariant.turns
+    c.in_ok-ask.ensures.turns
 
 pub returns-else-len-eq0-clause-turns : goal.returns-else-len-eq0-clause-turns
 returns-else-len-eq0-clause-turns g c =
     TakesTurns-other _ _ _ _ _ (λ same. cc)
-        (TakesTurns-more _ c.args.turns.now c.search.turns c.ask.new.turns
-            (g.S.Source.agains c.args.source.now) (g.S.Source.agains c.search.source)
-            (g.S.Source.agains c.ask.new.source) c.search.invariant.turns c.in_ok-ask.ensures.turns)
+    (TakesTurns-more _ c.args.turns.now c.search.turns c.ask.new.turns
+    (g.S.Source.agains c.args.source.now) (g.S.Source.agains c.search.source)
+    (g.S.Source.agains c.ask.new.source) c.search.invariant.turns c.in_ok-ask.ensures.turns)
 
 pub search-preserved : goal.search-preserved
 search-preserved g c =
     let turns =
-        TakesTurns-more _ c.args.turns.now c.search.turns c.ask.new.turns
-            (g.S.Source.agains c.args.source.now) (g.S.Source.agains c.search.source)
-            (g.S.Source.agains c.ask.new.source) c.search.invariant.turns c.in_ok-ask.ensures.turns in
+    TakesTurns-more _ c.args.turns.now c.search.turns c.ask.new.turns
+    (g.S.Source.agains c.args.source.now) (g.S.Source.agains c.search.source)
+    (g.S.Source.agains c.ask.new.source) c.search.invariant.turns c.in_ok-ask.ensures.turns in
     let asked : g.S.Source.breaks c.ask.new.source ≡ g.S.Source.breaks c.search.source =
-        c.in_ok-ask.ensures.breaks in
+    c.in_ok-ask.ensures.breaks in
     let before : g.S.Source.breaks c.search.source ≡ g.S.Source.breaks c.args.source.now =
-        c.search.invariant.breaks in
+    c.search.invariant.breaks in
     record {
       bytes =
           Keeps-both _ _ _ c.search.invariant.bytes
-              (rw c.line_feed.ensures.same at c.in_ok-ask.ensures.bytes);
+          (rw c.line_feed.ensures.same at c.in_ok-ask.ensures.bytes);
       turns = turns;
       left = TakesTurns-left _ _ _ _ turns;
       breaks = asked ∙ before;

@@ -6,4 +6,4 @@ use Rattle.certificate.proofs.reading.take_header.Goals as goal
 pub begin-requires : goal.begin-requires
 begin-requires c =
     header_says-known c.args.newest c.args.text.now _ c.requires
-        (c.in_ok-header.ensures (ok_not_err _ Memory))
+    (c.in_ok-header.ensures (ok_not_err _ Memory))

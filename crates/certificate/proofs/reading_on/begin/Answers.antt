@@ -21,7 +21,7 @@ returns-in-Some-2-clause-after c =
     let at : LineFeedAt text (Some c.in-Some.len) = rw c.bytes-text.ensures.bytes at c.in-Some.ensures in
     let first = waits_first known left room text old c.requires.pieces waits in
     long_line known old.line old.kept text old.block.waiting left
-        (begins_long text c.in-Some.len at (omega (arith, c.if-len-le-MAX_LINE.false))) first.between
+    (begins_long text c.in-Some.len at (omega (arith, c.if-len-le-MAX_LINE.false))) first.between
 
 pub returns-in-None-clause-after : goal.returns-in-None-clause-after
 returns-in-None-clause-after c =
@@ -31,13 +31,13 @@ returns-in-None-clause-after c =
     let none : LineFeedAt text None = rw c.bytes-text.ensures.bytes at c.in-None.ensures in
     let empty : text ≡ [] = whole_none text c.requires.whole none in
     let all : text ++ old.block.waiting ≡ old.block.waiting =
-        ap (λ (xs : List ℕ). xs ++ old.block.waiting) empty in
+    ap (λ (xs : List ℕ). xs ++ old.block.waiting) empty in
     let first = waits_first known left room text old c.requires.pieces waits in
     let between = rw (all, c.requires.line) at first.between in
     let few : length old.block.waiting ≤ room = rw all at first.few in
     ended_step known left room 1 old.kept text old c.end.result c.requires.line refl c.end.ensures.later
-        (c.end.ensures.after known old.kept old.block.waiting room left between (sym c.len.ensures.count)
-            c.requires.none few waits.end)
+    (c.end.ensures.after known old.kept old.block.waiting room left between (sym c.len.ensures.count)
+    c.requires.none few waits.end)
 
 pub returns-in_err-take_header-clause-after : goal.returns-in_err-take_header-clause-after
 returns-in_err-take_header-clause-after c =
@@ -48,8 +48,8 @@ returns-in_err-take_header-clause-after c =
     rw (p.1, p.2) (λ known left room waits.
     let first = waits_first known left room text old c.requires.pieces waits in
     header_fault known old.line room old.kept c.in_err-take_header.field-0.0 text old.block.waiting
-        c.in-Some.len left c.requires.line at c.if-len-le-MAX_LINE.true first.few
-        (rw c.bytes-text.ensures.bytes at c.in_err-take_header.ensures) first.between)
+    c.in-Some.len left c.requires.line at c.if-len-le-MAX_LINE.true first.few
+    (rw c.bytes-text.ensures.bytes at c.in_err-take_header.ensures) first.between)
 
 pub returns-clause-after : goal.returns-clause-after
 returns-clause-after c =
@@ -60,19 +60,23 @@ returns-clause-after c =
     let at : LineFeedAt text (Some c.in-Some.len) = rw c.bytes-text.ensures.bytes at c.in-Some.ensures in
     let first = waits_first known left room text old c.requires.pieces waits in
     let there =
-        header_taken known old.line old.kept c.take_header.new.kept text old.block.waiting len left
-            c.requires.line at c.if-len-le-MAX_LINE.true
-            ((rw c.bytes-text.ensures.bytes at c.in_ok-take_header.ensures) (ok_not_err _ Memory))
-            first.between in
+    header_taken known old.line old.kept c.take_header.new.kept text old.block.waiting len left
+    c.requires.line at c.if-len-le-MAX_LINE.true
+    ((rw c.bytes-text.ensures.bytes at c.in_ok-take_header.ensures) (ok_not_err _ Memory))
+    first.between in
     let few : length (drop (len + 1) text ++ old.block.waiting) ≤ room =
-        omega
-            (arith, first.few, length-append text old.block.waiting,
-                length-append (drop (len + 1) text) old.block.waiting, length-drop (len + 1) text) in
+    omega (
+      arith,
+      first.few,
+      length-append text old.block.waiting,
+      length-append (drop (len + 1) text) old.block.waiting,
+      length-drop (len + 1) text,
+    ) in
     record {
       bytes = [];
       judged =
           subst (λ (ps : List Piece). AreJudged c.take_header.new.kept.version ps []) (sym c.requires.pieces)
-              refl;
+          refl;
       between = rw c.skip.ensures.waiting there;
       few = rw c.skip.ensures.waiting few;
       end = waits.end;
@@ -92,7 +96,7 @@ returns-clause-ready c =
           bytes = [];
           judged =
               subst (λ (ps : List Piece). AreJudged c.take_header.new.kept.version ps [])
-                  (sym c.requires.pieces) refl;
+              (sym c.requires.pieces) refl;
           some = λ some. absurd (omega (arith, ap length c.requires.pieces));
         };
         met = c.requires.met;
@@ -100,7 +104,7 @@ returns-clause-ready c =
       can_ask = c.requires.can_ask;
       whole =
           rw c.skip.ensures.waiting
-              (whole_drop c.args.front.now.waiting (c.in-Some.len + 1) c.requires.whole);
+          (whole_drop c.args.front.now.waiting (c.in-Some.len + 1) c.requires.whole);
       none = c.requires.none;
       limit = c.skip.ensures.limit ∙ c.requires.limit;
       long = omega (arith, c.skip.ensures.limit, c.requires.long);

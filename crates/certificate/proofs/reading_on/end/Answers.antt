@@ -12,23 +12,23 @@ pub returns-in-Ok-false-clause-after : goal.returns-in-Ok-false-clause-after
 returns-in-Ok-false-clause-after c =
     λ known kept waiting room left now len none few end.
     waiting_unended known c.args.line kept waiting left (omega (arith, c.if-len-gt0.true))
-        (omega (arith, c.if-len-gt-MAX_LINE.false)) none
-        (end (c.in-Ok-false.is ∙ ap Ok c.in-Ok-false.field-0-test)) now
+    (omega (arith, c.if-len-gt-MAX_LINE.false)) none
+    (end (c.in-Ok-false.is ∙ ap Ok c.in-Ok-false.field-0-test)) now
 
 pub returns-in-Ok-false-2-clause-after : goal.returns-in-Ok-false-2-clause-after
 returns-in-Ok-false-2-clause-after c =
     λ known kept waiting room left now len none few end.
     waiting_no_header known c.args.line kept waiting left c.if-line-eq1.true
-        (omega (arith, c.if-len-gt0.false)) (end (c.in-Ok-false.is ∙ ap Ok c.in-Ok-false.field-0-test)) now
+    (omega (arith, c.if-len-gt0.false)) (end (c.in-Ok-false.is ∙ ap Ok c.in-Ok-false.field-0-test)) now
 
 pub returns-in-Ok-false-3-clause-after : goal.returns-in-Ok-false-3-clause-after
 returns-in-Ok-false-3-clause-after c =
     λ known kept waiting room left now len none few end.
     waiting_none known c.args.line kept waiting left c.if-line-eq1.false (omega (arith, c.if-len-gt0.false))
-        (end (c.in-Ok-false.is ∙ ap Ok c.in-Ok-false.field-0-test)) now
+    (end (c.in-Ok-false.is ∙ ap Ok c.in-Ok-false.field-0-test)) now
 
 pub returns-in-Err-clause-after : goal.returns-in-Err-clause-after
 returns-in-Err-clause-after c =
     λ known kept waiting room left now len none few end.
     waiting_fault known c.args.line room kept c.in-Err.cause waiting left (rw c.in-Err.is at c.requires.fault)
-        few none now
+    few none now

@@ -10,7 +10,7 @@ returns-clause-after c =
     let new = c.add_pieces.new.self in
     let call = c.in_ok-add_pieces.ensures in
     c.end.ensures.after known new.kept front room left
-        (added_last known left room front old new c.in_ok-add_pieces.field-0 c.requires.empty call.added
-            waits)
-        (sym c.len.ensures.count) c.requires.none (front_few known left room front old waits)
-        (λ end. waits.end (sym call.source.filled ∙ end))
+    (added_last known left room front old new c.in_ok-add_pieces.field-0 c.requires.empty call.added
+    waits)
+    (sym c.len.ensures.count) c.requires.none (front_few known left room front old waits)
+    (λ end. waits.end (sym call.source.filled ∙ end))

@@ -19,9 +19,9 @@ pub returns-in-Err-clause-file : goal.returns-in-Err-clause-file
 returns-in-Err-clause-file g c =
     let room = room_of c.args.workers c.args.block in
     let limit : c.in-Ok.front.limit ≡ c.limit_of-limit.result =
-        ap (λ (b : BlockView). b.limit) c.in-Ok.ensures in
+    ap (λ (b : BlockView). b.limit) c.in-Ok.ensures in
     answer_fault (g.S.Source.remaining c.args.source.now) room
-        (fault_in c.start.new.ahead.line c.in-Err.cause) (g.S.Source.remaining c.start.new.source)
+    (fault_in c.start.new.ahead.line c.in-Err.cause) (g.S.Source.remaining c.start.new.source)
     (c.in-Err.ensures.after room (rw limit c.limit_of-limit.ensures.room))
 
 pub rounds-preserved : goal.rounds-preserved
@@ -33,7 +33,7 @@ rounds-preserved g c =
       ready = call.ready (ap Ok c.in-Ok-true.field-0-test);
       waits =
           rw c.in-Ok-true.field-0-test
-              at (call.after known (room_of c.args.workers c.args.block) now.room now.waits);
+          at (call.after known (room_of c.args.workers c.args.block) now.room now.waits);
       room = rw call.limit now.room;
       met = call.met 0 (g.S.Source.agains c.args.source.now) (g.S.Source.breaks c.args.source.now) now.met;
     }
@@ -45,7 +45,7 @@ returns-in-Ok-false-clause-file g c =
     let room = room_of c.args.workers c.args.block in
     answer_trace known room c.into_trace.result (g.S.Source.remaining c.round.new.source)
     (rw c.into_trace.ensures
-        (rw c.in-Ok-false.field-0-test at (c.in-Ok-false.ensures.after known room now.room now.waits)))
+    (rw c.in-Ok-false.field-0-test at (c.in-Ok-false.ensures.after known room now.room now.waits)))
 
 pub returns-in-Ok-false-clause-device : goal.returns-in-Ok-false-clause-device
 returns-in-Ok-false-clause-device g c =
@@ -53,8 +53,8 @@ returns-in-Ok-false-clause-device g c =
     let agains = g.S.Source.agains c.args.source.now in
     let breaks = g.S.Source.breaks c.args.source.now in
     reads_ahead None c.round.new.ahead agains breaks (g.S.Source.agains c.round.new.source)
-        (g.S.Source.breaks c.round.new.source) (call.met 0 agains breaks c.rounds.invariant.met)
-        (call.ended (ap Ok c.in-Ok-false.field-0-test))
+    (g.S.Source.breaks c.round.new.source) (call.met 0 agains breaks c.rounds.invariant.met)
+    (call.ended (ap Ok c.in-Ok-false.field-0-test))
 
 pub returns-in-Err-round-clause-file : goal.returns-in-Err-round-clause-file
 returns-in-Err-round-clause-file g c =
@@ -62,7 +62,7 @@ returns-in-Err-round-clause-file g c =
     let known = g.S.Source.remaining c.args.source.now in
     let room = room_of c.args.workers c.args.block in
     answer_fault known room (fault_in c.round.new.ahead.line c.in-Err-round.cause)
-        (g.S.Source.remaining c.round.new.source)
+    (g.S.Source.remaining c.round.new.source)
     (c.in-Err-round.ensures.after known room now.room now.waits)
 
 pub returns-in-Err-round-clause-device : goal.returns-in-Err-round-clause-device
@@ -71,5 +71,5 @@ returns-in-Err-round-clause-device g c =
     let agains = g.S.Source.agains c.args.source.now in
     let breaks = g.S.Source.breaks c.args.source.now in
     reads_ahead (Some c.in-Err-round.cause) c.round.new.ahead agains breaks
-        (g.S.Source.agains c.round.new.source) (g.S.Source.breaks c.round.new.source)
-        (call.met 0 agains breaks c.rounds.invariant.met) call.told
+    (g.S.Source.agains c.round.new.source) (g.S.Source.breaks c.round.new.source)
+    (call.met 0 agains breaks c.rounds.invariant.met) call.told

@@ -24,9 +24,9 @@ returns-in_err-part-clause-after g c =
     let front = c.fill-ahead.new.block.waiting in
     rw (p.1, p.2) (λ room all.
     rw (c.in_err-part.ensures.fault, c.in_err-part.ensures.lines.line)
-        (waits_memory known left room front filled
-            (start_waits known left room front filled first.line first.kept first.pieces first.waiting
-                (rw c.requires.empty at fill.bytes) (omega (arith, fill.few, fill.limit, all)) fill.end)))
+    (waits_memory known left room front filled
+    (start_waits known left room front filled first.line first.kept first.pieces first.waiting
+    (rw c.requires.empty at fill.bytes) (omega (arith, fill.few, fill.limit, all)) fill.end)))
 
 pub returns-clause-after : goal.returns-clause-after
 returns-clause-after g c =
@@ -48,7 +48,7 @@ returns-clause-after g c =
     let part = c.in_ok-part.ensures in
     λ room all.
     c.begin.ensures.after known left room
-    ( waits_parted known left room front c.part.new.front.waiting filled c.part.new.self first.waiting
-        part.parts part.lines part.source.1
+    (waits_parted known left room front c.part.new.front.waiting filled c.part.new.self first.waiting
+    part.parts part.lines part.source.1
     (start_waits known left room front filled first.line first.kept first.pieces first.waiting
-        (rw c.requires.empty at fill.bytes) (omega (arith, fill.few, fill.limit, all)) fill.end))
+    (rw c.requires.empty at fill.bytes) (omega (arith, fill.few, fill.limit, all)) fill.end))

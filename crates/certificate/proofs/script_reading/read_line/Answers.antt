@@ -14,86 +14,86 @@ pub returns-in_err-len-clause-after : goal.returns-in_err-len-clause-after
 returns-in_err-len-clause-after g c =
     let p = err_from_is_err_and c.from_residual.result c.from_residual.ensures.1 in
     rw (p.1, p.2) (
-        λ known now.
-            IsAfter-no_line scripts known c.args.line c.args.script.now c.next_line.new.window
-                (g.S.Source.remaining c.next_line.new.source) _ c.in_err-len.ensures.fault
+    λ known now.
+    IsAfter-no_line scripts known c.args.line c.args.script.now c.next_line.new.window
+    (g.S.Source.remaining c.next_line.new.source) _ c.in_err-len.ensures.fault
     (IsBetween-keeps scripts known c.args.line c.args.script.now c.args.window.now c.next_line.new.window
-        (g.S.Source.remaining c.args.source.now) (g.S.Source.remaining c.next_line.new.source)
-        c.in_err-len.ensures.bytes now))
+    (g.S.Source.remaining c.args.source.now) (g.S.Source.remaining c.next_line.new.source)
+    c.in_err-len.ensures.bytes now))
 
 pub returns-in_err-take_text-in-Some-clause-after : goal.returns-in_err-take_text-in-Some-clause-after
 returns-in_err-take_text-in-Some-clause-after g c =
     let p =
-        err_from_is_err_and c.from_residual-in_err-take_text-in-Some.result
-            c.from_residual-in_err-take_text-in-Some.ensures.1 in
+    err_from_is_err_and c.from_residual-in_err-take_text-in-Some.result
+    c.from_residual-in_err-take_text-in-Some.ensures.1 in
     let shows = rw c.in-Some.is at c.in_ok-len.ensures.found in
     rw (p.1, p.2) (
-        λ known now.
-            IsAfter-text_fault scripts scripts-text_causes known c.args.line c.args.script.now
-                c.next_line.new.window c.in-Some.len (g.S.Source.remaining c.next_line.new.source) _
-                c.front.ensures.size shows.1 shows.0
+    λ known now.
+    IsAfter-text_fault scripts scripts-text_causes known c.args.line c.args.script.now
+    c.next_line.new.window c.in-Some.len (g.S.Source.remaining c.next_line.new.source) _
+    c.front.ensures.size shows.1 shows.0
     (rw c.front.ensures.bytes at c.in_err-take_text-in-Some.ensures)
     (IsBetween-keeps scripts known c.args.line c.args.script.now c.args.window.now c.next_line.new.window
-        (g.S.Source.remaining c.args.source.now) (g.S.Source.remaining c.next_line.new.source)
-        c.in_ok-len.ensures.bytes now))
+    (g.S.Source.remaining c.args.source.now) (g.S.Source.remaining c.next_line.new.source)
+    c.in_ok-len.ensures.bytes now))
 
 pub returns-in_ok-take_text-in-Some-clause-after : goal.returns-in_ok-take_text-in-Some-clause-after
 returns-in_ok-take_text-in-Some-clause-after g c =
     let shows = rw c.in-Some.is at c.in_ok-len.ensures.found in
     rw c.skip.ensures (
-        λ known now.
-            IsBetween-line scripts known c.args.line c.args.script.now c.take_text.new.script
-                c.next_line.new.window c.in-Some.len (g.S.Source.remaining c.next_line.new.source) shows.1
-                shows.0
+    λ known now.
+    IsBetween-line scripts known c.args.line c.args.script.now c.take_text.new.script
+    c.next_line.new.window c.in-Some.len (g.S.Source.remaining c.next_line.new.source) shows.1
+    shows.0
     (rw c.front.ensures.bytes at (c.in_ok-take_text-in-Some.ensures (ok_not_err _ Memory)))
     (IsBetween-keeps scripts known c.args.line c.args.script.now c.args.window.now c.next_line.new.window
-        (g.S.Source.remaining c.args.source.now) (g.S.Source.remaining c.next_line.new.source)
-        c.in_ok-len.ensures.bytes now))
+    (g.S.Source.remaining c.args.source.now) (g.S.Source.remaining c.next_line.new.source)
+    c.in_ok-len.ensures.bytes now))
 
 pub returns-in_ok-take_text-in-Some-clause-grows : goal.returns-in_ok-take_text-in-Some-clause-grows
 returns-in_ok-take_text-in-Some-clause-grows g c =
     λ _.
-        Grows-script c.args.line c.args.script.now c.take_text.new.script _
-            (c.in_ok-take_text-in-Some.ensures (ok_not_err _ Memory))
+    Grows-script c.args.line c.args.script.now c.take_text.new.script _
+    (c.in_ok-take_text-in-Some.ensures (ok_not_err _ Memory))
 
 pub returns-in-None-clause-after : goal.returns-in-None-clause-after
 returns-in-None-clause-after g c =
     λ known now.
-        IsAfter-none_first scripts known c.args.line c.args.script.now c.next_line.new.window
-            (g.S.Source.remaining c.next_line.new.source) c.if-line-eq1.true
+    IsAfter-none_first scripts known c.args.line c.args.script.now c.next_line.new.window
+    (g.S.Source.remaining c.next_line.new.source) c.if-line-eq1.true
     (rw c.in-None.is at c.in_ok-len.ensures.found)
     (IsBetween-keeps scripts known c.args.line c.args.script.now c.args.window.now c.next_line.new.window
-        (g.S.Source.remaining c.args.source.now) (g.S.Source.remaining c.next_line.new.source)
-        c.in_ok-len.ensures.bytes now)
+    (g.S.Source.remaining c.args.source.now) (g.S.Source.remaining c.next_line.new.source)
+    c.in_ok-len.ensures.bytes now)
 
 pub returns-in-None-2-clause-after : goal.returns-in-None-2-clause-after
 returns-in-None-2-clause-after g c =
     λ known now.
-        IsAfter-none scripts known c.args.line c.args.script.now c.next_line.new.window
-            (g.S.Source.remaining c.next_line.new.source) c.if-line-eq1.false
+    IsAfter-none scripts known c.args.line c.args.script.now c.next_line.new.window
+    (g.S.Source.remaining c.next_line.new.source) c.if-line-eq1.false
     (rw c.in-None.is at c.in_ok-len.ensures.found)
     (IsBetween-keeps scripts known c.args.line c.args.script.now c.args.window.now c.next_line.new.window
-        (g.S.Source.remaining c.args.source.now) (g.S.Source.remaining c.next_line.new.source)
-        c.in_ok-len.ensures.bytes now)
+    (g.S.Source.remaining c.args.source.now) (g.S.Source.remaining c.next_line.new.source)
+    c.in_ok-len.ensures.bytes now)
 
 pub returns-in_err-take_text-in-Some-clause-turns : goal.returns-in_err-take_text-in-Some-clause-turns
 returns-in_err-take_text-in-Some-clause-turns g c =
     let p =
-        err_from_is_err_and c.from_residual-in_err-take_text-in-Some.result
-            c.from_residual-in_err-take_text-in-Some.ensures.1 in
+    err_from_is_err_and c.from_residual-in_err-take_text-in-Some.result
+    c.from_residual-in_err-take_text-in-Some.ensures.1 in
     let is =
-        IsOfText-from scripts scripts-text_causes c.args.line c.args.script.now c.front.result.now
-            c.in_err-take_text-in-Some.field-0.0 c.in_err-take_text-in-Some.ensures in
+    IsOfText-from scripts scripts-text_causes c.args.line c.args.script.now c.front.result.now
+    c.in_err-take_text-in-Some.field-0.0 c.in_err-take_text-in-Some.ensures in
     rw (p.1, p.2) (TakesTurns-other _ _ _ _ _ (IsOfText-not_spent _ is) c.in_ok-len.ensures.turns)
 
 pub returns-in_err-take_text-in-Some-clause-breaks : goal.returns-in_err-take_text-in-Some-clause-breaks
 returns-in_err-take_text-in-Some-clause-breaks g c =
     let p =
-        err_from_is_err_and c.from_residual-in_err-take_text-in-Some.result
-            c.from_residual-in_err-take_text-in-Some.ensures.1 in
+    err_from_is_err_and c.from_residual-in_err-take_text-in-Some.result
+    c.from_residual-in_err-take_text-in-Some.ensures.1 in
     let is =
-        IsOfText-from scripts scripts-text_causes c.args.line c.args.script.now c.front.result.now
-            c.in_err-take_text-in-Some.field-0.0 c.in_err-take_text-in-Some.ensures in
+    IsOfText-from scripts scripts-text_causes c.args.line c.args.script.now c.front.result.now
+    c.in_err-take_text-in-Some.field-0.0 c.in_err-take_text-in-Some.ensures in
     rw (p.1, p.2)
-        (◌∙◌ { b = g.S.Source.breaks c.args.source.now } c.in_ok-len.ensures.breaks
-            (sym (breaks_told-text _ (g.S.Source.breaks c.args.source.now) is)))
+    (◌∙◌ {b = g.S.Source.breaks c.args.source.now} c.in_ok-len.ensures.breaks
+    (sym (breaks_told-text _ (g.S.Source.breaks c.args.source.now) is)))

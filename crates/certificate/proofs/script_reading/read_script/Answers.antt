@@ -20,7 +20,7 @@ lines-init g c = record {
   first = λ _. c.new-script.ensures;
   between =
       rw (c.in-Ok.ensures, c.new-script.ensures)
-          (IsBetween-start scripts (g.S.Source.remaining c.args.source.now));
+      (IsBetween-start scripts (g.S.Source.remaining c.args.source.now));
   turns = TakesTurns-none 0 _ (omega arith);
   breaks = refl;
   counted = ap (λ (steps : List Step). length steps) c.new-script.ensures;
@@ -28,24 +28,26 @@ lines-init g c = record {
 }
 
 pub returns-in-Ok-false-clause-turns : goal.returns-in-Ok-false-clause-turns
-returns-in-Ok-false-clause-turns g c =
-    (c.read_line.new.turns,
-        TakesTurns-more _ 0 c.lines.turns c.read_line.new.turns _ _ _ c.lines.invariant.turns
-            c.in-Ok-false.ensures.turns)
+returns-in-Ok-false-clause-turns g c = (
+  c.read_line.new.turns,
+  TakesTurns-more _ 0 c.lines.turns c.read_line.new.turns _ _ _ c.lines.invariant.turns
+      c.in-Ok-false.ensures.turns,
+)
 
 pub returns-in-Err-clause-turns : goal.returns-in-Err-clause-turns
-returns-in-Err-clause-turns g c =
-    (c.read_line.new.turns,
-        TakesTurns-more _ 0 c.lines.turns c.read_line.new.turns _ _ _ c.lines.invariant.turns
-            c.in-Err.ensures.turns)
+returns-in-Err-clause-turns g c = (
+  c.read_line.new.turns,
+  TakesTurns-more _ 0 c.lines.turns c.read_line.new.turns _ _ _ c.lines.invariant.turns
+      c.in-Err.ensures.turns,
+)
 
 pub lines-preserved : goal.lines-preserved
 lines-preserved g c =
     let now = c.lines.invariant in
     let call = c.in-Ok-true.ensures in
     let counted =
-        Grows-counted c.lines.line c.lines.script c.read_line.new.script now.low now.counted now.room
-            (call.grows (ap Ok c.in-Ok-true.field-0-test)) in
+    Grows-counted c.lines.line c.lines.script c.read_line.new.script now.low now.counted now.room
+    (call.grows (ap Ok c.in-Ok-true.field-0-test)) in
     record {
       low = omega arith;
       first = λ same. absurd (let low = now.low in omega arith);

@@ -5,7 +5,7 @@ use Rattle.certificate.proofs.texts.put_cancelling.Goals as goal
 pub returns : goal.returns
 returns c =
     on_ok _
-        (λ last.
-            Puts-same _ _ _ _ (line-cancelling c.args.event.now c.args.flags c.args.task)
-                (Puts-both _ _ _ _ _ c.in-Ok.ensures last))
+    (λ last.
+    Puts-same _ _ _ _ (line-cancelling c.args.event.now c.args.flags c.args.task)
+    (Puts-both _ _ _ _ _ c.in-Ok.ensures last))
     c.put_task_tail.ensures

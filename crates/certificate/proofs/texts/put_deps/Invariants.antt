@@ -9,4 +9,4 @@ use Rattle.certificate.proofs.texts.put_deps.Given as goal
 abbrev pub invariant-items : goal.invariant-items
 invariant-items l =
     IsPut dep_data (drop l.item-index l.list) l.later l.fn.out.items l.out.items
-        (l.text ++ compact_text (array (items_of (map dep_data l.list))))
+    (l.text ++ compact_text (array (items_of (map dep_data l.list))))

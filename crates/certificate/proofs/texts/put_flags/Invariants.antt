@@ -8,5 +8,5 @@ use Rattle.certificate.proofs.texts.put_flags.Given as goal
 abbrev pub invariant-named : goal.invariant-named
 invariant-named g l =
     IsPut string (flag_names (drop l.flag-index g.F.Flags.table) (g.F.Flags.set_of l.flags)) l.later
-        l.fn.out.items l.out.items
-        (l.text ++ compact_text (names (flag_names g.F.Flags.table (g.F.Flags.set_of l.flags))))
+    l.fn.out.items l.out.items
+    (l.text ++ compact_text (names (flag_names g.F.Flags.table (g.F.Flags.set_of l.flags))))

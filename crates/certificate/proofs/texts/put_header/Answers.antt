@@ -5,7 +5,7 @@ use Rattle.certificate.proofs.texts.put_header.Goals as goal
 pub returns : goal.returns
 returns c =
     on_ok _
-        (λ last.
-            Puts-same _ _ _ _ (text-header c.args.version)
-                (Puts-both _ _ _ _ _ c.in_ok-put_short.ensures last))
-        c.put.ensures
+    (λ last.
+    Puts-same _ _ _ _ (text-header c.args.version)
+    (Puts-both _ _ _ _ _ c.in_ok-put_short.ensures last))
+    c.put.ensures

@@ -5,8 +5,8 @@ use Rattle.certificate.proofs.texts.put_parallel_begin.Goals as goal
 pub returns : goal.returns
 returns c =
     on_ok _
-        (λ last.
-            Puts-same _ _ _ _
-                (line-parallel_begin c.args.event.now c.args.requested c.args.task c.args.parallel)
-                (Puts-both _ _ _ _ _ c.in-Ok.ensures (Puts-both _ _ _ _ _ c.in-Ok-put_short.ensures last)))
+    (λ last.
+    Puts-same _ _ _ _
+    (line-parallel_begin c.args.event.now c.args.requested c.args.task c.args.parallel)
+    (Puts-both _ _ _ _ _ c.in-Ok.ensures (Puts-both _ _ _ _ _ c.in-Ok-put_short.ensures last)))
     c.put_task_tail.ensures

@@ -9,4 +9,4 @@ use Rattle.certificate.proofs.texts.put_path.Given as goal
 abbrev pub invariant-numbers : goal.invariant-numbers
 invariant-numbers l =
     IsPut whole_number (drop l.number-index l.path) l.later l.fn.out.items l.out.items
-        (l.text ++ compact_text (array (items_of (map whole_number l.path))))
+    (l.text ++ compact_text (array (items_of (map whole_number l.path))))

@@ -5,10 +5,10 @@ use Rattle.certificate.proofs.texts.put_task_create.Goals as goal
 pub returns : goal.returns
 returns c =
     on_ok _
-        (λ last.
-            Puts-same _ _ _ _
-                (line-task_create c.args.event.now c.args.deps c.args.flags c.args.task c.args.child)
-                (Puts-both _ _ _ _ _ c.in-Ok.ensures
-                    (Puts-both _ _ _ _ _ c.in-Ok-put_truth.ensures
-                        (Puts-both _ _ _ _ _ c.in-Ok-put_task_flags.ensures last))))
+    (λ last.
+    Puts-same _ _ _ _
+    (line-task_create c.args.event.now c.args.deps c.args.flags c.args.task c.args.child)
+    (Puts-both _ _ _ _ _ c.in-Ok.ensures
+    (Puts-both _ _ _ _ _ c.in-Ok-put_truth.ensures
+    (Puts-both _ _ _ _ _ c.in-Ok-put_task_flags.ensures last))))
     c.put_task_tail.ensures

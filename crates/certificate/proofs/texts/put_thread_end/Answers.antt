@@ -5,9 +5,9 @@ use Rattle.certificate.proofs.texts.put_thread_end.Goals as goal
 pub returns : goal.returns
 returns c =
     on_ok _
-        (λ last.
-            Puts-same _ _ _ _ (line-thread_end c.args.event.now)
-                (Puts-both _ _ _ _ _ c.in-Ok.ensures
-                    (Puts-both _ _ _ _ _ c.in-Ok-put_short.ensures
-                        (Puts-both _ _ _ _ _ c.in-Ok-put_byte.ensures last))))
+    (λ last.
+    Puts-same _ _ _ _ (line-thread_end c.args.event.now)
+    (Puts-both _ _ _ _ _ c.in-Ok.ensures
+    (Puts-both _ _ _ _ _ c.in-Ok-put_short.ensures
+    (Puts-both _ _ _ _ _ c.in-Ok-put_byte.ensures last))))
     c.put.ensures

@@ -15,7 +15,7 @@ returns c =
       plain_name = refl;
       plain =
           ArePlain-wholes c.in_ok-path.path 1
-              (AllByRecursion-from _ c.in_ok-path.path (λ k d l. omega (arith, short k d l)));
+          (AllByRecursion-from _ c.in_ok-path.path (λ k d l. omega (arith, short k d l)));
       takes = c.in_ok-path.ensures;
       added = refl;
     }

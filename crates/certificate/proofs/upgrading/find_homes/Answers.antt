@@ -14,7 +14,7 @@ returns-in-Ok-false-clause-refused c =
     moved i (record {
       moves =
           moves rs i r c.loop-at.table c.note_begin.new.table stands c.loop-at.invariant.homes c.in-Ok.ensures
-              (c.in-Ok-false.ensures.moves c.in-Ok-false.field-0-test);
+          (c.in-Ok-false.ensures.moves c.in-Ok-false.field-0-test);
       first = c.loop-at.invariant.stay;
     })
 
@@ -27,21 +27,21 @@ loop-at-preserved c =
     record {
       homes =
           homes_more rs i r c.loop-at.table c.note_begin.new.table c.note_start.new.table stands
-              c.loop-at.invariant.homes c.in-Ok.ensures (c.in-Ok-true.ensures.stays c.in-Ok-true.field-0-test)
-              (c.in-Ok-true.ensures.noted c.in-Ok-true.field-0-test);
+          c.loop-at.invariant.homes c.in-Ok.ensures (c.in-Ok-true.ensures.stays c.in-Ok-true.field-0-test)
+          (c.in-Ok-true.ensures.noted c.in-Ok-true.field-0-test);
       stay =
           below_more _ _ c.loop-at.invariant.stay
-              (stays_home rs i r c.loop-at.table c.note_begin.new.table stands c.loop-at.invariant.homes
-                  c.in-Ok.ensures (c.in-Ok-true.ensures.stays c.in-Ok-true.field-0-test));
+          (stays_home rs i r c.loop-at.table c.note_begin.new.table stands c.loop-at.invariant.homes
+          c.in-Ok.ensures (c.in-Ok-true.ensures.stays c.in-Ok-true.field-0-test));
     }
 
 pub returns-clause-stay : goal.returns-clause-stay
 returns-clause-stay c =
     λ i move.
-        c.loop-at.invariant.stay i
-            (let within = at_within started c.args.records.now i move.task move.next in
-             omega (arith, within, c.loop-at-test.false))
-            move
+    c.loop-at.invariant.stay i
+    (let within = at_within started c.args.records.now i move.task move.next in
+    omega (arith, within, c.loop-at-test.false))
+    move
 
 pub returns-in-Err-clause-refused : goal.returns-in-Err-clause-refused
 returns-in-Err-clause-refused c = memory

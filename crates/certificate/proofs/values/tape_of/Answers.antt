@@ -17,13 +17,13 @@ returns-then-branch-clause-says c =
     let told = c.in_ok-is_value-in-Ok-parse.ensures (ok_not_err _ Memory) in
     let readable : is_some (read text) ≡ true = (let yes = c.if-branch.true in cc) in
     λ _.
-        value_or_cause-tape c.args.line.now text c.in-Ok-parse.tape c.in-Ok.ensures.cases.0
-            c.in-Ok.ensures.cases.1 c.in-Ok-parse.ensures.ok.1 c.in-Ok-parse.ensures.value readable
+    value_or_cause-tape c.args.line.now text c.in-Ok-parse.tape c.in-Ok.ensures.cases.0
+    c.in-Ok.ensures.cases.1 c.in-Ok-parse.ensures.ok.1 c.in-Ok-parse.ensures.value readable
 
 pub returns-clause-says : goal.returns-clause-says
 returns-clause-says c =
     λ other.
     let told = c.cause_of.ensures (λ is. other (ap Err is)) in
     rw told.1
-        (value_or_cause-not_read c.args.line.now c.in-Ok.text.now c.in-Ok.ensures.cases.0
-            (c.in-Err.ensures.invalid (ap Err told.0)))
+    (value_or_cause-not_read c.args.line.now c.in-Ok.text.now c.in-Ok.ensures.cases.0
+    (c.in-Err.ensures.invalid (ap Err told.0)))

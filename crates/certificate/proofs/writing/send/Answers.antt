@@ -24,8 +24,8 @@ returns-then-turns-gt-MAX_TURNS-clause-ended g c =
         within = omega arith;
         counted =
             stalls-none _ _ _ _ _ _
-                (omega (arith, c.bytes-test.true, length-drop c.bytes.at c.args.bytes.now))
-                (c.bytes.invariant.counted start is) c.in_ok-taken.ensures.stalls c.if-taken-eq0.true;
+            (omega (arith, c.bytes-test.true, length-drop c.bytes.at c.args.bytes.now))
+            (c.bytes.invariant.counted start is) c.in_ok-taken.ensures.stalls c.if-taken-eq0.true;
         spent = ((λ _. last), (λ _. refl));
       },
     )
@@ -35,11 +35,11 @@ bytes-preserved g c =
     let now = c.bytes.invariant in
     let call = c.in_ok-taken.ensures in
     let sent =
-        Appends-more _ _ _ c.args.bytes.now c.bytes.at c.in_ok-taken.taken now.sent
-            (rw take_rest at call.bytes) in
+    Appends-more _ _ _ c.args.bytes.now c.bytes.at c.in_ok-taken.taken now.sent
+    (rw take_rest at call.bytes) in
     let bound = rw take_rest at call.bound in
     let within : c.bytes.at + c.in_ok-taken.taken ≤ length c.args.bytes.now =
-        omega (arith, bound, now.within, length-drop c.bytes.at c.args.bytes.now) in
+    omega (arith, bound, now.within, length-drop c.bytes.at c.args.bytes.now) in
     elim c.if-taken-eq0.branch [
       | then-taken-eq0+else-turns-gt-MAX_TURNS w ↦ record {
         sent = sent;
@@ -47,10 +47,10 @@ bytes-preserved g c =
         few = omega arith;
         counted =
             λ start is.
-                rw w.turns-is
-                    (stalls-none _ _ _ _ _ _
-                        (omega (arith, c.bytes-test.true, length-drop c.bytes.at c.args.bytes.now))
-                        (now.counted start is) call.stalls w.if-taken-eq0.true);
+            rw w.turns-is
+            (stalls-none _ _ _ _ _ _
+            (omega (arith, c.bytes-test.true, length-drop c.bytes.at c.args.bytes.now))
+            (now.counted start is) call.stalls w.if-taken-eq0.true);
         breaks = call.breaks ∙ now.breaks;
       }
       | else-taken-eq0 w ↦ record {
@@ -59,8 +59,8 @@ bytes-preserved g c =
         few = omega (arith, now.few);
         counted =
             λ start is.
-                rw w.turns-is
-                    (stalls-some _ _ _ _ _ _ (now.counted start is) call.stalls w.if-taken-eq0.false);
+            rw w.turns-is
+            (stalls-some _ _ _ _ _ _ (now.counted start is) call.stalls w.if-taken-eq0.false);
         breaks = call.breaks ∙ now.breaks;
       }
     ]

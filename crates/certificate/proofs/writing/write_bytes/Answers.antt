@@ -8,6 +8,7 @@ returns-in_err-send-clause-turns g c =
     rw (p.1, p.2) (c.in_err-send.ensures.ended _ (count_more-zero _))
 
 pub returns-clause-turns : goal.returns-clause-turns
-returns-clause-turns g c =
-    (c.in_ok-send.field-0,
-        TakesStalls-ok _ _ _ c.in_ok-send.ensures.few (c.in_ok-send.ensures.counted _ (count_more-zero _)))
+returns-clause-turns g c = (
+  c.in_ok-send.field-0,
+  TakesStalls-ok _ _ _ c.in_ok-send.ensures.few (c.in_ok-send.ensures.counted _ (count_more-zero _)),
+)

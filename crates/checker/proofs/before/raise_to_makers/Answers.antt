@@ -17,23 +17,23 @@ loop-entry-preserved c =
     let mid = c.loop-entry.bounds in
     let are = c.run-run.ensures.is_ledger.makers in
     let inside : entry < length makers =
-        let test = c.loop-entry-test.true in
-        let reached = c.requires.reached in omega (arith, test, reached) in
+    let test = c.loop-entry-test.true in
+    let reached = c.requires.reached in omega (arith, test, reached) in
     let count : c.len.result ≡ length rs =
-        c.len.ensures.value ∙ ap (λ r. length r.records) c.run-run.ensures.value in
+    c.len.ensures.value ∙ ap (λ r. length r.records) c.run-run.ensures.value in
     let read : slice_index c.places-places.result.now entry ≡ slice_index makers entry =
-        ap (λ l. slice_index l entry) c.places-places.ensures in
+    ap (λ l. slice_index l entry) c.places-places.ensures in
     elim c.if-maker-len.branch [
       | then-maker-len w ↦
           let raised : AreRaisedTo rs (λ k. k ≡ slice_index makers entry) mid w.raise.new.bounds =
-              rw (c.run-run.ensures.value, c.places-places.ensures) at w.raise.ensures in
+          rw (c.run-run.ensures.value, c.places-places.ensures) at w.raise.ensures in
           rw w.bounds-is
-              (makers_more rs entry makers old mid w.raise.new.bounds are inside
-                  (let low = w.if-maker-len.true in omega (arith, low, count, read)) c.loop-entry.invariant
-                  raised)
+          (makers_more rs entry makers old mid w.raise.new.bounds are inside
+          (let low = w.if-maker-len.true in omega (arith, low, count, read)) c.loop-entry.invariant
+          raised)
       | else-maker-len w ↦
           rw w.bounds-is
-              (makers_none rs entry makers old mid are inside
-                  (let past = w.if-maker-len.false in omega (arith, past, count, read))
-                  c.loop-entry.invariant)
+          (makers_none rs entry makers old mid are inside
+          (let past = w.if-maker-len.false in omega (arith, past, count, read))
+          c.loop-entry.invariant)
     ]

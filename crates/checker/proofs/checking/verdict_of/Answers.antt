@@ -11,7 +11,7 @@ pub returns-in-Some : goal.returns-in-Some
 returns-in-Some c = λ is.
     let clear : IsClearView c.args.clear = subst IsClearView c.clear.view_is c.clear.invariant.0 in
     let found : IsFirstViolation (by_task c.args.clear.run.records) c.in-Some.at c.in-Some.why =
-        rw c.in-Some.is at is in
+    rw c.in-Some.is at is in
     rejected c.args.clear c.in-Some.at c.in-Some.why clear found
 
 pub returns-in-None : goal.returns-in-None
@@ -21,5 +21,5 @@ returns-in-None c = λ is.
     let complete : (i : ℕ) → AreComplete (by_task rs) i = rw c.in-None.is at is in
     let order_is = ap (λ (v : ClearView). v.order) c.clear.view_is in
     rw order_is
-        (approved (by_task rs) c.args.clear.order (shows_none rs clear.well_formed) clear.linearization
-            clear.greedy complete)
+    (approved (by_task rs) c.args.clear.order (shows_none rs clear.well_formed) clear.linearization
+    clear.greedy complete)

@@ -6,5 +6,5 @@ use Rattle.checker.proofs.counter.check_with_counter.Goals as goal
 pub returns-in-Err-Malformed-clause-verdict : goal.returns-in-Err-Malformed-clause-verdict
 returns-in-Err-Malformed-clause-verdict c =
     least_shown c.args.trace.now.records c.in-Err-Malformed.at c.in-Err-Malformed.cause
-        (subst (IsLeastFound c.args.trace.now.records) c.in-Err-Malformed.field-0-is
-            c.in-Err-Malformed.ensures.malformed)
+    (subst (IsLeastFound c.args.trace.now.records) c.in-Err-Malformed.field-0-is
+    c.in-Err-Malformed.ensures.malformed)

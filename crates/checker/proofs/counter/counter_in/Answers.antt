@@ -12,8 +12,8 @@ pub returns-then-at-len-clause-counter : goal.returns-then-at-len-clause-counter
 returns-then-at-len-clause-counter c = λ _ missed.
     let rs = c.args.clear.now.run.records in
     let same : c.len.result ≡ length rs =
-        c.len.ensures.value
-            ∙ ap (λ (r : RunView). length r.records) (c.run.ensures.value ∙ c.sound.ensures.run) in
+    c.len.ensures.value
+    ∙ ap (λ (r : RunView). length r.records) (c.run.ensures.value ∙ c.sound.ensures.run) in
     let within = required_within (by_task rs) c.args.at c.args.task (of_tasks rs) missed.required in
     let past = c.if-at-len.true in
     absurd (omega (arith, same, within, past))
@@ -28,4 +28,4 @@ returns-clause-counter c =
     let clear = c.sound.ensures.is_clear in
     let counter = c.in_ok-counter_of.ensures in
     task_counter c.args.clear.now c.args.at c.args.task c.in_ok-counter_of.field-0 clear counter.linearization
-        counter.earliest (c.in_ok-is_unfinished.ensures.unfinished.0 c.if-not-branch.false)
+    counter.earliest (c.in_ok-is_unfinished.ensures.unfinished.0 c.if-not-branch.false)

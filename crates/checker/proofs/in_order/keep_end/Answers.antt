@@ -11,4 +11,4 @@ overflow_cast-at c =
 pub returns : goal.returns
 returns c =
     last_more c.args.run.now.records c.args.run.now.family.tasks c.make_room.new.lasts.items c.args.at
-        c.args.end.index c.args.end.turn c.requires.end c.in_ok-make_room.ensures.lasts
+    c.args.end.index c.args.end.turn c.requires.end c.in_ok-make_room.ensures.lasts

@@ -6,6 +6,7 @@ use Rattle.checker.proofs.laws.unfinished_is_missed.Goals as goal
 
 pub returns : goal.returns
 returns c =
-    λ rs order i task free linear.
-        (missed_by (by_task rs) order i task (of_tasks rs) (λ k. free k LengthBack) linear,
-            unfinished_by (by_task rs) i task)
+    λ rs order i task free linear. (
+      missed_by (by_task rs) order i task (of_tasks rs) (λ k. free k LengthBack) linear,
+      unfinished_by (by_task rs) i task,
+    )

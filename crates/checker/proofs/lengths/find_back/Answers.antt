@@ -27,18 +27,18 @@ returns-then-precedes_awaited c =
     let i = c.loop-at.at in
     let within : i < length rs = rw c.len-at-end.ensures.value at c.loop-at-test.true in
     let own : thread_at rs i ≡ Some c.from-thread.result =
-        c.thread.ensures ∙ ap Some (sym c.from-thread.ensures) in
+    c.thread.ensures ∙ ap Some (sym c.from-thread.ensures) in
     let seen : seen_at rs i ≡ c.from-seen.result = sym c.seen.ensures ∙ sym c.from-seen.ensures in
     let behind : IsBehind rs i = elim c.then-precedes_awaited.branch [
       | then-precedes_awaited-via-then-precedes_awaited w ↦
           behind_awaited rs i
-              (facts_of c.args.makers.now c.run-run.result.now c.run-run.ensures.value
-                  c.run-run.ensures.is_ledger)
-              c.loop-at.invariant.free (c.precedes_awaited.ensures.0 w.if-precedes_awaited.true)
+          (facts_of c.args.makers.now c.run-run.result.now c.run-run.ensures.value
+          c.run-run.ensures.is_ledger)
+          c.loop-at.invariant.free (c.precedes_awaited.ensures.0 w.if-precedes_awaited.true)
       | then-precedes_awaited-via-else-precedes_awaited+then-seen-known w ↦
           let less = w.if-seen-known.true in
           behind_known rs i c.from-thread.result c.loop-at.known within own (omega (arith, less, seen))
-              c.loop-at.invariant.known
+          c.loop-at.invariant.known
     ] in
     rw (← c.run-run.ensures.value) (first_back rs i within behind c.loop-at.invariant.free)
 
@@ -47,26 +47,26 @@ loop-at-preserved c =
     let rs = c.run-run.result.now.records in
     let i = c.loop-at.at in
     let own : thread_at rs i ≡ Some c.from-thread.result =
-        c.thread.ensures ∙ ap Some (sym c.from-thread.ensures) in
+    c.thread.ensures ∙ ap Some (sym c.from-thread.ensures) in
     let seen : seen_at rs i ≡ c.from-seen.result = sym c.seen.ensures ∙ sym c.from-seen.ensures in
     let more = c.if-seen-known.false in
     let facts =
-        (facts_of c.args.makers.now c.run-run.result.now c.run-run.ensures.value
-            c.run-run.ensures.is_ledger) in
+    (facts_of c.args.makers.now c.run-run.result.now c.run-run.ensures.value
+    c.run-run.ensures.is_ledger) in
     record {
       known =
           known_more rs i c.from-thread.result c.known_after-after.result c.loop-at.known own
-              (let low = c.from-thread.ensures in omega (arith, low)) c.known_after-after.ensures
-              (omega (arith, more, seen)) c.loop-at.invariant.known;
+          (let low = c.from-thread.ensures in omega (arith, low)) c.known_after-after.ensures
+          (omega (arith, more, seen)) c.loop-at.invariant.known;
       free =
-          below_more _ _ c.loop-at.invariant.free ( not_behind rs i c.from-thread.result c.loop-at.known facts
-              own (omega (arith, more, seen))
+          below_more _ _ c.loop-at.invariant.free (not_behind rs i c.from-thread.result c.loop-at.known facts
+          own (omega (arith, more, seen))
           (λ back. false≢true (sym c.if-precedes_awaited.false ∙ c.precedes_awaited.ensures.1 back))
-              c.loop-at.invariant.known);
+          c.loop-at.invariant.known);
     }
 
 pub returns : goal.returns
 returns c =
     let end = rw c.len-at-end.ensures.value at c.loop-at-test.false in
     rw (← c.run-run.ensures.value)
-        (free_of_back c.run-run.result.now.records c.loop-at.at c.loop-at.invariant.free (omega (arith, end)))
+    (free_of_back c.run-run.result.now.records c.loop-at.at c.loop-at.invariant.free (omega (arith, end)))

@@ -12,8 +12,8 @@ loop-step-init c =
       keys = rw (c.task_count.ensures.value, c.slot_count.ensures) at c.in_ok-lists.ensures.keys;
       lists =
           λ from is.
-              let end : from ≡ length run.records = omega (arith, is) in
-              rw end (new (key_of run.family.tasks run.records c.args.suspensions.now.rows.items));
+          let end : from ≡ length run.records = omega (arith, is) in
+          rw end (new (key_of run.family.tasks run.records c.args.suspensions.now.rows.items));
       rising = rw c.len-count.ensures.value at c.in_ok-lists.ensures.rising;
     }
 
@@ -43,8 +43,8 @@ loop-step-preserved c =
         keys = c.loop-step.invariant.keys;
         lists =
             λ from is.
-                let here : from ≡ at = omega (arith, is, inside, count) in
-                rw here (lists_other key n at _ _ (read ∙ no_some _ w.in_default.not-Some) was);
+            let here : from ≡ at = omega (arith, is, inside, count) in
+            rw here (lists_other key n at _ _ (read ∙ no_some _ w.in_default.not-Some) was);
         rising = c.loop-step.invariant.rising;
       })
     ]

@@ -9,6 +9,6 @@ invariant-loop-step l = record {
   keys : length l.lists.firsts.items ≡ length l.run.family.tasks + length l.suspensions.places.items;
   lists : (from : ℕ) → from + l.step ≡ length l.run.records
       → AreLists (key_of l.run.family.tasks l.run.records l.suspensions.rows.items) (length l.run.records)
-          from l.lists.firsts.items l.lists.nexts.items;
+      from l.lists.firsts.items l.lists.nexts.items;
   rising : IsRising (length l.run.records) l.lists.nexts.items;
 }

@@ -22,8 +22,8 @@ put_first-requires-clause-key c =
     let count = c.len-count.ensures.value ∙ ap (λ r. length r.records) c.run-run.ensures.value in
     let ledger = c.run-run.ensures.is_ledger in
     let names =
-        names_length rs at c.seen.result (omega (arith, inside, count))
-            (rw c.run-run.ensures.value at c.seen.ensures) in
+    names_length rs at c.seen.result (omega (arith, inside, count))
+    (rw c.run-run.ensures.value at c.seen.ensures) in
     let most = length_within rs at c.seen.result ledger.reached names in
     let len = c.loop-step.invariant.keys in
     let entries = ledger.entries in
@@ -36,8 +36,8 @@ loop-step-preserved c =
     let inside = c.loop-step-test.true in
     let count = c.len-count.ensures.value ∙ ap (λ r. length r.records) c.run-run.ensures.value in
     let names =
-        names_length rs at c.seen.result (omega (arith, inside, count))
-            (rw c.run-run.ensures.value at c.seen.ensures) in
+    names_length rs at c.seen.result (omega (arith, inside, count))
+    (rw c.run-run.ensures.value at c.seen.ensures) in
     let was = c.loop-step.invariant.lists (at + 1) (omega (arith, inside, count)) in
     let more = c.put_first.ensures.lists (length_of rs) (length rs) names c.loop-step.invariant.rising was in
     record {

@@ -9,6 +9,6 @@ invariant-loop-step l = record {
   keys : (i thread : ℕ) → thread_at l.run.records i ≡ Some thread → thread < length l.lists.firsts.items;
   lists : (from : ℕ) → from + l.step ≡ length l.run.records
       → AreLists (thread_at l.run.records) (length l.run.records) from l.lists.firsts.items
-          l.lists.nexts.items;
+      l.lists.nexts.items;
   rising : IsRising (length l.run.records) l.lists.nexts.items;
 }

@@ -7,4 +7,4 @@ use Rattle.checker.proofs.merge.first_missing.Given as goal
 abbrev pub invariant-loop-entry : goal.invariant-loop-entry
 invariant-loop-entry l =
     (k : ℕ) → l.from ≤ k → k < l.entry → slice_index l.makers k < length l.placed
-        → Stands l.placed (slice_index l.makers k)
+    → Stands l.placed (slice_index l.makers k)

@@ -22,8 +22,8 @@ returns-in_err-states-clause-malformed g c =
     let rs = c.args.trace.now.records in
     let p = err_from_is_err_and c.from_residual.result c.from_residual.ensures.1 in
     rw (p.1, p.2)
-        (least_more rs (before NotCurrent) state_causes (beyond RegionOrder) c.in_err-states.field-0.0 refl
-            c.requires.clear (rw c.run-run.ensures.records at c.in_err-states.ensures.fault))
+    (least_more rs (before NotCurrent) state_causes (beyond RegionOrder) c.in_err-states.field-0.0 refl
+    c.requires.clear (rw c.run-run.ensures.records at c.in_err-states.ensures.fault))
 
 pub returns-in_err-teams-clause-malformed : goal.returns-in_err-teams-clause-malformed
 returns-in_err-teams-clause-malformed g c =
@@ -31,17 +31,17 @@ returns-in_err-teams-clause-malformed g c =
     let own = c.own-own.result in
     let states = c.in_ok-states.ensures.states in
     let of_states : IsClear rs (before TeamShort) =
-        clear_more rs (before NotCurrent) state_causes c.requires.clear
-            (rw c.run-run.ensures.records at states.clear) in
+    clear_more rs (before NotCurrent) state_causes c.requires.clear
+    (rw c.run-run.ensures.records at states.clear) in
     let places : AreAllPlaces own.places (length own.run.records) =
-        rw states.of_own at states.are.regions.own.places in
+    rw states.of_own at states.are.regions.own.places in
     let fault : IsShownFault rs (TeamShort ∷ []) c.in_err-teams.field-0.0 =
-        own_fault rs own TeamShort c.in_err-teams.field-0.0 of_teams c.own-own.ensures places
-            (rw (c.regions.ensures.value, states.of_own) at c.in_err-teams.ensures.fault) in
+    own_fault rs own TeamShort c.in_err-teams.field-0.0 of_teams c.own-own.ensures places
+    (rw (c.regions.ensures.value, states.of_own) at c.in_err-teams.ensures.fault) in
     let p = err_from_is_err_and c.from_residual-in_err-teams.result c.from_residual-in_err-teams.ensures.1 in
     rw (p.1, p.2)
-        (least_more rs (before TeamShort) (TeamShort ∷ []) (beyond TeamShort) c.in_err-teams.field-0.0 refl
-            of_states fault)
+    (least_more rs (before TeamShort) (TeamShort ∷ []) (beyond TeamShort) c.in_err-teams.field-0.0 refl
+    of_states fault)
 
 pub returns-in_err-edges-clause-malformed : goal.returns-in_err-edges-clause-malformed
 returns-in_err-edges-clause-malformed g c =
@@ -49,17 +49,17 @@ returns-in_err-edges-clause-malformed g c =
     let own = c.own-own.result in
     let states = c.in_ok-states.ensures.states in
     let of_states : IsClear rs (before TeamShort) =
-        clear_more rs (before NotCurrent) state_causes c.requires.clear
-            (rw c.run-run.ensures.records at states.clear) in
+    clear_more rs (before NotCurrent) state_causes c.requires.clear
+    (rw c.run-run.ensures.records at states.clear) in
     let whole : IsFreeOf own.run.records TeamShort =
-        rw (c.in_ok-teams.ensures.run, c.regions.ensures.value, states.of_own)
-            at c.in_ok-teams.ensures.teams.whole in
+    rw (c.in_ok-teams.ensures.run, c.regions.ensures.value, states.of_own)
+    at c.in_ok-teams.ensures.teams.whole in
     let of_the_teams : IsClear rs (before NestedParallel) =
-        teams_clear rs own c.own-own.ensures of_states whole in
+    teams_clear rs own c.own-own.ensures of_states whole in
     let p = err_from_is_err_and c.from_residual-in_err-edges.result c.from_residual-in_err-edges.ensures.1 in
     rw (p.1, p.2)
-        (least_more rs (before NestedParallel) edge_causes (beyond ShareWrong) c.in_err-edges.field-0.0 refl
-            of_the_teams (rw c.run-run.ensures.records at c.in_err-edges.ensures.fault))
+    (least_more rs (before NestedParallel) edge_causes (beyond ShareWrong) c.in_err-edges.field-0.0 refl
+    of_the_teams (rw c.run-run.ensures.records at c.in_err-edges.ensures.fault))
 
 pub invariant_of-sound : goal.invariant_of-sound
 invariant_of-sound g c =
@@ -67,23 +67,22 @@ invariant_of-sound g c =
     let own = c.own-own.result in
     let states = c.in_ok-states.ensures.states in
     let of_states : IsClear rs (before TeamShort) =
-        clear_more rs (before NotCurrent) state_causes c.requires.clear
-            (rw c.run-run.ensures.records at states.clear) in
+    clear_more rs (before NotCurrent) state_causes c.requires.clear
+    (rw c.run-run.ensures.records at states.clear) in
     let whole : IsFreeOf own.run.records TeamShort =
-        rw (c.in_ok-teams.ensures.run, c.regions.ensures.value, states.of_own)
-            at c.in_ok-teams.ensures.teams.whole in
+    rw (c.in_ok-teams.ensures.run, c.regions.ensures.value, states.of_own)
+    at c.in_ok-teams.ensures.teams.whole in
     let of_the_teams : IsClear rs (before NestedParallel) =
-        teams_clear rs own c.own-own.ensures of_states whole in
+    teams_clear rs own c.own-own.ensures of_states whole in
     let edges = c.in_ok-edges.ensures.edges in
     let clear =
-        clear_more rs (before NestedParallel) edge_causes of_the_teams
-            (rw c.run-run.ensures.records at edges.clear) in
+    clear_more rs (before NestedParallel) edge_causes of_the_teams
+    (rw c.run-run.ensures.records at edges.clear) in
     let teams = c.in_ok-teams.ensures in
     let run = rw (c.regions.ensures.value, states.of_own) at teams.run in
     let same : own_of c.in_ok-teams.teams ≡ own =
-        same_own (own_of c.in_ok-teams.teams) own run
-            (rw (c.regions.ensures.value, states.of_own) at teams.places) in
-    (
+    same_own (own_of c.in_ok-teams.teams) own run
+    (rw (c.regions.ensures.value, states.of_own) at teams.places) in (
       record {
         sound = record {
           is_run = rw states.of_run at states.are.run;

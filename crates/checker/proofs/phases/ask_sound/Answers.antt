@@ -6,4 +6,4 @@ invariant_of-answer g c =
     let view = c.args.sound.now in
     let order = c.in_ok-order.ensures in
     clear_and_known view c.in_ok-order.order c.in_ok-known.known c.run-run.ensures.is_sound order.clear
-        order.linearization order.greedy c.in_ok-known.ensures.known
+    order.linearization order.greedy c.in_ok-known.ensures.known

@@ -14,12 +14,12 @@ returns-in_err-exclude-clause-least c =
     let same = ap (λ (v : SoundView). v.run.records) (sym c.sound.view_is) ∙ c.sound.invariant.1 in
     let target : FindsFirst rs TargetTask c.target.result = rw (← same) at c.target.ensures in
     let p =
-        err_from_is_err_and c.from_residual-in_err-exclude.result c.from_residual-in_err-exclude.ensures.1 in
+    err_from_is_err_and c.from_residual-in_err-exclude.result c.from_residual-in_err-exclude.ensures.1 in
     rw (p.1, p.2)
-        (least_more rs (before TargetTask) (TargetTask ∷ []) [] c.in_err-exclude.field-0.0 refl
-            c.in_ok-order.ensures.clear
-            (fault_shown rs (TargetTask ∷ []) c.in_err-exclude.field-0.0 refl
-                (c.in_err-exclude.ensures.fault rs target)))
+    (least_more rs (before TargetTask) (TargetTask ∷ []) [] c.in_err-exclude.field-0.0 refl
+    c.in_ok-order.ensures.clear
+    (fault_shown rs (TargetTask ∷ []) c.in_err-exclude.field-0.0 refl
+    (c.in_err-exclude.ensures.fault rs target)))
 
 pub returns-clause-clear : goal.returns-clause-clear
 returns-clause-clear c =
@@ -28,4 +28,4 @@ returns-clause-clear c =
     let target : FindsFirst rs TargetTask c.target.result = rw (← same) at c.target.ensures in
     let free : IsFreeOf rs TargetTask = c.in_ok-exclude.ensures.free rs target in
     clear_more rs (before TargetTask) (TargetTask ∷ []) c.in_ok-order.ensures.clear
-        (only_clear rs TargetTask free)
+    (only_clear rs TargetTask free)

@@ -15,10 +15,10 @@ returns-in_err-makers-clause-least c =
     let rs = c.args.sound.now.run.records in
     let p = err_from_is_err_and c.from_residual.result c.from_residual.ensures.1 in
     rw (p.1, p.2)
-        (least_more rs (before EntryTwice) (EntryTwice ∷ LengthAhead ∷ []) (beyond LengthAhead)
-            c.in_err-makers.field-0.0 refl c.run-run.ensures.is_sound.sound.clear
-            (fault_shown rs (EntryTwice ∷ LengthAhead ∷ []) c.in_err-makers.field-0.0 refl
-                (rw c.run-run.ensures.value at c.in_err-makers.ensures.fault)))
+    (least_more rs (before EntryTwice) (EntryTwice ∷ LengthAhead ∷ []) (beyond LengthAhead)
+    c.in_err-makers.field-0.0 refl c.run-run.ensures.is_sound.sound.clear
+    (fault_shown rs (EntryTwice ∷ LengthAhead ∷ []) c.in_err-makers.field-0.0 refl
+    (rw c.run-run.ensures.value at c.in_err-makers.ensures.fault)))
 
 pub in_run-requires : goal.in_run-requires
 in_run-requires c =
@@ -29,77 +29,77 @@ returns-in_err-exclude-clause-least c =
     let rs = c.args.sound.now.run.records in
     let ledger : IsLedger c.in_ok-makers.makers = subst IsLedger c.makers.view_is c.makers.invariant in
     let once : IsFreeOf rs EntryTwice =
-        rw (c.in_ok-makers.ensures.run, c.run-run.ensures.value) at ledger.once in
+    rw (c.in_ok-makers.ensures.run, c.run-run.ensures.value) at ledger.once in
     let reached : IsFreeOf rs LengthAhead =
-        rw (c.in_ok-makers.ensures.run, c.run-run.ensures.value) at ledger.reached in
+    rw (c.in_ok-makers.ensures.run, c.run-run.ensures.value) at ledger.reached in
     let clear : IsClear rs (before LengthBack) =
-        clear_more rs (before EntryTwice) (EntryTwice ∷ LengthAhead ∷ [])
-            c.run-run.ensures.is_sound.sound.clear
-            (one_clear rs EntryTwice (LengthAhead ∷ []) once (only_clear rs LengthAhead reached)) in
+    clear_more rs (before EntryTwice) (EntryTwice ∷ LengthAhead ∷ [])
+    c.run-run.ensures.is_sound.sound.clear
+    (one_clear rs EntryTwice (LengthAhead ∷ []) once (only_clear rs LengthAhead reached)) in
     let p =
-        err_from_is_err_and c.from_residual-in_err-exclude.result c.from_residual-in_err-exclude.ensures.1 in
+    err_from_is_err_and c.from_residual-in_err-exclude.result c.from_residual-in_err-exclude.ensures.1 in
     rw (p.1, p.2)
-        (least_more rs (before LengthBack) (LengthBack ∷ []) (beyond LengthBack) c.in_err-exclude.field-0.0
-            refl clear
-            (fault_shown rs (LengthBack ∷ []) c.in_err-exclude.field-0.0 refl
-                (c.in_err-exclude.ensures.fault rs
-                    (rw (c.in_ok-makers.ensures.run, c.run-run.ensures.value) at c.find_back.ensures))))
+    (least_more rs (before LengthBack) (LengthBack ∷ []) (beyond LengthBack) c.in_err-exclude.field-0.0
+    refl clear
+    (fault_shown rs (LengthBack ∷ []) c.in_err-exclude.field-0.0 refl
+    (c.in_err-exclude.ensures.fault rs
+    (rw (c.in_ok-makers.ensures.run, c.run-run.ensures.value) at c.find_back.ensures))))
 
 pub find_order-requires : goal.find_order-requires
 find_order-requires c =
     λ k below.
-        absurd
-            (let below : k < length c.in_ok-none.none.items = below in
-             let none = ap length c.in_ok-none.ensures.items in omega (arith, below, none))
+    absurd
+    (let below : k < length c.in_ok-none.none.items = below in
+    let none = ap length c.in_ok-none.ensures.items in omega (arith, below, none))
 
 pub returns-clause-greedy : goal.returns-clause-greedy
 returns-clause-greedy c =
     rw (c.from_vec.ensures)
-        (greedy_alone c.args.sound.now.run.records c.in_ok-find_order.field-0.items
-            (rw (c.in_ok-makers.ensures.run, c.run-run.ensures.value, c.in_ok-none.ensures.items)
-                at c.in_ok-find_order.ensures.greedy))
+    (greedy_alone c.args.sound.now.run.records c.in_ok-find_order.field-0.items
+    (rw (c.in_ok-makers.ensures.run, c.run-run.ensures.value, c.in_ok-none.ensures.items)
+    at c.in_ok-find_order.ensures.greedy))
 
 pub returns-in_err-find_order-clause-least : goal.returns-in_err-find_order-clause-least
 returns-in_err-find_order-clause-least c =
     let rs = c.args.sound.now.run.records in
     let ledger : IsLedger c.in_ok-makers.makers = subst IsLedger c.makers.view_is c.makers.invariant in
     let once : IsFreeOf rs EntryTwice =
-        rw (c.in_ok-makers.ensures.run, c.run-run.ensures.value) at ledger.once in
+    rw (c.in_ok-makers.ensures.run, c.run-run.ensures.value) at ledger.once in
     let reached : IsFreeOf rs LengthAhead =
-        rw (c.in_ok-makers.ensures.run, c.run-run.ensures.value) at ledger.reached in
+    rw (c.in_ok-makers.ensures.run, c.run-run.ensures.value) at ledger.reached in
     let rise : IsFreeOf rs LengthBack =
-        c.in_ok-exclude.ensures.free rs
-            (rw (c.in_ok-makers.ensures.run, c.run-run.ensures.value) at c.find_back.ensures) in
+    c.in_ok-exclude.ensures.free rs
+    (rw (c.in_ok-makers.ensures.run, c.run-run.ensures.value) at c.find_back.ensures) in
     let clear : IsClear rs (before NoOrder) =
-        clear_more rs (before EntryTwice) (EntryTwice ∷ LengthAhead ∷ LengthBack ∷ [])
-            c.run-run.ensures.is_sound.sound.clear
-            (one_clear rs EntryTwice (LengthAhead ∷ LengthBack ∷ []) once
-                (one_clear rs LengthAhead (LengthBack ∷ []) reached (only_clear rs LengthBack rise))) in
+    clear_more rs (before EntryTwice) (EntryTwice ∷ LengthAhead ∷ LengthBack ∷ [])
+    c.run-run.ensures.is_sound.sound.clear
+    (one_clear rs EntryTwice (LengthAhead ∷ LengthBack ∷ []) once
+    (one_clear rs LengthAhead (LengthBack ∷ []) reached (only_clear rs LengthBack rise))) in
     let p =
-        err_from_is_err_and c.from_residual-in_err-find_order.result
-            c.from_residual-in_err-find_order.ensures.1 in
+    err_from_is_err_and c.from_residual-in_err-find_order.result
+    c.from_residual-in_err-find_order.ensures.1 in
     rw (p.1, p.2)
-        (least_more rs (before NoOrder) (NoOrder ∷ []) (beyond NoOrder) c.in_err-find_order.field-0.0 refl
-            clear
-            (fault_shown rs (NoOrder ∷ []) c.in_err-find_order.field-0.0 refl
-                (rw (c.in_ok-makers.ensures.run, c.run-run.ensures.value)
-                    at c.in_err-find_order.ensures.fault)))
+    (least_more rs (before NoOrder) (NoOrder ∷ []) (beyond NoOrder) c.in_err-find_order.field-0.0 refl
+    clear
+    (fault_shown rs (NoOrder ∷ []) c.in_err-find_order.field-0.0 refl
+    (rw (c.in_ok-makers.ensures.run, c.run-run.ensures.value)
+    at c.in_err-find_order.ensures.fault)))
 
 pub returns-clause-clear : goal.returns-clause-clear
 returns-clause-clear c =
     let rs = c.args.sound.now.run.records in
     let ledger : IsLedger c.in_ok-makers.makers = subst IsLedger c.makers.view_is c.makers.invariant in
     let once : IsFreeOf rs EntryTwice =
-        rw (c.in_ok-makers.ensures.run, c.run-run.ensures.value) at ledger.once in
+    rw (c.in_ok-makers.ensures.run, c.run-run.ensures.value) at ledger.once in
     let reached : IsFreeOf rs LengthAhead =
-        rw (c.in_ok-makers.ensures.run, c.run-run.ensures.value) at ledger.reached in
+    rw (c.in_ok-makers.ensures.run, c.run-run.ensures.value) at ledger.reached in
     let rise : IsFreeOf rs LengthBack =
-        c.in_ok-exclude.ensures.free rs
-            (rw (c.in_ok-makers.ensures.run, c.run-run.ensures.value) at c.find_back.ensures) in
+    c.in_ok-exclude.ensures.free rs
+    (rw (c.in_ok-makers.ensures.run, c.run-run.ensures.value) at c.find_back.ensures) in
     let orders : IsFreeOf rs NoOrder =
-        rw (c.in_ok-makers.ensures.run, c.run-run.ensures.value) at c.in_ok-find_order.ensures.free in
+    rw (c.in_ok-makers.ensures.run, c.run-run.ensures.value) at c.in_ok-find_order.ensures.free in
     clear_more rs (before EntryTwice) (EntryTwice ∷ LengthAhead ∷ LengthBack ∷ NoOrder ∷ [])
-        c.run-run.ensures.is_sound.sound.clear
-        (one_clear rs EntryTwice (LengthAhead ∷ LengthBack ∷ NoOrder ∷ []) once
-            (one_clear rs LengthAhead (LengthBack ∷ NoOrder ∷ []) reached
-                (one_clear rs LengthBack (NoOrder ∷ []) rise (only_clear rs NoOrder orders))))
+    c.run-run.ensures.is_sound.sound.clear
+    (one_clear rs EntryTwice (LengthAhead ∷ LengthBack ∷ NoOrder ∷ []) once
+    (one_clear rs LengthAhead (LengthBack ∷ NoOrder ∷ []) reached
+    (one_clear rs LengthBack (NoOrder ∷ []) rise (only_clear rs NoOrder orders))))

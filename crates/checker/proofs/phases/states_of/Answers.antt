@@ -23,7 +23,7 @@ returns-clause-states c =
       are = states.states;
       clear =
           states_clear view.run.records view.own c.own-own.ensures.is_own
-              (rw c.run-run.ensures.value at states.current) (rw c.run-run.ensures.value at states.stay)
-              (rw c.run-run.ensures.value at states.gapless) (rw c.run-run.ensures.value at states.ordered)
-              (rw c.own-own.ensures.value at states.closed);
+          (rw c.run-run.ensures.value at states.current) (rw c.run-run.ensures.value at states.stay)
+          (rw c.run-run.ensures.value at states.gapless) (rw c.run-run.ensures.value at states.ordered)
+          (rw c.own-own.ensures.value at states.closed);
     }

@@ -10,15 +10,15 @@ loop-at-init c =
     let some = c.requires.some in
     let total = slice_index rows (length rows - 1) in
     let within : (index : ℕ) → slice_index rows index ≤ total =
-        rows_within rows (length rows - 1) total c.requires.rows (omega (arith, some)) refl in
+    rows_within rows (length rows - 1) total c.requires.rows (omega (arith, some)) refl in
     record {
       within =
           λ index.
-              let low = within index in
-              rw (c.in_ok-places.ensures, length-replicate total (length c.args.run.now.records)) low;
+          let low = within index in
+          rw (c.in_ok-places.ensures, length-replicate total (length c.args.run.now.records)) low;
       ends =
           rw c.in_ok-places.ensures
-              (ends_start c.args.run.now.records c.args.run.now.family.tasks rows total within);
+          (ends_start c.args.run.now.records c.args.run.now.family.tasks rows total within);
     }
 
 pub returns-clause-ends : goal.returns-clause-ends

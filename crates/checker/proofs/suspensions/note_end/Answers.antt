@@ -12,8 +12,8 @@ pub index_mut-requires : goal.index_mut-requires
 index_mut-requires c =
     let behind = c.in-Some.ensures in
     let low =
-        slot_within c.args.rows.now behind.index (behind.turn + 1) (length c.args.places.now.items) behind.has
-            c.requires.within in
+    slot_within c.args.rows.now behind.index (behind.turn + 1) (length c.args.places.now.items) behind.has
+    c.requires.within in
     let is = behind.is in
     let inside : c.in-Some.slot < length c.args.places.now.items = omega (arith, low, is) in
     search (rules, inside)
@@ -22,14 +22,14 @@ pub returns-in-Some-clause-more : goal.returns-in-Some-clause-more
 returns-in-Some-clause-more c =
     let behind = c.in-Some.ensures in
     let low =
-        slot_within c.args.rows.now behind.index (behind.turn + 1) (length c.args.places.now.items) behind.has
-            c.requires.within in
+    slot_within c.args.rows.now behind.index (behind.turn + 1) (length c.args.places.now.items) behind.has
+    c.requires.within in
     let is = behind.is in
     ends_more c.args.run.now.records c.args.at c.in-Some.slot c.args.run.now.family.tasks c.args.rows.now
-        c.args.places.now.items c.requires.at c.requires.is_run.family.makers.apart c.requires.rows
-        (omega (arith, low, is)) behind c.requires.before
+    c.args.places.now.items c.requires.at c.requires.is_run.family.makers.apart c.requires.rows
+    (omega (arith, low, is)) behind c.requires.before
 
 pub returns-in_default-clause-more : goal.returns-in_default-clause-more
 returns-in_default-clause-more c =
     ends_other c.args.run.now.records c.args.at c.args.run.now.family.tasks c.args.rows.now
-        c.args.places.now.items c.in_default.ensures c.requires.before
+    c.args.places.now.items c.in_default.ensures c.requires.before

@@ -7,7 +7,7 @@ use Rattle.checker.proofs.suspensions.row_lengths.Goals as goal
 pub loop-at-init : goal.loop-at-init
 loop-at-init c =
     let zeros : c.in_ok-lengths.lengths.items ≡ replicate c.task_count.result 0 =
-        c.in_ok-lengths.ensures.items_if_clones_equal (λ y same. same) in
+    c.in_ok-lengths.ensures.items_if_clones_equal (λ y same. same) in
     record {
       all = ap length zeros ∙ length-replicate {A = ℕ} c.task_count.result 0 ∙ c.task_count.ensures.value;
       low = rw zeros (All-replicate (λ (n : ℕ). n ≤ 2 ^ 32) c.task_count.result 0 (omega arith));

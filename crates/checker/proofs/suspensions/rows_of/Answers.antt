@@ -9,5 +9,5 @@ returns-clause-room c =
     let count = c.len-index-end.ensures in
     let ok = c.in_ok-lengths.lengths.ok.0 in
     laid_room c.args.run.now.records c.args.run.now.family.tasks c.in_ok-lengths.lengths.items
-        c.loop-index.rows.items c.loop-index.index (omega (arith, end, all, count, ok))
-        c.loop-index.invariant.laid c.in_ok-lengths.ensures.lengths
+    c.loop-index.rows.items c.loop-index.index (omega (arith, end, all, count, ok))
+    c.loop-index.invariant.laid c.in_ok-lengths.ensures.lengths

@@ -12,73 +12,73 @@ pub settle-requires-clause-linked : goal.settle-requires-clause-linked
 settle-requires-clause-linked c =
     let when : c.len.result ≡ length c.args.shares.now.items = omega arith in
     let nodes : c.put_run.new.self.nodes.items
-            ≡ set c.args.tree.now.nodes.items c.args.index
-                (with_run (node_at c.args.tree.now c.args.index) (record {
-                  keeps = (path_of c.args.share).1;
-                  time = length c.args.shares.now.items;
-                })) =
+    ≡ set c.args.tree.now.nodes.items c.args.index
+    (with_run (node_at c.args.tree.now c.args.index) (record {
+      keeps = (path_of c.args.share).1;
+      time = length c.args.shares.now.items;
+    })) =
     subst
-        (λ t.
-            c.put_run.new.self.nodes.items
-                ≡ set c.args.tree.now.nodes.items c.args.index
-                    (with_run (node_at c.args.tree.now c.args.index) (record {
-                      keeps = (path_of c.args.share).1;
-                      time = t;
-                    })))
-        when
+    (λ t.
+    c.put_run.new.self.nodes.items
+    ≡ set c.args.tree.now.nodes.items c.args.index
+    (with_run (node_at c.args.tree.now c.args.index) (record {
+      keeps = (path_of c.args.share).1;
+      time = t;
+    })))
+    when
     (subst
-        (λ k.
-            c.put_run.new.self.nodes.items
-                ≡ set c.args.tree.now.nodes.items c.args.index
-                    (with_run (node_at c.args.tree.now c.args.index) (record {
-                      keeps = k;
-                      time = c.len.result;
-                    })))
-        c.last.ensures c.put_run.ensures.nodes) in
+    (λ k.
+    c.put_run.new.self.nodes.items
+    ≡ set c.args.tree.now.nodes.items c.args.index
+    (with_run (node_at c.args.tree.now c.args.index) (record {
+      keeps = k;
+      time = c.len.result;
+    })))
+    c.last.ensures c.put_run.ensures.nodes) in
     IsLinked-put c.args.shares.now.items c.args.tree.now c.put_run.new.self c.args.index c.args.share
-        c.requires.linked c.requires.place c.requires.within nodes c.put_run.ensures.links
+    c.requires.linked c.requires.place c.requires.within nodes c.put_run.ensures.links
 
 pub settle-requires-clause-settling : goal.settle-requires-clause-settling
 settle-requires-clause-settling c =
     let when : c.len.result ≡ length c.args.shares.now.items = omega arith in
     let nodes : c.put_run.new.self.nodes.items
-            ≡ set c.args.tree.now.nodes.items c.args.index
-                (with_run (node_at c.args.tree.now c.args.index) (record {
-                  keeps = (path_of c.args.share).1;
-                  time = length c.args.shares.now.items;
-                })) =
+    ≡ set c.args.tree.now.nodes.items c.args.index
+    (with_run (node_at c.args.tree.now c.args.index) (record {
+      keeps = (path_of c.args.share).1;
+      time = length c.args.shares.now.items;
+    })) =
     subst
-        (λ t.
-            c.put_run.new.self.nodes.items
-                ≡ set c.args.tree.now.nodes.items c.args.index
-                    (with_run (node_at c.args.tree.now c.args.index) (record {
-                      keeps = (path_of c.args.share).1;
-                      time = t;
-                    })))
-        when
+    (λ t.
+    c.put_run.new.self.nodes.items
+    ≡ set c.args.tree.now.nodes.items c.args.index
+    (with_run (node_at c.args.tree.now c.args.index) (record {
+      keeps = (path_of c.args.share).1;
+      time = t;
+    })))
+    when
     (subst
-        (λ k.
-            c.put_run.new.self.nodes.items
-                ≡ set c.args.tree.now.nodes.items c.args.index
-                    (with_run (node_at c.args.tree.now c.args.index) (record {
-                      keeps = k;
-                      time = c.len.result;
-                    })))
-        c.last.ensures c.put_run.ensures.nodes) in
+    (λ k.
+    c.put_run.new.self.nodes.items
+    ≡ set c.args.tree.now.nodes.items c.args.index
+    (with_run (node_at c.args.tree.now c.args.index) (record {
+      keeps = k;
+      time = c.len.result;
+    })))
+    c.last.ensures c.put_run.ensures.nodes) in
     let pushed : c.push.new.self.items ≡ c.args.shares.now.items ++ c.args.share ∷ [] =
-        c.push.ensures.items
-            ∙ cond-true (is_ok c.push.result) (c.args.shares.now.items ++ c.args.share ∷ [])
-                c.args.shares.now.items (c.push.ensures.succeeds c.requires.room) in
+    c.push.ensures.items
+    ∙ cond-true (is_ok c.push.result) (c.args.shares.now.items ++ c.args.share ∷ [])
+    c.args.shares.now.items (c.push.ensures.succeeds c.requires.room) in
     let again : c.index-entered.result.now ≡ c.args.share =
     c.index-entered.ensures ∙ ap (λ xs. get_or xs c.len.result c.index-entered.result.now) pushed
-        ∙ get_or_push c.args.shares.now.items c.args.share c.index-entered.result.now c.len.result (sym when)
-            in
+    ∙ get_or_push c.args.shares.now.items c.args.share c.index-entered.result.now c.len.result (sym when)
+    in
     let path : reverse c.runs.result.now ≡ (path_of c.args.share).0 =
-        c.runs.ensures.path ∙ ap (λ s. (path_of s).0) again in
+    c.runs.ensures.path ∙ ap (λ s. (path_of s).0) again in
     subst (λ p. IsSettling c.as_slice.result.now (progress_at c.put_run.new.self) p) (sym path)
-    ( subst (λ xs. IsSettling xs (progress_at c.put_run.new.self) (path_of c.args.share).0)
-        (sym (c.as_slice.ensures.value ∙ pushed))
-    ( IsSettling-put c.args.shares.now.items c.args.tree.now c.put_run.new.self c.args.index c.args.share
-        c.requires.linked c.requires.place c.requires.within nodes c.put_run.ensures.links
+    (subst (λ xs. IsSettling xs (progress_at c.put_run.new.self) (path_of c.args.share).0)
+    (sym (c.as_slice.ensures.value ∙ pushed))
+    (IsSettling-put c.args.shares.now.items c.args.tree.now c.put_run.new.self c.args.index c.args.share
+    c.requires.linked c.requires.place c.requires.within nodes c.put_run.ensures.links
     c.requires.known
     (IsFree-overlaps c.args.shares.now.items c.args.share c.requires.free)))

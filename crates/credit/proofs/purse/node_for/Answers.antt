@@ -5,4 +5,4 @@ use Rattle.credit.proofs.purse.node_for.Goals as goal
 pub returns-clause-known : goal.returns-clause-known
 returns-clause-known c =
     IsKnown-same c.args.shares.now (progress_at c.args.tree.now) (progress_at c.make.new.self)
-        c.make.ensures.grown.same c.requires.known
+    c.make.ensures.grown.same c.requires.known

@@ -11,11 +11,11 @@ returns-clause-overlaps c = λ some.
     let f : overlaps_either c.in-Ok.first c.in-Ok-second_code.second c.args.purse.now ≡ true =
     ap (λ x. overlaps_either x c.in-Ok-second_code.second c.args.purse.now) c.in-Ok.ensures
     ∙ ap (λ x. overlaps_either (tree_code c.args.entry.root (tree_share c.args.entry)) x c.args.purse.now)
-        c.in-Ok-second_code.ensures
+    c.in-Ok-second_code.ensures
     ∙ ap
-        (overlaps_either (tree_code c.args.entry.root (tree_share c.args.entry))
-            (second_code c.args.entry.root (parent_and_number c.args.entry.path) c.args.entry.part
-                (tree_share c.args.entry)))
-        c.requires.shares
-        ∙ e in
+    (overlaps_either (tree_code c.args.entry.root (tree_share c.args.entry))
+    (second_code c.args.entry.root (parent_and_number c.args.entry.path) c.args.entry.part
+    (tree_share c.args.entry)))
+    c.requires.shares
+    ∙ e in
     c.in-Ok-enter_both.ensures.overlaps f

@@ -22,9 +22,9 @@ pub returns-clause-held : goal.returns-clause-held
 returns-clause-held c =
     let list : entries_after c.args.place.now.me.0.seen ≡ c.in-Some.ledger =
     has_list c.args.place.now.me.1 (entries_after c.args.place.now.me.0.seen) c.in-Some.ledger
-        (rest c.args.place.now.me.1) c.requires.ledger
+    (rest c.args.place.now.me.1) c.requires.ledger
     (c.slot_mut.ensures.value ∙ ap (λ o. (0, o) ∷ rest c.args.place.now.me.1) c.in-Some.is) in
     let all : take c.len-len.result c.in-Some.ledger ≡ entries_after c.args.place.now.me.0.seen =
     ap (λ n. take n c.in-Some.ledger) c.len-len.ensures ∙ take-length c.in-Some.ledger ∙ sym list in
     subst (λ es. IsTrue c.in_ok-is_held.is_held ↔ IsSpanHeld es c.args.span.now Descendants) all
-        c.in_ok-is_held.ensures.held
+    c.in_ok-is_held.ensures.held

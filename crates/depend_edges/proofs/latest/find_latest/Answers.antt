@@ -8,18 +8,18 @@ returns-then-not-has_list-clause-latest c =
     let run = c.args.lengths.now.edges.run in
     let is = c.run.ensures.is_edges in
     let count : c.task_count-count.result ≡ length run.family.tasks =
-        rw (← c.run.ensures.value) c.task_count-count.ensures.value in
+    rw (← c.run.ensures.value) c.task_count-count.ensures.value in
     let lists : AreListed run.records (length run.records) run.family.tasks c.lists.result.now =
-        rw c.lists.ensures is.lists in
+    rw c.lists.ensures is.lists in
     latest_none run.records run.family c.args.lengths.now.own c.in_ok-latest.latest.items c.lists.result.now
-        c.has_list.result is.run.family lists c.has_list.ensures c.if-not-has_list.true
-        (c.in_ok-latest.ensures ∙ ap (λ (n : ℕ). replicate n 0) count)
+    c.has_list.result is.run.family lists c.has_list.ensures c.if-not-has_list.true
+    (c.in_ok-latest.ensures ∙ ap (λ (n : ℕ). replicate n 0) count)
 
 pub returns-clause-latest : goal.returns-clause-latest
 returns-clause-latest c =
     let run = c.args.lengths.now.edges.run in
     let count : c.task_count-count.result ≡ length run.family.tasks =
-        rw (← c.run.ensures.value) c.task_count-count.ensures.value in
+    rw (← c.run.ensures.value) c.task_count-count.ensures.value in
     let all : length run.family.tasks ≤ c.loop-up.up = omega (arith, count, c.loop-up-test.false) in
     latest_all run.records run.family c.args.lengths.now.own c.loop-up.latest.items c.loop-up.up
-        c.run.ensures.is_edges.run.family all c.loop-up.invariant
+    c.run.ensures.is_edges.run.family all c.loop-up.invariant

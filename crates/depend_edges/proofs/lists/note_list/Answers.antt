@@ -6,5 +6,5 @@ returns-in-Some c =
     let is = c.len-records.ensures.is_run.family in
     let list = c.in-Some.ensures in
     rw c.some.ensures
-        (listed_more c.args.run.now.records c.args.at c.in-Some.task list.task _ c.args.run.now.family.tasks
-            c.args.lists.now.items is.makers.apart c.requires.once list.says list.indexed c.requires.lists)
+    (listed_more c.args.run.now.records c.args.at c.in-Some.task list.task _ c.args.run.now.family.tasks
+    c.args.lists.now.items is.makers.apart c.requires.once list.says list.indexed c.requires.lists)

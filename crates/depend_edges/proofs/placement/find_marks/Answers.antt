@@ -8,12 +8,12 @@ loop-at-init c = record {
   last = last_none c.args.run.now.records c.in_ok-last.last.items c.in_ok-last.ensures;
   marks =
       marked_none c.args.run.now.records c.in_ok-marks.marks.items
-          (c.in_ok-marks.ensures ∙ ap (λ (n : ℕ). replicate n false) c.len.ensures.value);
+      (c.in_ok-marks.ensures ∙ ap (λ (n : ℕ). replicate n false) c.len.ensures.value);
 }
 
 pub invariant_of-result : goal.invariant_of-result
 invariant_of-result c =
     let all : c.loop-at.at ≡ length c.args.run.now.records =
-        omega (arith, c.len-at-end.ensures.value, c.loop-at.auto.at-end, c.loop-at-test.false) in
+    omega (arith, c.len-at-end.ensures.value, c.loop-at.auto.at-end, c.loop-at-test.false) in
     let P : ℕ → Type 0 = λ n. AreMarked c.args.run.now.records n c.loop-at.marks.items in
     rw c.again-run.ensures (subst P all c.loop-at.invariant.marks)

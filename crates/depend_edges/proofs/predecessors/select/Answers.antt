@@ -17,18 +17,18 @@ loop-at-preserved c =
     elim c.if-have_clash.branch [
       | then-have_clash+in_ok-push w ↦
           rw (w.found-is, w.in_ok-push.ensures.items)
-              (selected_more rs items siblings c.loop-at.found.items n own here
-                  (clash_with rs own c.items_of-earlier.result.now items c.items_of-earlier.ensures
-                      (c.have_clash.ensures.0 w.if-have_clash.true))
-                  c.loop-at.invariant)
+          (selected_more rs items siblings c.loop-at.found.items n own here
+          (clash_with rs own c.items_of-earlier.result.now items c.items_of-earlier.ensures
+          (c.have_clash.ensures.0 w.if-have_clash.true))
+          c.loop-at.invariant)
       | else-have_clash w ↦
           rw w.found-is
-              (selected_other rs items siblings c.loop-at.found.items n own here
-                  (λ clashes.
-                      false≢true
-                          (sym w.if-have_clash.false
-                              ∙ c.have_clash.ensures.1
-                                  (with_clash rs own c.items_of-earlier.result.now items
-                                      c.items_of-earlier.ensures clashes)))
-                  c.loop-at.invariant)
+          (selected_other rs items siblings c.loop-at.found.items n own here
+          (λ clashes.
+          false≢true
+          (sym w.if-have_clash.false
+          ∙ c.have_clash.ensures.1
+          (with_clash rs own c.items_of-earlier.result.now items
+          c.items_of-earlier.ensures clashes)))
+          c.loop-at.invariant)
     ]

@@ -9,10 +9,10 @@ loop-item-preserved c =
     let items = c.args.items.now in
     let at = c.loop-item.item-index in
     let read : (d : Dep) → (get_or items at d).var < 2 ^ 64 =
-        λ d.
-            let P : Dep → Type 0 = λ item. item.var < 2 ^ 64 in
-            subst P (get_or_default items at (record { var = 0; kind = In }) d c.loop-item-test.true)
-                c.read_location.ensures in
+    λ d.
+    let P : Dep → Type 0 = λ item. item.var < 2 ^ 64 in
+    subst P (get_or_default items at (record { var = 0; kind = In }) d c.loop-item-test.true)
+    c.read_location.ensures in
     λ k d below.
-        below_more (λ (i : ℕ). (d : Dep) → (get_or items i d).var < 2 ^ 64)
-            at (λ i h d. c.loop-item.invariant i d h) read k below d
+    below_more (λ (i : ℕ). (d : Dep) → (get_or items i d).var < 2 ^ 64)
+    at (λ i h d. c.loop-item.invariant i d h) read k below d

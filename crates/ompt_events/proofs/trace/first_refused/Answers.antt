@@ -13,30 +13,30 @@ loop-at-preserved c =
     let read = c.index-records-at.is in
     let within : at < length rs = c.loop-at-test.true in
     let sound : IsSoundIn c.args.version c.index-records-at.result.body =
-        c.is_sound_in.ensures.0 c.if-not-is_sound_in.false in
+    c.is_sound_in.ensures.0 c.if-not-is_sound_in.false in
     elim c.if-is_some.branch [
       | then-is_some+else-tasks-ge-MAX_TASKS w ↦
           let more : tasks_in (take (at + 1) rs) ≡ tasks_in (take at rs) + 1 =
-              tasks_in-made rs at c.index-records-at.result within read
-                  (ap is_some (sym c.made.ensures) ∙ sym c.is_some.ensures ∙ w.if-is_some.true) in
+          tasks_in-made rs at c.index-records-at.result within read
+          (ap is_some (sym c.made.ensures) ∙ sym c.is_some.ensures ∙ w.if-is_some.true) in
           let few : tasks_in (take (at + 1) rs) ≤ max_tasks = omega arith in
           record {
             counted = omega arith;
             sound =
                 IsTraceOf-more c.args.version rs at c.index-records-at.result within read
-                    c.loop-at.invariant.sound c.if-at-ge-MAX_RECORDS.false sound c.read_numbers.ensures few;
+                c.loop-at.invariant.sound c.if-at-ge-MAX_RECORDS.false sound c.read_numbers.ensures few;
           }
       | else-is_some w ↦
           let same : tasks_in (take (at + 1) rs) ≡ tasks_in (take at rs) =
-              tasks_in-other rs at c.index-records-at.result within read
-                  (ap is_some (sym c.made.ensures) ∙ sym c.is_some.ensures ∙ w.if-is_some.false) in
+          tasks_in-other rs at c.index-records-at.result within read
+          (ap is_some (sym c.made.ensures) ∙ sym c.is_some.ensures ∙ w.if-is_some.false) in
           let few : tasks_in (take (at + 1) rs) ≤ max_tasks =
-              rw same c.loop-at.invariant.sound.is_trace.few_tasks in
+          rw same c.loop-at.invariant.sound.is_trace.few_tasks in
           record {
             counted = omega arith;
             sound =
                 IsTraceOf-more c.args.version rs at c.index-records-at.result within read
-                    c.loop-at.invariant.sound c.if-at-ge-MAX_RECORDS.false sound c.read_numbers.ensures few;
+                c.loop-at.invariant.sound c.if-at-ge-MAX_RECORDS.false sound c.read_numbers.ensures few;
           }
     ]
 
@@ -46,7 +46,7 @@ returns-then-not-is_sound_in c = record {
   before = c.loop-at.invariant.sound;
   refused =
       IsTraceOf-unsound c.args.version c.args.records.now c.loop-at.at c.index-records-at.result
-          c.loop-at-test.true c.index-records-at.is
-          (λ sound.
-              let is : false ≡ true = sym c.if-not-is_sound_in.true ∙ c.is_sound_in.ensures.1 sound in cc);
+      c.loop-at-test.true c.index-records-at.is
+      (λ sound.
+      let is : false ≡ true = sym c.if-not-is_sound_in.true ∙ c.is_sound_in.ensures.1 sound in cc);
 }

@@ -11,7 +11,7 @@ loop-at-preserved c =
     record {
       places =
           places_next steps at (get_or steps at some) c.loop-at.threads.items c.note_place.new.threads.items
-              (slice_get-get_or steps at some c.loop-at-test.true) c.loop-at.invariant.places
-              c.in_ok-note_place.ensures.added;
+          (slice_get-get_or steps at some c.loop-at-test.true) c.loop-at.invariant.places
+          c.in_ok-note_place.ensures.added;
       few = c.in_ok-note_place.ensures.few;
     }

@@ -13,7 +13,7 @@ returns-in-Ok-gather-clause-trace g c =
       version = ap (λ (t : TraceView). t.version) made.trace;
       calls = λ thread. ap (λ (t : TraceView). recorded_calls (records_of t.records thread)) made.trace
           ∙ gathered_calls c.args.script c.in_ok-script.recorders.items closed c.in_ok-script.ensures.run
-              had.buffers had.are_closed made.apart thread;
+          had.buffers had.are_closed made.apart thread;
       closed = closed;
       are_closed = had.are_closed;
       gathered_from = ap (λ (t : TraceView). t.records) made.trace;

@@ -10,13 +10,13 @@ returns g c =
     let row = c.row-places.result.now in
     let r = c.loop-index.recorder in
     let is =
-        c.row-places.ensures ∙ ap (λ l. row_at l c.from.result) c.as_slice.ensures.value
-            ∙ ap (row_at threads) c.from.ensures in
+    c.row-places.ensures ∙ ap (λ l. row_at l c.from.result) c.as_slice.ensures.value
+    ∙ ap (row_at threads) c.from.ensures in
     record {
       of_ledger = c.loop-index.invariant.ledger;
       of_thread = c.loop-index.invariant.thread;
       run =
           run_all g.C.Context.steps threads c.args.thread c.loop-index.index row r shared.by_thread is
-              c.loop-index.invariant.thread c.loop-index.invariant.run
-              (omega (arith, c.loop-index-test.false));
+          c.loop-index.invariant.thread c.loop-index.invariant.run
+          (omega (arith, c.loop-index-test.false));
     }

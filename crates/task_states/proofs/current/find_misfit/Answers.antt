@@ -22,8 +22,8 @@ loop-at-preserved-in_default c =
     record {
       walks =
           stands_still run i c.loop-at.walks.items c.len-at-end.ensures.is_run
-              (rw c.len-at-end.ensures.value at c.loop-at-test.true) c.in_default.ensures
-              c.loop-at.invariant.walks;
+          (rw c.len-at-end.ensures.value at c.loop-at-test.true) c.in_default.ensures
+          c.loop-at.invariant.walks;
       free = below_more _ _ c.loop-at.invariant.free (nothing_fits run i c.in_default.ensures);
     }
 
@@ -35,12 +35,12 @@ returns-then-misfits-clause-fault c =
     let walk = c.index_mut-walk.result.now in
     let low : thread < 256 = search rules in
     let stands =
-        indexed_read run i thread c.loop-at.walks.items walk low c.loop-at.invariant.walks
-            c.index_mut-walk.ensures.value in
+    indexed_read run i thread c.loop-at.walks.items walk low c.loop-at.invariant.walks
+    c.index_mut-walk.ensures.value in
     malformed_alone run.records NotCurrent i
-        (misfits_here run i thread walk c.in-Some.event c.len-at-end.ensures.is_run
-            (rw c.len-at-end.ensures.value at c.loop-at-test.true) c.thread.ensures c.in-Some.ensures stands
-            c.loop-at.invariant.free (c.misfits.ensures.0 c.if-misfits.true))
+    (misfits_here run i thread walk c.in-Some.event c.len-at-end.ensures.is_run
+    (rw c.len-at-end.ensures.value at c.loop-at-test.true) c.thread.ensures c.in-Some.ensures stands
+    c.loop-at.invariant.free (c.misfits.ensures.0 c.if-misfits.true))
 
 pub loop-at-preserved : goal.loop-at-preserved
 loop-at-preserved c =
@@ -53,24 +53,24 @@ loop-at-preserved c =
     let low : thread < 256 = search rules in
     let is_run = c.len-at-end.ensures.is_run in
     let stands =
-        indexed_read run i thread walks walk low c.loop-at.invariant.walks c.index_mut-walk.ensures.value in
+    indexed_read run i thread walks walk low c.loop-at.invariant.walks c.index_mut-walk.ensures.value in
     record {
       walks =
           stands_more run i thread event walks (set walks thread c.advance.new.self) is_run
-              (rw c.len-at-end.ensures.value at c.loop-at-test.true) c.thread.ensures c.in-Some.ensures
-              c.loop-at.invariant.walks
+          (rw c.len-at-end.ensures.value at c.loop-at-test.true) c.thread.ensures c.in-Some.ensures
+          c.loop-at.invariant.walks
           (ap (set walks thread)
-              (c.in_ok-advance.ensures
-                  ∙ ap (λ w. after_event w event)
-                      (walk_is walks thread walk (rw c.loop-at.invariant.walks.all low)
-                          c.index_mut-walk.ensures.value)));
+          (c.in_ok-advance.ensures
+          ∙ ap (λ w. after_event w event)
+          (walk_is walks thread walk (rw c.loop-at.invariant.walks.all low)
+          c.index_mut-walk.ensures.value)));
       free =
           below_more _ _ c.loop-at.invariant.free
-              (fits_here run i thread walk event is_run c.thread.ensures c.in-Some.ensures stands
-                  (λ misfit. false≢true (sym c.if-misfits.false ∙ c.misfits.ensures.1 misfit)));
+          (fits_here run i thread walk event is_run c.thread.ensures c.in-Some.ensures stands
+          (λ misfit. false≢true (sym c.if-misfits.false ∙ c.misfits.ensures.1 misfit)));
     }
 
 pub returns-clause-free : goal.returns-clause-free
 returns-clause-free c =
     free_of_misfits c.args.run.now.records c.loop-at.at c.loop-at.invariant.free
-        (rw c.len-at-end.ensures.value at c.loop-at-test.false)
+    (rw c.len-at-end.ensures.value at c.loop-at-test.false)

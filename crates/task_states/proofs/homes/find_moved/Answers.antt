@@ -39,13 +39,13 @@ returns-in_default-home_after-clause-fault c =
     let inside = slice_get_within c.args.run.now.family.tasks index start.task start.indexed in
     let all = c.loop-at.invariant.homes.all in
     let old : slice_get homes index ≡ Some c.index.result.now =
-        slice_get_read homes (length homes) index c.index.result.now refl (omega (arith, inside, all))
-            c.index.ensures in
+    slice_get_read homes (length homes) index c.index.result.now refl (omega (arith, inside, all))
+    c.index.ensures in
     malformed_alone rs Moved i
-        (moves_here rs i index c.thread.result c.tells_turns-told.result c.index.result.now
-            c.args.run.now.family.tasks homes c.loop-at.invariant.free c.loop-at.invariant.homes start
-            c.thread.ensures c.tells_turns-told.ensures old
-            (sym c.home_after.ensures ∙ c.in_default-home_after.is))
+    (moves_here rs i index c.thread.result c.tells_turns-told.result c.index.result.now
+    c.args.run.now.family.tasks homes c.loop-at.invariant.free c.loop-at.invariant.homes start
+    c.thread.ensures c.tells_turns-told.ensures old
+    (sym c.home_after.ensures ∙ c.in_default-home_after.is))
 
 pub loop-at-preserved : goal.loop-at-preserved
 loop-at-preserved c =
@@ -56,7 +56,7 @@ loop-at-preserved c =
     let still = λ (none : c.loop-at.any_early || c.fulfils_early-any_early.result ≡ false).
     let parts = or_parts _ _ none in
     never_more rs i (c.loop-at.invariant.early parts.0)
-        (not_early rs i (sym c.fulfils_early-any_early.ensures ∙ parts.1)) in
+    (not_early rs i (sym c.fulfils_early-any_early.ensures ∙ parts.1)) in
     elim c.match-explicit_start.branch [
       | in-Some+in-Some-home_after w ↦
           let index = w.in-Some.index in
@@ -64,35 +64,35 @@ loop-at-preserved c =
           let inside = slice_get_within tasks index start.task start.indexed in
           let all = c.loop-at.invariant.homes.all in
           let old : slice_get homes index ≡ Some w.index.result.now =
-              slice_get_read homes (length homes) index w.index.result.now refl (omega (arith, inside, all))
-                  w.index.ensures in
+          slice_get_read homes (length homes) index w.index.result.now refl (omega (arith, inside, all))
+          w.index.ensures in
           let goes = sym w.home_after.ensures ∙ w.in-Some-home_after.is in
           record {
             homes =
                 rw w.homes-is
-                    (homes_more rs i index w.thread.result w.tells_turns-told.result w.index.result.now
-                        w.in-Some-home_after.home tasks homes c.task_count.ensures.is_run.family.once
-                        c.task_count.ensures.is_run.family.makers.apart c.loop-at.invariant.homes start
-                        w.thread.ensures w.tells_turns-told.ensures old goes);
+                (homes_more rs i index w.thread.result w.tells_turns-told.result w.index.result.now
+                w.in-Some-home_after.home tasks homes c.task_count.ensures.is_run.family.once
+                c.task_count.ensures.is_run.family.makers.apart c.loop-at.invariant.homes start
+                w.thread.ensures w.tells_turns-told.ensures old goes);
             free =
                 below_more _ _ c.loop-at.invariant.free
-                    (moves_not rs i index w.thread.result w.tells_turns-told.result w.index.result.now
-                        w.in-Some-home_after.home tasks homes c.loop-at.invariant.homes start w.thread.ensures
-                        w.tells_turns-told.ensures old goes);
+                (moves_not rs i index w.thread.result w.tells_turns-told.result w.index.result.now
+                w.in-Some-home_after.home tasks homes c.loop-at.invariant.homes start w.thread.ensures
+                w.tells_turns-told.ensures old goes);
             early = still;
           }
       | in_default w ↦
           let none = λ (task : ℕ) (starts : at started rs i ≡ Some task) (explicit : IsExplicit rs task).
           let stands =
-              explicit_index rs c.args.run.now.family task c.task_count.ensures.is_run.family explicit in
+          explicit_index rs c.args.run.now.family task c.task_count.ensures.is_run.family explicit in
           none-some stands.0
-              (sym w.in_default.is
-                  ∙ (c.explicit_start.ensures stands.0).1 (record {
-                    task = task;
-                    starts = starts;
-                    explicit = explicit;
-                    indexed = stands.1;
-                  })) in
+          (sym w.in_default.is
+          ∙ (c.explicit_start.ensures stands.0).1 (record {
+            task = task;
+            starts = starts;
+            explicit = explicit;
+            indexed = stands.1;
+          })) in
           record {
             homes = rw w.homes-is (homes_other rs i tasks homes c.loop-at.invariant.homes none);
             free = below_more _ _ c.loop-at.invariant.free (stays_put rs i none);
@@ -103,7 +103,7 @@ loop-at-preserved c =
 pub returns-clause-free : goal.returns-clause-free
 returns-clause-free c =
     free_of_moved c.args.run.now.records c.loop-at.at c.loop-at.invariant.free
-        (rw c.len-at-end.ensures.value at c.loop-at-test.false)
+    (rw c.len-at-end.ensures.value at c.loop-at-test.false)
 
 pub invariant_of-result : goal.invariant_of-result
 invariant_of-result c =
@@ -114,6 +114,6 @@ invariant_of-result c =
       all = c.loop-at.invariant.homes.all;
       run_on =
           homes_end run.records c.loop-at.at run.family.tasks c.loop-at.homes.items
-              c.task_count.ensures.is_run.family.once past c.loop-at.invariant.homes;
+          c.task_count.ensures.is_run.family.once past c.loop-at.invariant.homes;
       early = λ none i task below. c.loop-at.invariant.early none i task (omega (arith, below, past));
     })

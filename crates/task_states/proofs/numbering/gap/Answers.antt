@@ -19,8 +19,8 @@ returns-then-event-counts c =
     let counted = c.loop-at.invariant.counted r.thread (omega arith) in
     first_gap rs i r (omega (arith, ap length same)) (c.event-item.is ∙ ap (λ xs. get_or xs i r) same)
     (λ e.
-        c.if-event-counts.true
-            (e ∙ sym counted ∙ ap (λ t. get_or c.loop-at.counts t 0) (sym c.from-thread.ensures)))
+    c.if-event-counts.true
+    (e ∙ sym counted ∙ ap (λ t. get_or c.loop-at.counts t 0) (sym c.from-thread.ensures)))
     c.loop-at.invariant.free
 
 pub loop-at-preserved : goal.loop-at-preserved
@@ -33,17 +33,17 @@ loop-at-preserved c =
     let within : i < length rs = omega (arith, ap length same) in
     let read : r ≡ get_or rs i r = c.event-item.is ∙ ap (λ xs. get_or xs i r) same in
     let numbered =
-        c.if-event-counts.false ∙ ap (λ t. get_or counts t 0) c.from-thread.ensures
-            ∙ c.loop-at.invariant.counted r.thread (omega arith) in
+    c.if-event-counts.false ∙ ap (λ t. get_or counts t 0) c.from-thread.ensures
+    ∙ c.loop-at.invariant.counted r.thread (omega arith) in
     record {
       threads = search rules;
       counted =
           rw c.from-thread.ensures
-              (counted_more rs i r counts within read (omega arith) c.loop-at.invariant.counted);
+          (counted_more rs i r counts within read (omega arith) c.loop-at.invariant.counted);
       free = below_more _ _ c.loop-at.invariant.free (no_seq_gap rs i r within read numbered);
     }
 
 pub returns : goal.returns
 returns c =
     free_of_gaps c.args.trace.now.records c.loop-at.at c.loop-at.invariant.free
-        (omega (arith, ap length c.records-event-items.ensures.value))
+    (omega (arith, ap length c.records-event-items.ensures.value))

@@ -12,15 +12,15 @@ loop-index-preserved c =
       count = c.loop-index.invariant.count;
       filled =
           rw c.in_ok-push.ensures.items
-              (filled_more
-                  (λ (i : ℕ) (home : Home).
-                      (task : ℕ) → slice_get run.family.tasks i ≡ Some task → home ≡ home_at run.records task)
-                  c.loop-index.index c.loop-index.homes.items c.home_at.result c.loop-index.invariant.filled
-                  c.home_at.ensures);
+          (filled_more
+          (λ (i : ℕ) (home : Home).
+          (task : ℕ) → slice_get run.family.tasks i ≡ Some task → home ≡ home_at run.records task)
+          c.loop-index.index c.loop-index.homes.items c.home_at.result c.loop-index.invariant.filled
+          c.home_at.ensures);
     }
 
 pub returns-clause-homes : goal.returns-clause-homes
 returns-clause-homes c =
     let run = c.args.schedules.now in
     homes_are run.records run.family.tasks c.loop-index.index c.loop-index.homes.items
-        c.loop-index.invariant.filled (omega (arith, c.loop-index-test.false, c.loop-index.invariant.count))
+    c.loop-index.invariant.filled (omega (arith, c.loop-index-test.false, c.loop-index.invariant.count))

@@ -11,7 +11,7 @@ invariant-loop-index l = record {
   count : l.count ≡ length l.schedules.family.tasks;
   filled : IsFilled
       (λ (i : ℕ) (home : Home).
-          (task : ℕ) → slice_get l.schedules.family.tasks i ≡ Some task
-              → home ≡ home_at l.schedules.records task)
+      (task : ℕ) → slice_get l.schedules.family.tasks i ≡ Some task
+      → home ≡ home_at l.schedules.records task)
       l.index l.homes.items;
 }

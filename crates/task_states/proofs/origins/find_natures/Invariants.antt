@@ -12,7 +12,7 @@ invariant-loop-index l = record {
   count : l.count ≡ length l.run.family.tasks;
   filled : IsFilled
       (λ (i : ℕ) (nature : Nature).
-          (task : ℕ) → slice_get l.run.family.tasks i ≡ Some task
-              → the_nature nature ≡ nature_of l.run.records task)
+      (task : ℕ) → slice_get l.run.family.tasks i ≡ Some task
+      → the_nature nature ≡ nature_of l.run.records task)
       l.index l.natures.items;
 }

@@ -10,8 +10,8 @@ returns-in_ok-index-in-Begins c =
     let run = c.args.run.now in
     let i = c.args.at in
     let (task, says, stands) =
-        call_task run.family.tasks (at started run.records i) c.started.result c.in_ok-index-in-Begins.index
-            c.started.ensures c.in_ok-index-in-Begins.was in
+    call_task run.family.tasks (at started run.records i) c.started.result c.in_ok-index-in-Begins.index
+    c.started.ensures c.in_ok-index-in-Begins.was in
     rw c.in-Begins.is (record {
       task = task;
       indexed = stands;
@@ -23,10 +23,10 @@ returns-in_err-index-in-Begins c =
     let run = c.args.run.now in
     let i = c.args.at in
     rw (c.from_residual.ensures, c.in-Begins.is)
-        (no_edge run.records Begins i
-            (none_begun run.records i
-                (call_none run.family.tasks (at started run.records i) c.started.result c.started.ensures
-                    c.in_err-index-in-Begins.was)))
+    (no_edge run.records Begins i
+    (none_begun run.records i
+    (call_none run.family.tasks (at started run.records i) c.started.result c.started.ensures
+    c.in_err-index-in-Begins.was)))
 
 pub returns-in_ok-event-in-Ends : goal.returns-in_ok-event-in-Ends
 returns-in_ok-event-in-Ends c =
@@ -38,8 +38,8 @@ returns-in_ok-event-in-Ends c =
       indexed = is.indexed;
       alone =
           λ turn other here.
-              end_alone run.records i is.task turn other c.in_ok-event-in-Ends.event.status is.follower
-                  is.says here;
+          end_alone run.records i is.task turn other c.in_ok-event-in-Ends.event.status is.follower
+          is.says here;
     })
 
 pub returns-in_err-event-in-Ends : goal.returns-in_err-event-in-Ends
@@ -47,4 +47,4 @@ returns-in_err-event-in-Ends c =
     let run = c.args.run.now in
     let i = c.args.at in
     rw (c.from_residual-in_err-event-in-Ends.ensures, c.in-Ends.is)
-        (no_edge run.records Ends i (none_ended run.records i c.in_err-event-in-Ends.ensures))
+    (no_edge run.records Ends i (none_ended run.records i c.in_err-event-in-Ends.ensures))

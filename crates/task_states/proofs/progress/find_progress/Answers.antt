@@ -21,7 +21,7 @@ pub read_early-requires : goal.read_early-requires
 read_early-requires c =
     let run = c.in_ok-origins.origins in
     come_same run.records run.family.tasks (λ _. []) _ c.in_ok-progress.progress (early_start run.records)
-        c.in_ok-progress.ensures
+    c.in_ok-progress.ensures
 
 pub read_home-requires : goal.read_home-requires
 read_home-requires c =
@@ -31,16 +31,16 @@ read_home-requires c =
     elim c.if-any_early.branch [
       | then-any_early w ↦
           rw w.progress-is
-              (come_same rs tasks (moves_before Early rs (length rs)) (moves_before Home rs 0)
-                  w.read_early.new.self (home_start rs) w.read_early.ensures)
+          (come_same rs tasks (moves_before Early rs (length rs)) (moves_before Home rs 0)
+          w.read_early.new.self (home_start rs) w.read_early.ensures)
       | else-any_early w ↦
           let P : RunView → Type 0 = λ r. IsNeverEarly r.records (length r.records) in
           let never : IsNeverEarly rs (length rs) =
-              subst P (sym c.in_ok-origins.ensures) (c.any_early.ensures w.if-any_early.false) in
+          subst P (sym c.in_ok-origins.ensures) (c.any_early.ensures w.if-any_early.false) in
           let none = λ (task : ℕ). home_start rs task ∙ early_none rs (length rs) never task in
           rw w.progress-is
-              (come_same rs tasks (λ _. []) (moves_before Home rs 0) c.in_ok-progress.progress none
-                  c.in_ok-progress.ensures)
+          (come_same rs tasks (λ _. []) (moves_before Home rs 0) c.in_ok-progress.progress none
+          c.in_ok-progress.ensures)
     ]
 
 pub read_rest-requires-clause-come : goal.read_rest-requires-clause-come
@@ -51,15 +51,15 @@ read_rest-requires-clause-come c =
       | then-any_moved+in_ok-read_turns w ↦ rw w.progress-is w.in_ok-read_turns.ensures
       | else-any_moved w ↦
           let never =
-              λ (task : ℕ).
-                  turned_never rs (turns_in rs) task (c.any_moved.ensures w.if-any_moved.false task) in
+          λ (task : ℕ).
+          turned_never rs (turns_in rs) task (c.any_moved.ensures w.if-any_moved.false task) in
           let same =
-              λ (task : ℕ).
-                  rest_start rs task ∙ ap (λ l. moves_before Home rs (length rs) task ++ l) (never task)
-                      ∙ append-nil (moves_before Home rs (length rs) task) in
+          λ (task : ℕ).
+          rest_start rs task ∙ ap (λ l. moves_before Home rs (length rs) task ++ l) (never task)
+          ∙ append-nil (moves_before Home rs (length rs) task) in
           rw w.progress-is
-              (come_same rs run.family.tasks (moves_before Home rs (length rs)) (moves_before Rest rs 0)
-                  c.read_home.new.self same c.in_ok-left.ensures.come)
+          (come_same rs run.family.tasks (moves_before Home rs (length rs)) (moves_before Rest rs 0)
+          c.read_home.new.self same c.in_ok-left.ensures.come)
     ]
 
 pub returns-clause-come : goal.returns-clause-come
@@ -67,10 +67,10 @@ returns-clause-come c =
     let run = c.in_ok-origins.origins in
     let is : IsRun run = subst IsRun c.origins.view_is c.origins.invariant.of_run in
     let P : RunView → Type 0 =
-        λ r. HasCome r.records r.family.tasks (all_moves_of r.records) c.read_rest.new.self in
+    λ r. HasCome r.records r.family.tasks (all_moves_of r.records) c.read_rest.new.self in
     subst P c.in_ok-origins.ensures
-        (come_same run.records run.family.tasks (moves_before Rest run.records (length run.records)) _
-            c.read_rest.new.self (λ task. rest_end run.records task is.trace) c.read_rest.ensures)
+    (come_same run.records run.family.tasks (moves_before Rest run.records (length run.records)) _
+    c.read_rest.new.self (λ task. rest_end run.records task is.trace) c.read_rest.ensures)
 
 pub returns-clause-refused : goal.returns-clause-refused
 returns-clause-refused c =
@@ -79,7 +79,7 @@ returns-clause-refused c =
     let is : IsRun run = subst IsRun c.origins.view_is c.origins.invariant.of_run in
     let P : RunView → Type 0 = λ r. FindsFirst r.records StatusOrder progress.refused in
     subst P c.in_ok-origins.ensures
-        (refused_first run.records run.family progress progress.refused is.family
-            (come_same run.records run.family.tasks (moves_before Rest run.records (length run.records)) _
-                progress (λ task. rest_end run.records task is.trace) c.read_rest.ensures)
-            refl)
+    (refused_first run.records run.family progress progress.refused is.family
+    (come_same run.records run.family.tasks (moves_before Rest run.records (length run.records)) _
+    progress (λ task. rest_end run.records task is.trace) c.read_rest.ensures)
+    refl)

@@ -12,5 +12,5 @@ returns-in-Some c = λ cause has_it is.
     let P : Option ℕ → Type 0 = IsEarliest own cause n in
     let Q : ℕ → Type 0 = IsEarliestPlace own cause (n + 1) in
     subst Q (sym c.min.ensures)
-        (earlier_other own cause n before c.place-place.result c.place-place.ensures.value (has_it.0 yes)
-            (subst P c.in-Some.is is))
+    (earlier_other own cause n before c.place-place.result c.place-place.ensures.value (has_it.0 yes)
+    (subst P c.in-Some.is is))

@@ -16,7 +16,7 @@ pub index-opened-requires : goal.index-opened-requires
 index-opened-requires c =
     let own = c.in-Some.ensures in
     let inside =
-        slice_get_within c.run-run.result.now.family.tasks c.in-Some.event.task own.task own.indexed in
+    slice_get_within c.run-run.result.now.family.tasks c.in-Some.event.task own.task own.indexed in
     let tops = c.loop-number.invariant.open_ones.tops in
     let within : c.in-Some.event.task < length c.loop-number.innermost.items = omega (arith, inside, tops) in
     search rules
@@ -28,20 +28,20 @@ is_misplaced-misplaced-requires-clause-opened c =
     let event = c.in-Some.event in
     let opened = c.index-opened.result.now in
     let own : IsRegionEvent run c.loop-number.number event.task event.kind event.endpoint =
-        c.in-Some.ensures in
+    c.in-Some.ensures in
     let inside = slice_get_within run.family.tasks event.task own.task own.indexed in
     let tops = c.loop-number.invariant.open_ones.tops in
     let is_top : opened ≡ top_of innermost event.task =
-        c.index-opened.ensures
-            ∙ get_or_default innermost event.task opened None (omega (arith, inside, tops)) in
+    c.index-opened.ensures
+    ∙ get_or_default innermost event.task opened None (omega (arith, inside, tops)) in
     innermost_here run c.loop-number.number event.task innermost c.loop-number.links.items c.get.result
-        c.loop-number.invariant.open_ones (c.get.ensures ∙ is_top)
+    c.loop-number.invariant.open_ones (c.get.ensures ∙ is_top)
 
 pub index_mut-requires : goal.index_mut-requires
 index_mut-requires c =
     let own = c.in-Some.ensures in
     let inside =
-        slice_get_within c.run-run.result.now.family.tasks c.in-Some.event.task own.task own.indexed in
+    slice_get_within c.run-run.result.now.family.tasks c.in-Some.event.task own.task own.indexed in
     let tops = c.loop-number.invariant.open_ones.tops in
     let within : c.in-Some.event.task < length c.loop-number.innermost.items = omega (arith, inside, tops) in
     search rules
@@ -59,23 +59,23 @@ loop-number-preserved c =
     let inside = slice_get_within run.family.tasks event.task own.task own.indexed in
     let tops = c.loop-number.invariant.open_ones.tops in
     let is_top : opened ≡ top_of innermost event.task =
-        c.index-opened.ensures
-            ∙ get_or_default innermost event.task opened None (omega (arith, inside, tops)) in
+    c.index-opened.ensures
+    ∙ get_or_default innermost event.task opened None (omega (arith, inside, tops)) in
     let P : Option ℕ → Type 0 = λ o. IsJudged rs n o c.is_misplaced-misplaced.result in
     let judged = subst P c.get.ensures c.is_misplaced-misplaced.ensures in
     let Q : RunView → Type 0 =
-        λ r. IsTrue c.is_misplaced-misplaced.result ↔ HasCause r.records n RegionOrder in
+    λ r. IsTrue c.is_misplaced-misplaced.result ↔ HasCause r.records n RegionOrder in
     let has_it =
-        subst Q c.run-run.ensures.value (judged_has rs n opened c.is_misplaced-misplaced.result judged) in
+    subst Q c.run-run.ensures.value (judged_has rs n opened c.is_misplaced-misplaced.result judged) in
     let next : c.next_top.result ≡ top_after links opened n event.endpoint =
-        rw (← c.deref.ensures.value) c.next_top.ensures in
+    rw (← c.deref.ensures.value) c.next_top.ensures in
     record {
       open_ones =
           rw next
-              (open_more_own run n event.task event.kind event.endpoint innermost links opened
-                  c.is_misplaced-misplaced.result c.task_count.ensures.is_run.family.makers.apart
-                  c.loop-number.invariant.open_ones own is_top
-                  (rw c.len-number-end.ensures.value at c.loop-number-test.true) judged);
+          (open_more_own run n event.task event.kind event.endpoint innermost links opened
+          c.is_misplaced-misplaced.result c.task_count.ensures.is_run.family.makers.apart
+          c.loop-number.invariant.open_ones own is_top
+          (rw c.len-number-end.ensures.value at c.loop-number-test.true) judged);
       earliest = c.earlier-earliest.ensures RegionOrder has_it c.loop-number.invariant.earliest;
     }
 
@@ -87,10 +87,10 @@ loop-number-preserved-in_default c =
     record {
       open_ones =
           open_more_none run.records n run.family.tasks c.loop-number.innermost.items
-              c.loop-number.links.items c.loop-number.invariant.open_ones c.in_default.ensures;
+          c.loop-number.links.items c.loop-number.invariant.open_ones c.in_default.ensures;
       earliest =
           earliest_silent c.args.own.now n c.loop-number.earliest
-              (subst P c.run-run.ensures.value c.in_default.ensures) c.loop-number.invariant.earliest;
+          (subst P c.run-run.ensures.value c.in_default.ensures) c.loop-number.invariant.earliest;
     }
 
 pub returns-in-Some-earliest-clause-fault : goal.returns-in-Some-earliest-clause-fault
@@ -98,11 +98,12 @@ returns-in-Some-earliest-clause-fault c =
     let own = c.args.own.now in
     let n = c.loop-number.number in
     let count = ap (λ (r : RunView). length r.records) c.run-run.ensures.value in
-    let P : Option ℕ → Type 0 = IsEarliest own RegionOrder n in
-    (refl,
-        earliest_first own RegionOrder n c.in-Some-earliest.at c.run-run.ensures.is_own.places
-            (omega (arith, c.loop-number-test.false, c.len-number-end.ensures.value, count))
-            (subst P c.in-Some-earliest.is c.loop-number.invariant.earliest))
+    let P : Option ℕ → Type 0 = IsEarliest own RegionOrder n in (
+      refl,
+      earliest_first own RegionOrder n c.in-Some-earliest.at c.run-run.ensures.is_own.places
+          (omega (arith, c.loop-number-test.false, c.len-number-end.ensures.value, count))
+          (subst P c.in-Some-earliest.is c.loop-number.invariant.earliest),
+    )
 
 pub returns-clause-free : goal.returns-clause-free
 returns-clause-free c =
@@ -111,4 +112,4 @@ returns-clause-free c =
     let count = ap (λ (r : RunView). length r.records) c.run-run.ensures.value in
     let P : Option ℕ → Type 0 = IsEarliest own RegionOrder n in
     free_of_order own.run.records n (subst P c.in-None.is c.loop-number.invariant.earliest)
-        (omega (arith, c.loop-number-test.false, c.len-number-end.ensures.value, count))
+    (omega (arith, c.loop-number-test.false, c.len-number-end.ensures.value, count))

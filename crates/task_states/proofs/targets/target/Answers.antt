@@ -9,7 +9,7 @@ returns-then-makes_target c =
     let r = c.event-item.result in
     let same = c.records-event-items.ensures.value in
     first_target rs i r (omega (arith, ap length same)) (c.event-item.is ∙ ap (λ xs. get_or xs i r) same)
-        (c.makes_target.ensures.0 c.if-makes_target.true) c.loop-at.invariant
+    (c.makes_target.ensures.0 c.if-makes_target.true) c.loop-at.invariant
 
 pub loop-at-preserved : goal.loop-at-preserved
 loop-at-preserved c =
@@ -18,11 +18,11 @@ loop-at-preserved c =
     let r = c.event-item.result in
     let same = c.records-event-items.ensures.value in
     below_more _ _ c.loop-at.invariant
-        (no_target rs i r (omega (arith, ap length same)) (c.event-item.is ∙ ap (λ xs. get_or xs i r) same)
-            (λ makes.
-                let is : false ≡ true = sym c.if-makes_target.false ∙ c.makes_target.ensures.1 makes in cc))
+    (no_target rs i r (omega (arith, ap length same)) (c.event-item.is ∙ ap (λ xs. get_or xs i r) same)
+    (λ makes.
+    let is : false ≡ true = sym c.if-makes_target.false ∙ c.makes_target.ensures.1 makes in cc))
 
 pub returns : goal.returns
 returns c =
     free_of_targets c.args.trace.now.records c.loop-at.at c.loop-at.invariant
-        (omega (arith, ap length c.records-event-items.ensures.value))
+    (omega (arith, ap length c.records-event-items.ensures.value))

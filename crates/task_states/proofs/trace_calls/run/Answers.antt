@@ -9,4 +9,4 @@ returns-clause-closed c =
     let rs = c.args.trace.now.records in
     let own = c.own-own.result in
     on_ok_weaker c.in_run.result (own_free rs own RegionOrder of_regions c.own-own.ensures)
-        c.in_run.ensures.closed
+    c.in_run.ensures.closed

@@ -7,7 +7,7 @@ use Rattle.task_states.proofs.turn_edges.find_edges.Goals.{in-Some+else-turn-tur
 pub loop-at-init : goal.loop-at-init
 loop-at-init c =
     edges_none c.args.edge c.args.origins.now.records c.args.turns c.new-rows.result.items
-        c.new-rows.ensures.items
+    c.new-rows.ensures.items
 
 pub loop-at-preserved : goal.loop-at-preserved
 loop-at-preserved c =
@@ -19,15 +19,15 @@ loop-at-preserved c =
     elim c.match-moved_turn.branch [
       | in-Some+then-turn-turns+in_ok-note_place w ↦
           rw w.rows-is
-              (edges_noted edge rs i turns w.in-Some.turn rows w.note_place.new.rows.items c.loop-at.invariant
-                  (sym c.moved_turn.ensures ∙ w.in-Some.is) w.in_ok-note_place.ensures)
+          (edges_noted edge rs i turns w.in-Some.turn rows w.note_place.new.rows.items c.loop-at.invariant
+          (sym c.moved_turn.ensures ∙ w.in-Some.is) w.in_ok-note_place.ensures)
       | in-Some+else-turn-turns w ↦
           rw w.rows-is
-              (edges_passed edge rs i turns rows c.loop-at.invariant
-                  (edge_past edge rs i turns w.in-Some.turn (sym c.moved_turn.ensures ∙ w.in-Some.is)
-                      w.if-turn-turns.false))
+          (edges_passed edge rs i turns rows c.loop-at.invariant
+          (edge_past edge rs i turns w.in-Some.turn (sym c.moved_turn.ensures ∙ w.in-Some.is)
+          w.if-turn-turns.false))
       | in_default w ↦
           rw w.rows-is
-              (edges_passed edge rs i turns rows c.loop-at.invariant
-                  (λ turn low. edge_none edge rs i (sym c.moved_turn.ensures ∙ w.in_default.is) turn))
+          (edges_passed edge rs i turns rows c.loop-at.invariant
+          (λ turn low. edge_none edge rs i (sym c.moved_turn.ensures ∙ w.in_default.is) turn))
     ]

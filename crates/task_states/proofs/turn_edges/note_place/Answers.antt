@@ -8,6 +8,6 @@ returns c =
     let rows = c.reach.new.rows.items in
     let old = c.index_mut.result.now in
     row_noted c.args.rows.now.items rows c.args.turn c.args.at old c.push.new.self c.in_ok-reach.ensures.same
-        (slice_get_read rows (length rows) c.args.turn old refl c.in_ok-reach.ensures.made
-            c.index_mut.ensures.value)
-        c.in_ok-push.ensures.items
+    (slice_get_read rows (length rows) c.args.turn old refl c.in_ok-reach.ensures.made
+    c.index_mut.ensures.value)
+    c.in_ok-push.ensures.items

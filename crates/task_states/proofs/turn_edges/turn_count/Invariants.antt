@@ -9,5 +9,5 @@ use Rattle.task_states.proofs.turn_edges.turn_count.Given as goal
 abbrev pub invariant-loop-event : goal.invariant-loop-event
 invariant-loop-event l =
     l.most
-        ≡ fold (λ most (r : Record). max most (option_map_or (λ (b : ℕ × ℕ). b.1) (begun_turn r.body) 0)) 0
-            (take l.event-index l.event-items)
+    ≡ fold (λ most (r : Record). max most (option_map_or (λ (b : ℕ × ℕ). b.1) (begun_turn r.body) 0)) 0
+    (take l.event-index l.event-items)

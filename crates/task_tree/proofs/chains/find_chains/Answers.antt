@@ -12,8 +12,8 @@ loop-passed-init c =
     let rs = c.args.records.now in
     let P : ℕ → Type 0 = λ n. AreChainsFrom rs n c.in_ok-firsts.firsts.items c.in_ok-nexts.nexts.items in
     subst P (omega arith)
-        (chains_none rs c.in_ok-firsts.firsts.items c.in_ok-nexts.nexts.items c.in_ok-firsts.ensures
-            c.in_ok-nexts.ensures)
+    (chains_none rs c.in_ok-firsts.firsts.items c.in_ok-nexts.nexts.items c.in_ok-firsts.ensures
+    c.in_ok-nexts.ensures)
 
 pub loop-passed-preserved : goal.loop-passed-preserved
 loop-passed-preserved c =
@@ -24,15 +24,15 @@ loop-passed-preserved c =
     let thread = c.from-thread.result in
     let within : at < length rs = omega (arith, c.loop-passed-test.true) in
     let here : thread_at rs at ≡ Some thread =
-        thread_index rs at c.index-records-at.result within ∙ ap Some (sym c.from-thread.ensures) in
+    thread_index rs at c.index-records-at.result within ∙ ap Some (sym c.from-thread.ensures) in
     let small : thread < 256 = search rules in
     let P : ℕ → Type 0 = λ n. AreChainsFrom rs n firsts nexts in
     let before =
-        subst P
-            (let e : length rs - c.loop-passed.passed ≡ at + 1 = omega (arith, c.loop-passed-test.true) in e)
-            c.loop-passed.invariant in
+    subst P
+    (let e : length rs - c.loop-passed.passed ≡ at + 1 = omega (arith, c.loop-passed-test.true) in e)
+    c.loop-passed.invariant in
     let first : slice_get firsts thread ≡ Some c.index.result.now =
-        slice_get_read firsts 256 thread c.index.result.now (sym before.threads) small c.index.ensures in
+    slice_get_read firsts 256 thread c.index.result.now (sym before.threads) small c.index.ensures in
     let R : ℕ → Type 0 = λ n. AreChainsFrom rs n (set firsts thread at) (set nexts at c.index.result.now) in
     subst R (omega arith) (chains_more rs at thread c.index.result.now firsts nexts here small before first)
 

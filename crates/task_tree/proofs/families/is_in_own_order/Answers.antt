@@ -14,7 +14,7 @@ untold c =
     let P : ℕ → Type 0 = λ version. IsTraceOf version c.args.trace.now.records in
     let trace = rw c.records-records.ensures.value at c.records-records.ensures.is_trace in
     first_version_tells_none c.args.trace.now.records
-        (subst P (sym c.version.ensures ∙ c.if-version-eq1.true) trace)
+    (subst P (sym c.version.ensures ∙ c.if-version-eq1.true) trace)
 
 pub returns-then-version-eq1-clause-rises : goal.returns-then-version-eq1-clause-rises
 returns-then-version-eq1-clause-rises c = λ _. untold_rise c.args.trace.now.records (untold c)
@@ -26,7 +26,7 @@ pub returns-clause-version : goal.returns-clause-version
 returns-clause-version c =
     let P : Bool → Type 0 = λ own. own ≡ false → c.args.trace.now.version ≡ 2 in
     IfOk-weaker c.turns_rise.result (λ rise. rise ≡ true → TurnsRise c.records-records.result.now) P (
-        λ own _ _. elim c.records-records.ensures.is_trace.known [
+    λ own _ _. elim c.records-records.ensures.is_trace.known [
       | inl first ↦ absurd (c.if-version-eq1.false (c.version.ensures ∙ first))
       | inr second ↦ second
     ]) c.turns_rise.ensures.rises

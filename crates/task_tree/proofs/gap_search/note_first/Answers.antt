@@ -13,21 +13,21 @@ pub returns-in_ok-insert : goal.returns-in_ok-insert
 returns-in_ok-insert c =
     let rs = c.args.records.now in
     first_new rs c.args.at c.in-Some.turn c.args.first.now c.insert.new.self c.requires.first
-        (at_index begun_turn rs c.args.at c.index-records-at.result c.requires.within
-            ∙ sym c.begun_turn.ensures ∙ c.in-Some.is)
-        (sym c.first_begin.ensures
-            ∙ none_from_test c.first_begin.result (c.is_none.ensures ∙ ap not c.if-is_none.true))
-        c.in_ok-insert.ensures.updates
+    (at_index begun_turn rs c.args.at c.index-records-at.result c.requires.within
+    ∙ sym c.begun_turn.ensures ∙ c.in-Some.is)
+    (sym c.first_begin.ensures
+    ∙ none_from_test c.first_begin.result (c.is_none.ensures ∙ ap not c.if-is_none.true))
+    c.in_ok-insert.ensures.updates
 
 pub returns-else-is_none : goal.returns-else-is_none
 returns-else-is_none c =
     let rs = c.args.records.now in
     first_old rs c.args.at c.args.first.now c.requires.first (λ task turn begins none.
     let same =
-        same_Some { A = ℕ × ℕ } c.in-Some.turn (task, turn)
-            (sym c.in-Some.is ∙ c.begun_turn.ensures
-                ∙ sym (at_index begun_turn rs c.args.at c.index-records-at.result c.requires.within)
-                ∙ begins) in
+    same_Some {A = ℕ × ℕ} c.in-Some.turn (task, turn)
+    (sym c.in-Some.is ∙ c.begun_turn.ensures
+    ∙ sym (at_index begun_turn rs c.args.at c.index-records-at.result c.requires.within)
+    ∙ begins) in
     false≢true
-        (sym (ap is_some (c.first_begin.ensures ∙ ap (get pair_cmp c.args.first.now) same ∙ none))
-            ∙ c.is_none.ensures ∙ ap not c.if-is_none.false))
+    (sym (ap is_some (c.first_begin.ensures ∙ ap (get pair_cmp c.args.first.now) same ∙ none))
+    ∙ c.is_none.ensures ∙ ap not c.if-is_none.false))

@@ -13,7 +13,7 @@ returns-in_ok-insert c =
     let task = c.in-Some.task in
     let updates = c.in_ok-insert.ensures.updates in
     root_more rs c.args.at task c.args.roots.now c.insert.new.self c.requires.roots
-        (at_index begun_root rs c.args.at c.index-records-at.result c.requires.within
-            ∙ sym c.begun_root.ensures ∙ c.in-Some.is)
+    (at_index begun_root rs c.args.at c.index-records-at.result c.requires.within
+    ∙ sym c.begun_root.ensures ∙ c.in-Some.is)
     (λ q apart. updates.2 q (other_key task q apart))
     (updates.0 task ∙ ap (λ b. cond b true (contains nat_cmp c.args.roots.now task)) (same_key task))

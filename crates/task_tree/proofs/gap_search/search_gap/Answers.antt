@@ -16,11 +16,11 @@ returns-then-has_gap c =
     let i = c.loop-at.at in
     let e = c.index-records-at.is in
     first_gap rs i
-        ((c.has_gap.ensures rs c.in_ok-begins.ensures c.loop-at.invariant.greatest
-             (read_get rs i c.index-records-at.result c.loop-at-test.true e)
-             (turns_index rs c.args.turns.now i c.requires c.loop-at-test.true)).0
-            c.if-has_gap.true)
-        c.loop-at.invariant.free
+    ((c.has_gap.ensures rs c.in_ok-begins.ensures c.loop-at.invariant.greatest
+    (read_get rs i c.index-records-at.result c.loop-at-test.true e)
+    (turns_index rs c.args.turns.now i c.requires c.loop-at-test.true)).0
+    c.if-has_gap.true)
+    c.loop-at.invariant.free
 
 pub loop-at-preserved : goal.loop-at-preserved
 loop-at-preserved c =
@@ -29,12 +29,12 @@ loop-at-preserved c =
     let r = c.index-records-at.result in
     let stands = read_get rs i r c.loop-at-test.true c.index-records-at.is in
     let test =
-        c.has_gap.ensures rs c.in_ok-begins.ensures c.loop-at.invariant.greatest stands
-            (turns_index rs c.args.turns.now i c.requires c.loop-at-test.true) in
+    c.has_gap.ensures rs c.in_ok-begins.ensures c.loop-at.invariant.greatest stands
+    (turns_index rs c.args.turns.now i c.requires c.loop-at-test.true) in
     record {
       greatest =
           greatest_more rs i r c.loop-at.greatest c.raise_turn.new.kept stands c.loop-at.invariant.greatest
-              c.in_ok-raise_turn.ensures;
+          c.in_ok-raise_turn.ensures;
       free =
           below_more _ _ c.loop-at.invariant.free (λ gap. false≢true (sym c.if-has_gap.false ∙ test.1 gap));
     }

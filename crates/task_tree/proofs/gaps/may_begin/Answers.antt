@@ -8,7 +8,7 @@ pub returns-then-begin-eq0 : goal.returns-then-begin-eq0
 returns-then-begin-eq0 c holds task indexed =
     let rs = c.args.records.now in
     first_of_created rs task c.args.begin.turn c.requires.family.once c.if-begin-eq0.true
-        ((c.is_explicit_at.ensures rs c.requires.family task indexed).0 holds)
+    ((c.is_explicit_at.ensures rs c.requires.family task indexed).0 holds)
 
 pub returns-then-not-is_explicit_at : goal.returns-then-not-is_explicit_at
 returns-then-not-is_explicit_at c holds task indexed =
@@ -18,10 +18,10 @@ returns-then-not-is_explicit_at c holds task indexed =
       | inl root ↦ root
       | inr explicit ↦
           absurd
-              (false≢true
-                  (sym c.if-not-is_explicit_at.true
-                      ∙ (c.is_explicit_at-then-begin-eq1.ensures rs c.requires.family task indexed).1
-                          explicit))
+          (false≢true
+          (sym c.if-not-is_explicit_at.true
+          ∙ (c.is_explicit_at-then-begin-eq1.ensures rs c.requires.family task indexed).1
+          explicit))
     ])
 
 pub returns : goal.returns

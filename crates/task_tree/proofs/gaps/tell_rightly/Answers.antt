@@ -15,4 +15,4 @@ tells_rightly-requires-clause-turn c =
 pub loop-at-preserved : goal.loop-at-preserved
 loop-at-preserved c =
     below_more (TellsRightly c.args.records.now) c.loop-at.at c.loop-at.invariant
-        (c.tells_rightly.ensures c.if-not-tells_rightly.false)
+    (c.tells_rightly.ensures c.if-not-tells_rightly.false)

@@ -9,5 +9,5 @@ returns-in-Some-2 c =
     let same = rw c.in-Some-2.is at c.in_ok-tasks.ensures.same in
     let apart = rw c.in-Some-2.is at c.in_ok-tasks.ensures.apart in
     rw same
-        (made_once_each c.args.records.now c.in-Some.gathered.ids.items c.in-Some.gathered.places.items
-            c.in-Some.gathered.regions gathered apart begun once)
+    (made_once_each c.args.records.now c.in-Some.gathered.ids.items c.in-Some.gathered.places.items
+    c.in-Some.gathered.regions gathered apart begun once)

@@ -15,9 +15,9 @@ keys_of-requires c = record {
 own : (c : goal.After-deref-2) → c.in_ok-places.places.items ≡ own_places c.args.records.now
 own c =
     sorted_is_own c.args.records.now c.args.turns.now c.in_ok-keys.keys.items c.sort_unstable.new.self.items
-        c.in_ok-places.places.items c.requires.turns c.in_ok-keys.ensures c.sort_unstable.ensures.permutation
-        c.sort_unstable.ensures.sorted
-        (c.in_ok-places.ensures ∙ ap (map (λ (key : ℕ × ℕ). key.1)) c.deref.ensures.value)
+    c.in_ok-places.places.items c.requires.turns c.in_ok-keys.ensures c.sort_unstable.ensures.permutation
+    c.sort_unstable.ensures.sorted
+    (c.in_ok-places.ensures ∙ ap (map (λ (key : ℕ × ℕ). key.1)) c.deref.ensures.value)
 
 pub numbers_of-requires-clause-few : goal.numbers_of-requires-clause-few
 numbers_of-requires-clause-few c =
@@ -31,17 +31,17 @@ numbers_of-requires-clause-apart c =
 pub arranged-requires : goal.arranged-requires
 arranged-requires c =
     let is : c.in_ok-places.places.items ≡ own_places c.args.records.now =
-        sorted_is_own c.args.records.now c.args.turns.now c.in_ok-keys.keys.items
-            c.sort_unstable.new.self.items c.in_ok-places.places.items c.requires.turns c.in_ok-keys.ensures
-            c.sort_unstable.ensures.permutation c.sort_unstable.ensures.sorted
-            (c.in_ok-places.ensures ∙ ap (map (λ (key : ℕ × ℕ). key.1)) c.deref.ensures.value) in
+    sorted_is_own c.args.records.now c.args.turns.now c.in_ok-keys.keys.items
+    c.sort_unstable.new.self.items c.in_ok-places.places.items c.requires.turns c.in_ok-keys.ensures
+    c.sort_unstable.ensures.permutation c.sort_unstable.ensures.sorted
+    (c.in_ok-places.ensures ∙ ap (map (λ (key : ℕ × ℕ). key.1)) c.deref.ensures.value) in
     are_inverse c.args.records.now c.in_ok-places.places.items c.in_ok-numbers.numbers.items is
-        (rw c.deref-2.ensures.value at c.in_ok-numbers.ensures)
+    (rw c.deref-2.ensures.value at c.in_ok-numbers.ensures)
 
 pub returns : goal.returns
 returns c =
     c.arranged.ensures
-        ∙ sorted_is_own c.args.records.now c.args.turns.now c.in_ok-keys.keys.items
-            c.sort_unstable.new.self.items c.in_ok-places.places.items c.requires.turns c.in_ok-keys.ensures
-            c.sort_unstable.ensures.permutation c.sort_unstable.ensures.sorted
-            (c.in_ok-places.ensures ∙ ap (map (λ (key : ℕ × ℕ). key.1)) c.deref.ensures.value)
+    ∙ sorted_is_own c.args.records.now c.args.turns.now c.in_ok-keys.keys.items
+    c.sort_unstable.new.self.items c.in_ok-places.places.items c.requires.turns c.in_ok-keys.ensures
+    c.sort_unstable.ensures.permutation c.sort_unstable.ensures.sorted
+    (c.in_ok-places.ensures ∙ ap (map (λ (key : ℕ × ℕ). key.1)) c.deref.ensures.value)

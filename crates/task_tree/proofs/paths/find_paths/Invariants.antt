@@ -8,4 +8,4 @@ use Rattle.task_tree.proofs.paths.find_paths.Given as goal
 abbrev pub invariant-loop-index : goal.invariant-loop-index
 invariant-loop-index l =
     (records : List Record) → IsFamilyOf records l.family
-        → ArePaths records (take l.index l.family.tasks) l.paths.items
+    → ArePaths records (take l.index l.family.tasks) l.paths.items

@@ -10,5 +10,5 @@ use Rattle.task_tree.proofs.paths.path_of.Given as goal
 abbrev pub invariant-loop-step : goal.invariant-loop-step
 invariant-loop-step l =
     (records : List Record) → IsFamilyOf records l.family → (root task : ℕ) (path : List ℕ)
-        → slice_get l.family.tasks l.index ≡ Some task → HasPath records root task path
-        → IsClimbed records l.family.tasks root path l._step l.current l.numbers.items
+    → slice_get l.family.tasks l.index ≡ Some task → HasPath records root task path
+    → IsClimbed records l.family.tasks root path l._step l.current l.numbers.items

@@ -13,4 +13,4 @@ is_rising-requires-2 c = permutation_within c.args.ids.now c.in_ok-sort.field-0.
 pub returns-then-is_rising-2 : goal.returns-then-is_rising-2
 returns-then-is_rising-2 c =
     permutation_ranked c.args.ids.now c.in_ok-sort.field-0.items c.in_ok-sort.ensures
-        (c.is_rising-2.ensures c.if-is_rising-2.true)
+    (c.is_rising-2.ensures c.if-is_rising-2.true)

@@ -10,22 +10,22 @@ returns-then-not-is_next c records task family stands = (
   λ is. absurd (false≢true is),
   λ may.
       absurd
-          (false≢true
-              (sym c.if-not-is_next.true
-                  ∙ c.is_next.ensures.1
-                      (may_follow records task c.args.begin.turn c.args.event.now.body c.args.known
-                          (λ none.
-                              false≢true
-                                  (sym (ap is_some (c.told_turns.ensures ∙ none)) ∙ c.is_none.ensures
-                                      ∙ ap not c.if-is_none.false))
-                          may).0)),
+      (false≢true
+      (sym c.if-not-is_next.true
+      ∙ c.is_next.ensures.1
+      (may_follow records task c.args.begin.turn c.args.event.now.body c.args.known
+      (λ none.
+      false≢true
+      (sym (ap is_some (c.told_turns.ensures ∙ none)) ∙ c.is_none.ensures
+      ∙ ap not c.if-is_none.false))
+      may).0)),
 )
 
 pub returns-then-begin-gt0 : goal.returns-then-begin-gt0
 returns-then-begin-gt0 c records task family stands = (
   λ is.
       may_next (c.is_next.ensures.0 c.if-not-is_next.false)
-          (λ first. absurd (omega (arith, first, c.if-begin-gt0.true))),
+      (λ first. absurd (omega (arith, first, c.if-begin-gt0.true))),
   λ may. lt-ltb 0 c.args.begin.turn c.if-begin-gt0.true,
 )
 
@@ -35,11 +35,11 @@ returns-else-begin-gt0 c records task family stands =
       λ is. may_next (c.is_next.ensures.0 c.if-not-is_next.false) (λ first. explicit.0 is),
       λ may.
           explicit.1
-              ((may_follow records task c.args.begin.turn c.args.event.now.body c.args.known
-                   (λ none.
-                       false≢true
-                           (sym (ap is_some (c.told_turns.ensures ∙ none)) ∙ c.is_none.ensures
-                               ∙ ap not c.if-is_none.false))
-                   may).1
-                  (omega (arith, c.if-begin-gt0.false))),
+          ((may_follow records task c.args.begin.turn c.args.event.now.body c.args.known
+          (λ none.
+          false≢true
+          (sym (ap is_some (c.told_turns.ensures ∙ none)) ∙ c.is_none.ensures
+          ∙ ap not c.if-is_none.false))
+          may).1
+          (omega (arith, c.if-begin-gt0.false))),
     )

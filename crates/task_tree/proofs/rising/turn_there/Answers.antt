@@ -16,16 +16,16 @@ returns-in-Some-clause-there c turn is =
     let index = c.in-Some.index in
     let r = get_or rs c.args.at c.index-records-at.result in
     let own =
-        call_task tasks (at running rs c.args.at) c.running_at.result index c.running_at.ensures
-            c.in-Some.is in
+    call_task tasks (at running rs c.args.at) c.running_at.result index c.running_at.ensures
+    c.in-Some.is in
     let inside = slice_get_within tasks index own.0 own.2 in
     let all = c.requires.latest.all in
     let known = get_or latest index not_begun in
     let there : slice_get latest index ≡ Some known =
-        slice_get-get_or latest index not_begun (omega (arith, inside, all)) in
+    slice_get-get_or latest index not_begun (omega (arith, inside, all)) in
     there_some rs c.args.at own.0 turn r known
-        (slice_get-get_or rs c.args.at c.index-records-at.result c.requires.within)
-        (c.requires.latest.each index own.0 known own.2 there) own.1 (c.turn_on.ensures.on turn is)
+    (slice_get-get_or rs c.args.at c.index-records-at.result c.requires.within)
+    (c.requires.latest.each index own.0 known own.2 there) own.1 (c.turn_on.ensures.on turn is)
 
 pub returns-in-Some-clause-none : goal.returns-in-Some-clause-none
 returns-in-Some-clause-none c none order free =
@@ -35,14 +35,14 @@ returns-in-Some-clause-none c none order free =
     let index = c.in-Some.index in
     let r = get_or rs c.args.at c.index-records-at.result in
     let own =
-        call_task tasks (at running rs c.args.at) c.running_at.result index c.running_at.ensures
-            c.in-Some.is in
+    call_task tasks (at running rs c.args.at) c.running_at.result index c.running_at.ensures
+    c.in-Some.is in
     let inside = slice_get_within tasks index own.0 own.2 in
     let all = c.requires.latest.all in
     let known = get_or latest index not_begun in
     let there : slice_get latest index ≡ Some known =
-        slice_get-get_or latest index not_begun (omega (arith, inside, all)) in
+    slice_get-get_or latest index not_begun (omega (arith, inside, all)) in
     let off = c.turn_on.ensures.off none in
     off_thread rs c.args.at own.0 r known
-        (slice_get-get_or rs c.args.at c.index-records-at.result c.requires.within)
-        (c.requires.latest.each index own.0 known own.2 there) own.1 off.0 off.1 order free
+    (slice_get-get_or rs c.args.at c.index-records-at.result c.requires.within)
+    (c.requires.latest.each index own.0 known own.2 there) own.1 off.0 off.1 order free

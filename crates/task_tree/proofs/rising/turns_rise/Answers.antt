@@ -19,21 +19,22 @@ loop-at-preserved c =
 pub returns-then-not-goes_on-clause-untold : goal.returns-then-not-goes_on-clause-untold
 returns-then-not-goes_on-clause-untold c untold =
     absurd
-        (c.goes_on.ensures.off c.if-not-goes_on.true (untold_in_order c.args.records.now untold)
-            (free_of_gaps c.args.records.now untold))
+    (c.goes_on.ensures.off c.if-not-goes_on.true (untold_in_order c.args.records.now untold)
+    (free_of_gaps c.args.records.now untold))
 
 pub returns-clause-exact : goal.returns-clause-exact
 returns-clause-exact c = (
-  λ is.
-      (all_in_order c.args.records.now c.loop-at.at c.loop-at-test.false c.loop-at.invariant.in_order,
-          free_of_gap c.args.records.now c.loop-at.at c.loop-at-test.false c.loop-at.invariant.gapless),
+  λ is. (
+    all_in_order c.args.records.now c.loop-at.at c.loop-at-test.false c.loop-at.invariant.in_order,
+    free_of_gap c.args.records.now c.loop-at.at c.loop-at-test.false c.loop-at.invariant.gapless,
+  ),
   λ both. refl,
 )
 
 pub returns-clause-rises : goal.returns-clause-rises
 returns-clause-rises c is =
     in_order_rise c.args.records.now
-        (all_in_order c.args.records.now c.loop-at.at c.loop-at-test.false c.loop-at.invariant.in_order)
+    (all_in_order c.args.records.now c.loop-at.at c.loop-at-test.false c.loop-at.invariant.in_order)
 
 pub returns-clause-gapless : goal.returns-clause-gapless
 returns-clause-gapless c is =

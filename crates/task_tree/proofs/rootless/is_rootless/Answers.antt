@@ -13,8 +13,8 @@ pub returns-then-is_none : goal.returns-then-is_none
 returns-then-is_none c = (
   λ yes.
       missing_subject c.args.tasks.now c.args.regions.now c.args.roots.now c.args.body.now
-          c.in-TaskCreate.task c.args.first c.requires.subject (ap subject c.in-TaskCreate.is)
-          (c.is_none.ensures.0 c.if-is_none.true),
+      c.in-TaskCreate.task c.args.first c.requires.subject (ap subject c.in-TaskCreate.is)
+      (c.is_none.ensures.0 c.if-is_none.true),
   λ has. c.if-is_none.true,
 )
 
@@ -22,23 +22,23 @@ pub returns-else-is_none : goal.returns-else-is_none
 returns-else-is_none c = (
   λ yes.
       child_rootless c.args.tasks.now c.args.regions.now c.args.roots.now c.args.body.now
-          c.in-TaskCreate.child c.args.second c.requires.apart c.requires.object
-          (ap object c.in-TaskCreate.is) (ap created c.in-TaskCreate.is) (c.has_no_root.ensures.0 yes),
+      c.in-TaskCreate.child c.args.second c.requires.apart c.requires.object
+      (ap object c.in-TaskCreate.is) (ap created c.in-TaskCreate.is) (c.has_no_root.ensures.0 yes),
   λ has.
       c.has_no_root.ensures.1
-          (child_left c.args.tasks.now c.args.regions.now c.args.roots.now c.args.body.now
-              c.in-TaskCreate.child c.args.first c.args.second c.requires.subject c.requires.object
-              (λ none. false≢true (sym c.if-is_none.false ∙ c.is_none.ensures.1 none))
-              (ap object c.in-TaskCreate.is) (ap created c.in-TaskCreate.is) (ap claim c.in-TaskCreate.is)
-              (ap region_named c.in-TaskCreate.is) has),
+      (child_left c.args.tasks.now c.args.regions.now c.args.roots.now c.args.body.now
+      c.in-TaskCreate.child c.args.first c.args.second c.requires.subject c.requires.object
+      (λ none. false≢true (sym c.if-is_none.false ∙ c.is_none.ensures.1 none))
+      (ap object c.in-TaskCreate.is) (ap created c.in-TaskCreate.is) (ap claim c.in-TaskCreate.is)
+      (ap region_named c.in-TaskCreate.is) has),
 )
 
 pub returns-then-is_none-4 : goal.returns-then-is_none-4
 returns-then-is_none-4 c = (
   λ yes.
       missing_subject c.args.tasks.now c.args.regions.now c.args.roots.now c.args.body.now c.in-Cancel.task
-          c.args.first c.requires.subject (ap subject c.in-Cancel.is)
-          (c.is_none-in-Cancel.ensures.0 c.if-is_none-4.true),
+      c.args.first c.requires.subject (ap subject c.in-Cancel.is)
+      (c.is_none-in-Cancel.ensures.0 c.if-is_none-4.true),
   λ has. c.if-is_none-4.true,
 )
 
@@ -46,14 +46,14 @@ pub returns-else-is_none-4 : goal.returns-else-is_none-4
 returns-else-is_none-4 c = (
   λ yes.
       claim_rootless c.args.tasks.now c.args.regions.now c.args.roots.now c.args.body.now c.in-Cancel.share
-          (ap claim c.in-Cancel.is) (c.claims_unmade-else-is_none-4.ensures.0 yes),
+      (ap claim c.in-Cancel.is) (c.claims_unmade-else-is_none-4.ensures.0 yes),
   λ has.
       c.claims_unmade-else-is_none-4.ensures.1
-          (claim_left c.args.tasks.now c.args.regions.now c.args.roots.now c.args.body.now c.args.first
-              c.args.second c.in-Cancel.share c.requires.subject c.requires.object
-              (λ none. false≢true (sym c.if-is_none-4.false ∙ c.is_none-in-Cancel.ensures.1 none))
-              (none_missing _ c.args.second (ap object c.in-Cancel.is)) (ap claim c.in-Cancel.is)
-              (ap created c.in-Cancel.is) (ap region_named c.in-Cancel.is) has),
+      (claim_left c.args.tasks.now c.args.regions.now c.args.roots.now c.args.body.now c.args.first
+      c.args.second c.in-Cancel.share c.requires.subject c.requires.object
+      (λ none. false≢true (sym c.if-is_none-4.false ∙ c.is_none-in-Cancel.ensures.1 none))
+      (none_missing _ c.args.second (ap object c.in-Cancel.is)) (ap claim c.in-Cancel.is)
+      (ap created c.in-Cancel.is) (ap region_named c.in-Cancel.is) has),
 )
 
 pub returns-then-is_none-5 : goal.returns-then-is_none-5
@@ -61,10 +61,10 @@ returns-then-is_none-5 c = (
   λ yes. elim c.in-ParallelEnd.is [
     | inl h ↦
         missing_subject c.args.tasks.now c.args.regions.now c.args.roots.now c.args.body.now _ c.args.first
-            c.requires.subject (ap subject h.2) (c.is_none-in-ParallelEnd.ensures.0 c.if-is_none-5.true)
+        c.requires.subject (ap subject h.2) (c.is_none-in-ParallelEnd.ensures.0 c.if-is_none-5.true)
     | inr h ↦
         missing_subject c.args.tasks.now c.args.regions.now c.args.roots.now c.args.body.now _ c.args.first
-            c.requires.subject (ap subject h.6) (c.is_none-in-ParallelEnd.ensures.0 c.if-is_none-5.true)
+        c.requires.subject (ap subject h.6) (c.is_none-in-ParallelEnd.ensures.0 c.if-is_none-5.true)
   ],
   λ has. c.if-is_none-5.true,
 )
@@ -75,14 +75,14 @@ returns-else-is_none-5 c = (
   λ has. c.names_no_region.ensures.1 (elim c.in-ParallelEnd.is [
     | inl h ↦
         region_left c.args.tasks.now c.args.regions.now c.args.roots.now c.args.body.now c.args.first
-            c.args.second c.requires.subject c.requires.object
-            (λ none. false≢true (sym c.if-is_none-5.false ∙ c.is_none-in-ParallelEnd.ensures.1 none))
-            (ap object h.2) (ap claim h.2) (ap created h.2) has
+        c.args.second c.requires.subject c.requires.object
+        (λ none. false≢true (sym c.if-is_none-5.false ∙ c.is_none-in-ParallelEnd.ensures.1 none))
+        (ap object h.2) (ap claim h.2) (ap created h.2) has
     | inr h ↦
         region_left c.args.tasks.now c.args.regions.now c.args.roots.now c.args.body.now c.args.first
-            c.args.second c.requires.subject c.requires.object
-            (λ none. false≢true (sym c.if-is_none-5.false ∙ c.is_none-in-ParallelEnd.ensures.1 none))
-            (ap object h.6) (ap claim h.6) (ap created h.6) has
+        c.args.second c.requires.subject c.requires.object
+        (λ none. false≢true (sym c.if-is_none-5.false ∙ c.is_none-in-ParallelEnd.ensures.1 none))
+        (ap object h.6) (ap claim h.6) (ap created h.6) has
   ]),
 )
 
@@ -93,30 +93,30 @@ returns-in-ParallelBegin c = (
       elim c.in-ParallelBegin.is [
         | inl h ↦
             missing_subject c.args.tasks.now c.args.regions.now c.args.roots.now c.args.body.now _
-                c.args.first c.requires.subject (ap subject h.3) none
+            c.args.first c.requires.subject (ap subject h.3) none
         | inr more ↦ elim more [
           | inl h ↦
               missing_subject c.args.tasks.now c.args.regions.now c.args.roots.now c.args.body.now _
-                  c.args.first c.requires.subject (ap subject h.2) none
+              c.args.first c.requires.subject (ap subject h.2) none
           | inr h ↦
               missing_subject c.args.tasks.now c.args.regions.now c.args.roots.now c.args.body.now _
-                  c.args.first c.requires.subject (ap subject h.4) none
+              c.args.first c.requires.subject (ap subject h.4) none
         ]
       ],
   λ has. c.is_none-in-ParallelBegin.ensures.1 (elim c.in-ParallelBegin.is [
     | inl h ↦
         subject_left c.args.tasks.now c.args.regions.now c.args.roots.now c.args.body.now _ c.args.first
-            c.args.second c.requires.subject c.requires.object (ap subject h.3) (ap object h.3) (ap claim h.3)
-            (ap created h.3) (ap region_named h.3) has
+        c.args.second c.requires.subject c.requires.object (ap subject h.3) (ap object h.3) (ap claim h.3)
+        (ap created h.3) (ap region_named h.3) has
     | inr more ↦ elim more [
       | inl h ↦
           subject_left c.args.tasks.now c.args.regions.now c.args.roots.now c.args.body.now _ c.args.first
-              c.args.second c.requires.subject c.requires.object (ap subject h.2) (ap object h.2)
-              (ap claim h.2) (ap created h.2) (ap region_named h.2) has
+          c.args.second c.requires.subject c.requires.object (ap subject h.2) (ap object h.2)
+          (ap claim h.2) (ap created h.2) (ap region_named h.2) has
       | inr h ↦
           subject_left c.args.tasks.now c.args.regions.now c.args.roots.now c.args.body.now _ c.args.first
-              c.args.second c.requires.subject c.requires.object (ap subject h.4) (ap object h.4)
-              (ap claim h.4) (ap created h.4) (ap region_named h.4) has
+          c.args.second c.requires.subject c.requires.object (ap subject h.4) (ap object h.4)
+          (ap claim h.4) (ap created h.4) (ap region_named h.4) has
     ]
   ]),
 )
@@ -126,13 +126,13 @@ returns-then-is_none-3 c = (
   λ yes. elim c.if-is_none-2.branch [
     | then-is_none-2 w ↦
         missing_subject c.args.tasks.now c.args.regions.now c.args.roots.now c.args.body.now
-            c.in-TaskSchedule.prior c.args.first c.requires.subject (ap subject c.in-TaskSchedule.is)
-            (c.is_none-in-TaskSchedule.ensures.0 w.if-is_none-2.true)
+        c.in-TaskSchedule.prior c.args.first c.requires.subject (ap subject c.in-TaskSchedule.is)
+        (c.is_none-in-TaskSchedule.ensures.0 w.if-is_none-2.true)
     | else-is_none-2+then-is_some w ↦
         missing_next c.args.tasks.now c.args.regions.now c.args.roots.now c.args.body.now
-            c.in-TaskSchedule.next c.args.second c.requires.object (ap object c.in-TaskSchedule.is)
-            (sym w.is_some.ensures ∙ w.if-is_some.true)
-            (w.is_none-then-is_some.ensures.0 (sym w.value-is ∙ c.if-is_none-3.true))
+        c.in-TaskSchedule.next c.args.second c.requires.object (ap object c.in-TaskSchedule.is)
+        (sym w.is_some.ensures ∙ w.if-is_some.true)
+        (w.is_none-then-is_some.ensures.0 (sym w.value-is ∙ c.if-is_none-3.true))
     | else-is_none-2+else-is_some w ↦
         absurd (false≢true (sym w.if-is_some.false ∙ sym w.value-is ∙ c.if-is_none-3.true))
   ],
@@ -143,27 +143,27 @@ pub returns-else-is_none-3 : goal.returns-else-is_none-3
 returns-else-is_none-3 c = (
   λ yes.
       claim_rootless c.args.tasks.now c.args.regions.now c.args.roots.now c.args.body.now
-          c.in-TaskSchedule.share (ap claim c.in-TaskSchedule.is) (c.claims_unmade.ensures.0 yes),
+      c.in-TaskSchedule.share (ap claim c.in-TaskSchedule.is) (c.claims_unmade.ensures.0 yes),
   λ has. c.claims_unmade.ensures.1 (elim c.if-is_none-2.branch [
     | then-is_none-2 w ↦ absurd (false≢true (sym c.if-is_none-3.false ∙ w.value-is ∙ w.if-is_none-2.true))
     | else-is_none-2+then-is_some w ↦
         claim_left c.args.tasks.now c.args.regions.now c.args.roots.now c.args.body.now c.args.first
-            c.args.second c.in-TaskSchedule.share c.requires.subject c.requires.object
-            (λ none. false≢true (sym w.if-is_none-2.false ∙ c.is_none-in-TaskSchedule.ensures.1 none))
-            (full_missing _ c.args.second
-                (λ none.
-                    false≢true
-                        (sym c.if-is_none-3.false ∙ w.value-is ∙ w.is_none-then-is_some.ensures.1 none)))
-            (ap claim c.in-TaskSchedule.is) (ap created c.in-TaskSchedule.is)
-            (ap region_named c.in-TaskSchedule.is) has
+        c.args.second c.in-TaskSchedule.share c.requires.subject c.requires.object
+        (λ none. false≢true (sym w.if-is_none-2.false ∙ c.is_none-in-TaskSchedule.ensures.1 none))
+        (full_missing _ c.args.second
+        (λ none.
+        false≢true
+        (sym c.if-is_none-3.false ∙ w.value-is ∙ w.is_none-then-is_some.ensures.1 none)))
+        (ap claim c.in-TaskSchedule.is) (ap created c.in-TaskSchedule.is)
+        (ap region_named c.in-TaskSchedule.is) has
     | else-is_none-2+else-is_some w ↦
         claim_left c.args.tasks.now c.args.regions.now c.args.roots.now c.args.body.now c.args.first
-            c.args.second c.in-TaskSchedule.share c.requires.subject c.requires.object
-            (λ none. false≢true (sym w.if-is_none-2.false ∙ c.is_none-in-TaskSchedule.ensures.1 none))
-            (none_missing _ c.args.second
-                (ap object c.in-TaskSchedule.is
-                    ∙ no_next c.in-TaskSchedule.next (sym w.is_some.ensures ∙ w.if-is_some.false)))
-            (ap claim c.in-TaskSchedule.is) (ap created c.in-TaskSchedule.is)
-            (ap region_named c.in-TaskSchedule.is) has
+        c.args.second c.in-TaskSchedule.share c.requires.subject c.requires.object
+        (λ none. false≢true (sym w.if-is_none-2.false ∙ c.is_none-in-TaskSchedule.ensures.1 none))
+        (none_missing _ c.args.second
+        (ap object c.in-TaskSchedule.is
+        ∙ no_next c.in-TaskSchedule.next (sym w.is_some.ensures ∙ w.if-is_some.false)))
+        (ap claim c.in-TaskSchedule.is) (ap created c.in-TaskSchedule.is)
+        (ap region_named c.in-TaskSchedule.is) has
   ]),
 )

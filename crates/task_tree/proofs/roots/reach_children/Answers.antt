@@ -10,16 +10,16 @@ loop-child-init c = none
 pub reach-requires : goal.reach-requires
 reach-requires c =
     (spreads_keeps c.args.tasks.now c.args.standing c.args.roots.now.items c.args.order.now.items
-        (take c.loop-child.child-index c.args.children.now) c.loop-child.roots.items c.loop-child.order.items
-        c.loop-child.invariant).same_length
-        ∙ c.requires
+    (take c.loop-child.child-index c.args.children.now) c.loop-child.roots.items c.loop-child.order.items
+    c.loop-child.invariant).same_length
+    ∙ c.requires
 
 pub loop-child-preserved : goal.loop-child-preserved
 loop-child-preserved c =
     rw (take_more c.args.children.now c.loop-child.child-index 0 c.loop-child-test.true)
-        (more _ c.loop-child.invariant c.in_ok-near.ensures)
+    (more _ c.loop-child.invariant c.in_ok-near.ensures)
 
 pub returns : goal.returns
 returns c =
     rw (take_all c.loop-child.child-index c.args.children.now (omega (arith, c.loop-child-test.false)))
-        at c.loop-child.invariant
+    at c.loop-child.invariant

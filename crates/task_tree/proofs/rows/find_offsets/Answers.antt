@@ -16,20 +16,20 @@ loop-count-preserved c =
       next = λ index below. elim (cases_eq index i) [
         | inl same ↦
             ap (λ k. slice_index (old ++ end ∷ []) (k + 1)) same
-                ∙ read_last old end (i + 1) (sym c.loop-count.invariant.all)
+            ∙ read_last old end (i + 1) (sym c.loop-count.invariant.all)
             ∙ ap (λ k. k + slice_index c.args.counts.now i)
-                (sym
-                    (read_pushed old end i (omega (arith, c.loop-count.invariant.all))
-                        ∙ c.loop-count.invariant.last))
+            (sym
+            (read_pushed old end i (omega (arith, c.loop-count.invariant.all))
+            ∙ c.loop-count.invariant.last))
             ∙ ap (λ k. slice_index (old ++ end ∷ []) k + slice_index c.args.counts.now k) (sym same)
         | inr apart ↦
             read_pushed old end (index + 1) (omega (arith, below, apart, c.loop-count.invariant.all))
-                ∙ c.loop-count.invariant.next index (omega (arith, below, apart))
+            ∙ c.loop-count.invariant.next index (omega (arith, below, apart))
             ∙ ap (λ k. k + slice_index c.args.counts.now index)
-                (sym (read_pushed old end index (omega (arith, below, apart, c.loop-count.invariant.all))))
+            (sym (read_pushed old end index (omega (arith, below, apart, c.loop-count.invariant.all))))
       ];
       last = read_last old end (i + 1) (sym c.loop-count.invariant.all);
       total =
           ap (λ k. k + slice_index c.args.counts.now i) c.loop-count.invariant.total
-              ∙ sym (sum_by_more (λ (x : ℕ). x) c.args.counts.now i 0 c.loop-count-test.true);
+          ∙ sym (sum_by_more (λ (x : ℕ). x) c.args.counts.now i 0 c.loop-count-test.true);
     })

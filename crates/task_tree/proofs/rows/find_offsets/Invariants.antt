@@ -8,7 +8,7 @@ invariant-loop-count l = record {
   all : length l.offsets.items ≡ l.count-index + 1;
   next : (index : ℕ) → index < l.count-index
       → slice_index l.offsets.items (index + 1)
-          ≡ slice_index l.offsets.items index + slice_index l.counts index;
+      ≡ slice_index l.offsets.items index + slice_index l.counts index;
   last : slice_index l.offsets.items l.count-index ≡ l.end;
   total : l.end ≡ sum (take l.count-index l.counts);
 }

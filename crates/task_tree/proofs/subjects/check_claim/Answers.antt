@@ -3,8 +3,9 @@ use Rattle.task_tree.proofs.subjects.check_claim.Goals as goal
 
 pub returns-in-Some-index_near : goal.returns-in-Some-index_near
 returns-in-Some-index_near c =
-    λ yes.
-        (yes,
-            rw c.in-Some.is
-                (get_contains c.args.tasks.now c.in-Some.claim.root c.in-Some-index_near.index
-                    ((c.index_near.ensures c.in-Some-index_near.index).0 c.in-Some-index_near.is)))
+    λ yes. (
+      yes,
+      rw c.in-Some.is
+          (get_contains c.args.tasks.now c.in-Some.claim.root c.in-Some-index_near.index
+          ((c.index_near.ensures c.in-Some-index_near.index).0 c.in-Some-index_near.is)),
+    )

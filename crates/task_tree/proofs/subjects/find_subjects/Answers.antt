@@ -18,32 +18,32 @@ pub loop-at-init : goal.loop-at-init
 loop-at-init c = record {
   subjects =
       up_to_start subject c.args.records.now c.args.tasks.now c.in_ok-subjects.subjects.items
-          c.in_ok-subjects.ensures;
+      c.in_ok-subjects.ensures;
   objects =
       up_to_start object c.args.records.now c.args.tasks.now c.in_ok-objects.objects.items
-          c.in_ok-objects.ensures;
+      c.in_ok-objects.ensures;
   known = λ yes. known_start c.args.records.now c.args.tasks.now c.args.regions.now;
   counts =
       counts_start c.args.records.now c.args.tasks.now c.in_ok-counts.counts.items
-          (rw (c.as_slice.ensures) at c.in_ok-counts.ensures);
+      (rw (c.as_slice.ensures) at c.in_ok-counts.ensures);
   links =
       links_start c.args.records.now c.args.tasks.now c.in_ok-links.links.items
-          (rw (c.as_slice-2.ensures) at c.in_ok-links.ensures);
+      (rw (c.as_slice-2.ensures) at c.in_ok-links.ensures);
 }
 
 pub link_child-requires-clause-counts : goal.link_child-requires-clause-counts
 link_child-requires-clause-counts c =
     slot_holds c.args.tasks.now _ c.look_up-found.result.subject _ c.look_up-found.ensures.subject
-        (λ task k is.
-            let inside = slice_get_within c.args.tasks.now k task is in
-            let all = c.loop-at.invariant.counts.all in omega (arith, inside, all))
+    (λ task k is.
+    let inside = slice_get_within c.args.tasks.now k task is in
+    let all = c.loop-at.invariant.counts.all in omega (arith, inside, all))
 
 pub link_child-requires-clause-links : goal.link_child-requires-clause-links
 link_child-requires-clause-links c =
     slot_holds c.args.tasks.now _ c.look_up-found.result.object _ c.look_up-found.ensures.object
-        (λ task k is.
-            let inside = slice_get_within c.args.tasks.now k task is in
-            let all = c.loop-at.invariant.links.all in omega (arith, inside, all))
+    (λ task k is.
+    let inside = slice_get_within c.args.tasks.now k task is in
+    let all = c.loop-at.invariant.links.all in omega (arith, inside, all))
 
 pub link_child-requires-clause-few : goal.link_child-requires-clause-few
 link_child-requires-clause-few c =
@@ -52,11 +52,11 @@ link_child-requires-clause-few c =
 pub link_child-requires-clause-room : goal.link_child-requires-clause-room
 link_child-requires-clause-room c =
     slot_holds c.args.tasks.now _ c.look_up-found.result.subject _ c.look_up-found.ensures.subject
-        (λ task up is.
-            let small =
-                count_small c.args.records.now c.loop-at.at c.args.tasks.now c.loop-at.counts.items task up
-                    c.loop-at.invariant.counts is in
-            omega (arith, small, c.loop-at-test.true, c.requires.few))
+    (λ task up is.
+    let small =
+    count_small c.args.records.now c.loop-at.at c.args.tasks.now c.loop-at.counts.items task up
+    c.loop-at.invariant.counts is in
+    omega (arith, small, c.loop-at-test.true, c.requires.few))
 
 pub loop-at-preserved : goal.loop-at-preserved
 loop-at-preserved c =
@@ -65,22 +65,22 @@ loop-at-preserved c =
     let tasks = c.args.tasks.now in
     let event = c.index-records-at.result in
     let of : at subject rs i ≡ subject event.body =
-        at_read subject rs i event c.loop-at-test.true c.index-records-at.is in
+    at_read subject rs i event c.loop-at-test.true c.index-records-at.is in
     let names : at object rs i ≡ object event.body =
-        at_read object rs i event c.loop-at-test.true c.index-records-at.is in
+    at_read object rs i event c.loop-at-test.true c.index-records-at.is in
     let says : at creation rs i ≡ c.creation.result =
-        at_read creation rs i event c.loop-at-test.true c.index-records-at.is ∙ sym c.creation.ensures in
+    at_read creation rs i event c.loop-at-test.true c.index-records-at.is ∙ sym c.creation.ensures in
     let found = c.look_up-found.result in
     let subjects =
-        up_to_more subject rs i tasks c.loop-at.subjects.items found.subject c.loop-at-test.true
-            c.loop-at.invariant.subjects (rw of c.look_up-found.ensures.subject) in
+    up_to_more subject rs i tasks c.loop-at.subjects.items found.subject c.loop-at-test.true
+    c.loop-at.invariant.subjects (rw of c.look_up-found.ensures.subject) in
     let objects =
-        up_to_more object rs i tasks c.loop-at.objects.items found.object c.loop-at-test.true
-            c.loop-at.invariant.objects (rw names c.look_up-found.ensures.object) in
+    up_to_more object rs i tasks c.loop-at.objects.items found.object c.loop-at-test.true
+    c.loop-at.invariant.objects (rw names c.look_up-found.ensures.object) in
     let known : IsTrue c.look_up-found.new.known → AreKnown rs (i + 1) tasks c.args.regions.now = λ yes.
     let both = c.look_up-found.ensures.known yes in
     known_more rs i tasks c.args.regions.now event (c.loop-at.invariant.known both.0)
-        (read_get rs i event c.loop-at-test.true c.index-records-at.is) both.1 in
+    (read_get rs i event c.loop-at-test.true c.index-records-at.is) both.1 in
     elim c.if-is_some.branch [
       | then-is_some w ↦
           let made = some_there c.creation.result (sym c.is_some.ensures ∙ w.if-is_some.true) in
@@ -89,23 +89,23 @@ loop-at-preserved c =
           let creates = says ∙ made.1 in
           let both = created_names event.body parent child (sym c.creation.ensures ∙ made.1) in
           let linked =
-              w.link_child.ensures tasks parent child
-                  (finds_slot tasks _ found.subject parent c.requires.apart c.look_up-found.ensures.subject
-                      both.0)
-                  (finds_slot tasks _ found.object child c.requires.apart c.look_up-found.ensures.object
-                      both.1) in
+          w.link_child.ensures tasks parent child
+          (finds_slot tasks _ found.subject parent c.requires.apart c.look_up-found.ensures.subject
+          both.0)
+          (finds_slot tasks _ found.object child c.requires.apart c.look_up-found.ensures.object
+          both.1) in
           rw (w.counts-is, w.links-is) (record {
             subjects = subjects;
             objects = objects;
             known = known;
             counts =
                 counts_linked rs i tasks parent child c.loop-at.counts.items c.loop-at.links.items
-                    w.link_child.new.counts.items w.link_child.new.links.items c.loop-at.invariant.counts
-                    creates linked;
+                w.link_child.new.counts.items w.link_child.new.links.items c.loop-at.invariant.counts
+                creates linked;
             links =
                 links_linked rs i tasks parent child c.loop-at.counts.items c.loop-at.links.items
-                    w.link_child.new.counts.items w.link_child.new.links.items c.requires.once
-                    c.loop-at.invariant.counts c.loop-at.invariant.links creates linked;
+                w.link_child.new.counts.items w.link_child.new.links.items c.requires.once
+                c.loop-at.invariant.counts c.loop-at.invariant.links creates linked;
           })
       | else-is_some w ↦
           let none = says ∙ none_from_test c.creation.result (sym c.is_some.ensures ∙ w.if-is_some.false) in
@@ -121,31 +121,31 @@ loop-at-preserved c =
 pub returns-clause-subjects : goal.returns-clause-subjects
 returns-clause-subjects c =
     let all : c.loop-at.at ≡ length c.args.records.now =
-        omega (arith, c.loop-at-test.false, c.loop-at.auto.at-end) in
+    omega (arith, c.loop-at-test.false, c.loop-at.auto.at-end) in
     up_to_end subject c.args.records.now c.loop-at.at c.args.tasks.now c.loop-at.subjects.items all
-        c.loop-at.invariant.subjects
+    c.loop-at.invariant.subjects
 
 pub returns-clause-objects : goal.returns-clause-objects
 returns-clause-objects c =
     let all : c.loop-at.at ≡ length c.args.records.now =
-        omega (arith, c.loop-at-test.false, c.loop-at.auto.at-end) in
+    omega (arith, c.loop-at-test.false, c.loop-at.auto.at-end) in
     up_to_end object c.args.records.now c.loop-at.at c.args.tasks.now c.loop-at.objects.items all
-        c.loop-at.invariant.objects
+    c.loop-at.invariant.objects
 
 pub returns-clause-known : goal.returns-clause-known
 returns-clause-known c = λ yes.
     let all : c.loop-at.at ≡ length c.args.records.now =
-        omega (arith, c.loop-at-test.false, c.loop-at.auto.at-end) in
+    omega (arith, c.loop-at-test.false, c.loop-at.auto.at-end) in
     rw all at (c.loop-at.invariant.known yes)
 
 pub returns-clause-counts : goal.returns-clause-counts
 returns-clause-counts c =
     let all : c.loop-at.at ≡ length c.args.records.now =
-        omega (arith, c.loop-at-test.false, c.loop-at.auto.at-end) in
+    omega (arith, c.loop-at-test.false, c.loop-at.auto.at-end) in
     rw all at c.loop-at.invariant.counts
 
 pub returns-clause-links : goal.returns-clause-links
 returns-clause-links c =
     let all : c.loop-at.at ≡ length c.args.records.now =
-        omega (arith, c.loop-at-test.false, c.loop-at.auto.at-end) in
+    omega (arith, c.loop-at-test.false, c.loop-at.auto.at-end) in
     rw all at c.loop-at.invariant.links

@@ -4,16 +4,17 @@ use Rattle.task_tree.proofs.subjects.run.Goals as goal
 pub checked-requires : goal.checked-requires
 checked-requires c =
     index_small c.args.tasks.now c.args.task c.index_near-index.result c.index_near-index.ensures
-        c.requires.few
+    c.requires.few
 
 pub returns-clause-found : goal.returns-clause-found
 returns-clause-found c =
     rw c.checked.ensures.slot
-        (finds_index c.args.tasks.now c.args.task c.index_near-index.result c.index_near-index.ensures)
+    (finds_index c.args.tasks.now c.args.task c.index_near-index.result c.index_near-index.ensures)
 
 pub returns-clause-known : goal.returns-clause-known
 returns-clause-known c = λ yes.
-    let known = c.checked.ensures.known yes in
-    (known.0,
-        index_contains c.args.tasks.now c.args.task c.index_near-index.result c.index_near-index.ensures
-            known.1)
+    let known = c.checked.ensures.known yes in (
+      known.0,
+      index_contains c.args.tasks.now c.args.task c.index_near-index.result c.index_near-index.ensures
+          known.1,
+    )

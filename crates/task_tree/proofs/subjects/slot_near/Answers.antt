@@ -8,7 +8,7 @@ checked-requires c =
 pub returns-clause-found : goal.returns-clause-found
 returns-clause-found c =
     rw c.checked.ensures.slot
-        (finds_index c.args.tasks.now c.args.task c.index_near.result c.index_near.ensures)
+    (finds_index c.args.tasks.now c.args.task c.index_near.result c.index_near.ensures)
 
 pub returns-clause-known : goal.returns-clause-known
 returns-clause-known c = λ yes.

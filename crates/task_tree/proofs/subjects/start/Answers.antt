@@ -4,17 +4,18 @@ use Rattle.task_tree.proofs.subjects.start.Goals as goal
 pub checked-requires : goal.checked-requires
 checked-requires c =
     index_small c.args.tasks.now c.in-Some.task c.index_of-index.result c.index_of-index.ensures
-        c.requires.few
+    c.requires.few
 
 pub returns-clause-found : goal.returns-clause-found
 returns-clause-found c =
     rw (c.checked.ensures.slot, c.in-Some.is)
-        (finds_index c.args.tasks.now c.in-Some.task c.index_of-index.result c.index_of-index.ensures)
+    (finds_index c.args.tasks.now c.in-Some.task c.index_of-index.result c.index_of-index.ensures)
 
 pub returns-clause-known : goal.returns-clause-known
 returns-clause-known c = λ yes.
-    let known = c.checked.ensures.known yes in
-    (known.0,
-        rw c.in-Some.is
-            (index_contains c.args.tasks.now c.in-Some.task c.index_of-index.result c.index_of-index.ensures
-                known.1))
+    let known = c.checked.ensures.known yes in (
+      known.0,
+      rw c.in-Some.is
+          (index_contains c.args.tasks.now c.in-Some.task c.index_of-index.result c.index_of-index.ensures
+          known.1),
+    )

@@ -22,12 +22,12 @@ returns-in-Some c thread by_thread marks =
     let all = c.requires.all in
     let mark = get_or c.args.marks.now index no_mark in
     let there : slice_get c.args.marks.now index ≡ Some mark =
-        slice_get-get_or c.args.marks.now index no_mark (omega (arith, inside, all)) in
+    slice_get-get_or c.args.marks.now index no_mark (omega (arith, inside, all)) in
     let thread_is : thread ≡ r.thread =
-        same_Some thread r.thread
-            (sym by_thread ∙ thread_read rs i r c.requires.within c.index-records-at.is) in
+    same_Some thread r.thread
+    (sym by_thread ∙ thread_read rs i r c.requires.within c.index-records-at.is) in
     c.turn_on.ensures ∙ ap (λ (q : Record). turn_on mark q.thread) (sym c.index-records-at.is)
     ∙ turn_marked rs tasks i index own.0 r mark c.args.marks.now
-        (read_get rs i r c.requires.within c.index-records-at.is)
-        (sym (at_read running rs i r c.requires.within c.index-records-at.is) ∙ own.1) own.2 there
-        (subst (λ t. AreMarks rs tasks t i c.args.marks.now) thread_is marks)
+    (read_get rs i r c.requires.within c.index-records-at.is)
+    (sym (at_read running rs i r c.requires.within c.index-records-at.is) ∙ own.1) own.2 there
+    (subst (λ t. AreMarks rs tasks t i c.args.marks.now) thread_is marks)

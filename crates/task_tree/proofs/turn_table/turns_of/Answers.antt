@@ -10,8 +10,8 @@ returns-clause-turns c =
     let walk = c.loop-thread.walk in
     let chains = c.in_ok-chains.ensures in
     walked_turns rs tasks walk (λ i thread is. chains.narrow i thread (omega arith) is)
-        (subst (λ t. IsWalkAt rs tasks t 0 walk)
-            (let last : c.loop-thread.thread ≡ 256 = search rules in last) c.loop-thread.invariant)
+    (subst (λ t. IsWalkAt rs tasks t 0 walk)
+    (let last : c.loop-thread.thread ≡ 256 = search rules in last) c.loop-thread.invariant)
 
 pub returns-clause-order : goal.returns-clause-order
 returns-clause-order c =
@@ -22,6 +22,6 @@ returns-clause-order c =
     record {
       order =
           walked_order rs tasks walk (λ i thread is. chains.narrow i thread (omega arith) is)
-              (subst (λ t. IsWalkAt rs tasks t 0 walk)
-                  (let last : c.loop-thread.thread ≡ 256 = search rules in last) c.loop-thread.invariant);
+          (subst (λ t. IsWalkAt rs tasks t 0 walk)
+          (let last : c.loop-thread.thread ≡ 256 = search rules in last) c.loop-thread.invariant);
     }

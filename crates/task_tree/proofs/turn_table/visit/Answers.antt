@@ -26,19 +26,19 @@ returns-in_default c thread by_thread =
     let same = there.2 in
     let before = c.requires.before r.thread (by_thread ∙ ap Some same) in
     let marks =
-        subst (AreMarks rs tasks thread i) (sym c.as_slice.ensures.value)
-            (subst (λ t. AreMarks rs tasks t i q.marks.items) (sym same) before.marks) in
+    subst (AreMarks rs tasks thread i) (sym c.as_slice.ensures.value)
+    (subst (λ t. AreMarks rs tasks t i q.marks.items) (sym same) before.marks) in
     subst (λ t. IsWalkAt rs tasks t (i + 1) new) (sym same)
-        (walk_keep rs tasks i c.turn_before.result r q new c.requires.within
-            (sym (get_or_from_slice_get rs i r r there.1)) before
-            (c.turn_before.ensures thread by_thread marks) c.in_default.ensures refl refl refl)
+    (walk_keep rs tasks i c.turn_before.result r q new c.requires.within
+    (sym (get_or_from_slice_get rs i r r there.1)) before
+    (c.turn_before.ensures thread by_thread marks) c.in_default.ensures refl refl refl)
 
 pub index-requires : goal.index-requires
 index-requires c =
     let rs = c.args.records.now in
     let r = get_or rs c.args.at c.index-records-at.result in
     let walk =
-        c.requires.before r.thread (thread_index rs c.args.at c.index-records-at.result c.requires.within) in
+    c.requires.before r.thread (thread_index rs c.args.at c.index-records-at.result c.requires.within) in
     let start = c.in-Some.ensures in
     let inside = slice_get_within c.args.family.now.tasks c.in-Some.begin.index start.task start.indexed in
     let all = walk.marks.all in
@@ -50,7 +50,7 @@ index_mut-requires-2 c =
     let rs = c.args.records.now in
     let r = get_or rs c.args.at c.index-records-at.result in
     let walk =
-        c.requires.before r.thread (thread_index rs c.args.at c.index-records-at.result c.requires.within) in
+    c.requires.before r.thread (thread_index rs c.args.at c.index-records-at.result c.requires.within) in
     let start = c.in-Some.ensures in
     let inside = slice_get_within c.args.family.now.tasks c.in-Some.begin.index start.task start.indexed in
     let all = walk.marks.all in
@@ -69,30 +69,30 @@ returns c thread by_thread =
     let next = c.in-Some.begin.turn in
     let read = c.index-records-at.is in
     let same : thread ≡ r.thread =
-        same_Some thread r.thread (sym by_thread ∙ thread_read rs i r c.requires.within read) in
+    same_Some thread r.thread (sym by_thread ∙ thread_read rs i r c.requires.within read) in
     let before = c.requires.before r.thread (by_thread ∙ ap Some same) in
     let inside = slice_get_within tasks index start.task start.indexed in
     let all = before.marks.all in
     let mark = c.index.result.now in
     let marked : slice_get q.marks.items index ≡ Some mark =
-        slice_get_read q.marks.items (length q.marks.items) index mark refl (omega (arith, inside, all))
-            c.index.ensures in
+    slice_get_read q.marks.items (length q.marks.items) index mark refl (omega (arith, inside, all))
+    c.index.ensures in
     let new : Walk = record {
       turns = with_item q.turns i c.turn_before.result;
       marks = with_item q.marks index (record { turn = next; thread = (get_or rs i r).thread });
       in_order = c.stays_in_order-walk.result;
     } in
     let marks =
-        subst (AreMarks rs tasks thread i) (sym c.as_slice.ensures.value)
-            (subst (λ t. AreMarks rs tasks t i q.marks.items) (sym same) before.marks) in
+    subst (AreMarks rs tasks thread i) (sym c.as_slice.ensures.value)
+    (subst (λ t. AreMarks rs tasks t i q.marks.items) (sym same) before.marks) in
     let turn = c.turn_before.ensures thread by_thread marks in
-    subst (λ t. IsWalkAt rs tasks t (i + 1) new) (sym same) ( walk_put rs tasks i c.turn_before.result index
-        start.task next r mark q new c.requires.within read before turn c.requires.family.makers.apart
-        start.starts start.indexed marked refl
+    subst (λ t. IsWalkAt rs tasks t (i + 1) new) (sym same) (walk_put rs tasks i c.turn_before.result index
+    start.task next r mark q new c.requires.within read before turn c.requires.family.makers.apart
+    start.starts start.indexed marked refl
     (ap (λ (s : Record). set q.marks.items index (record { turn = next; thread = s.thread })) (sym read))
     (λ holds.
-        let both = c.stays_in_order-walk.ensures.0 holds in
-        let last = c.turn_on-last.ensures in
-        let thread_is : turn_on mark (get_or rs i r).thread ≡ turn_on mark r.thread =
-            ap (λ (s : Record). turn_on mark s.thread) (sym read) in
-        let low = both.1 in (both.0, omega (arith, low, last, thread_is))))
+    let both = c.stays_in_order-walk.ensures.0 holds in
+    let last = c.turn_on-last.ensures in
+    let thread_is : turn_on mark (get_or rs i r).thread ≡ turn_on mark r.thread =
+    ap (λ (s : Record). turn_on mark s.thread) (sym read) in
+    let low = both.1 in (both.0, omega (arith, low, last, thread_is))))

@@ -13,24 +13,24 @@ next c =
     let within = c.chain-test.true in
     let at = c.chain.at in
     let there : slice_get c.args.chains.now.nexts.items at ≡ Some c.index-at-in-chain.result.now =
-        slice_get_read c.args.chains.now.nexts.items (length c.args.records.now)
-            at c.index-at-in-chain.result.now (sym chains.all) within c.index-at-in-chain.ensures in
+    slice_get_read c.args.chains.now.nexts.items (length c.args.records.now)
+    at c.index-at-in-chain.result.now (sym chains.all) within c.index-at-in-chain.ensures in
     chains.goes_on at c.args.thread c.index-at-in-chain.result.now (omega arith) (c.chain.invariant.is within)
-        there
+    there
 
 pub chain-init : goal.chain-init
 chain-init c =
     let chains = c.requires.chains in
     let there : slice_get c.args.chains.now.firsts.items c.args.thread ≡ Some c.index-at.result.now =
-        slice_get_read c.args.chains.now.firsts.items 256 c.args.thread c.index-at.result.now
-            (sym chains.threads) c.requires.thread c.index-at.ensures in
+    slice_get_read c.args.chains.now.firsts.items 256 c.args.thread c.index-at.result.now
+    (sym chains.threads) c.requires.thread c.index-at.ensures in
     let first = chains.begin c.args.thread c.index-at.result.now there in
     record {
       within = first.within;
       is = first.is;
       walk =
           walk_skip c.args.records.now c.args.family.now.tasks c.args.thread 0 c.index-at.result.now
-              c.args.walk.now first c.requires.before;
+          c.args.walk.now first c.requires.before;
     }
 
 pub chain-smaller : goal.chain-smaller
@@ -44,11 +44,11 @@ chain-preserved c =
       is = first.is;
       walk =
           walk_skip c.args.records.now c.args.family.now.tasks c.args.thread (c.chain.at + 1)
-              c.index-at-in-chain.result.now c.visit.new.walk first
-              (c.visit.ensures c.args.thread (c.chain.invariant.is c.chain-test.true));
+          c.index-at-in-chain.result.now c.visit.new.walk first
+          (c.visit.ensures c.args.thread (c.chain.invariant.is c.chain-test.true));
     }
 
 pub returns : goal.returns
 returns c =
     walk_next c.args.records.now c.args.family.now.tasks c.args.thread c.chain.at c.chain.walk
-        (omega (arith, c.chain-test.false)) c.chain.invariant.walk
+    (omega (arith, c.chain-test.false)) c.chain.invariant.walk

@@ -16,17 +16,17 @@ loop-index-preserved c =
       | in-Some w ↦
           let team = w.in-Some.team in
           let is_team : slice_get teams n ≡ Some (Some team) =
-              here ∙ ap Some (sym c.get.ensures ∙ w.in-Some.is) in
+          here ∙ ap Some (sym c.get.ensures ∙ w.in-Some.is) in
           let below = c.requires.within n team is_team in
           let all = c.loop-index.invariant.all in
           let within : team < length fewest = omega (arith, below, all) in
           rw w.fewest-is
-              (fewest_more teams begins n team w.index.result.now (length w.row.result.now) w.lesser.result
-                  fewest c.loop-index.invariant is_team
-                  (read_at fewest team w.index.result.now within w.index.ensures) (ap length w.row.ensures)
-                  w.lesser.ensures)
+          (fewest_more teams begins n team w.index.result.now (length w.row.result.now) w.lesser.result
+          fewest c.loop-index.invariant is_team
+          (read_at fewest team w.index.result.now within w.index.ensures) (ap length w.row.ensures)
+          w.lesser.ensures)
       | in_default w ↦
           rw w.fewest-is
-              (fewest_same teams begins n fewest c.loop-index.invariant
-                  (here ∙ ap Some (sym c.get.ensures ∙ w.in_default.is)))
+          (fewest_same teams begins n fewest c.loop-index.invariant
+          (here ∙ ap Some (sym c.get.ensures ∙ w.in_default.is)))
     ]

@@ -13,15 +13,15 @@ pub returns-in_default-clause-members : goal.returns-in_default-clause-members
 returns-in_default-clause-members c =
     let run = c.args.run.now in
     members_none run c.args.at c.args.members.now c.requires.members
-        (call_none run.family.tasks (at begun_root run.records c.args.at) c.begun_root.result
-            c.begun_root.ensures c.in_default.is)
+    (call_none run.family.tasks (at begun_root run.records c.args.at) c.begun_root.result
+    c.begun_root.ensures c.in_default.is)
 
 pub some-requires : goal.some-requires
 some-requires c =
     let run = c.args.run.now in
     let own =
-        call_task run.family.tasks (at begun_root run.records c.args.at) c.begun_root.result c.in-Some.index
-            c.begun_root.ensures c.in-Some.is in
+    call_task run.family.tasks (at begun_root run.records c.args.at) c.begun_root.result c.in-Some.index
+    c.begun_root.ensures c.in-Some.is in
     let inside = slice_get_within run.family.tasks c.in-Some.index own.0 own.2 in
     let few = c.task_count-tasks.ensures.is_run.family.makers.few in
     let many = c.task_count-tasks.ensures.is_run.trace.few_records in
@@ -31,8 +31,8 @@ pub index_mut-requires : goal.index_mut-requires
 index_mut-requires c =
     let run = c.args.run.now in
     let own =
-        call_task run.family.tasks (at begun_root run.records c.args.at) c.begun_root.result c.in-Some.index
-            c.begun_root.ensures c.in-Some.is in
+    call_task run.family.tasks (at begun_root run.records c.args.at) c.begun_root.result c.in-Some.index
+    c.begun_root.ensures c.in-Some.is in
     let inside = slice_get_within run.family.tasks c.in-Some.index own.0 own.2 in
     let all = c.requires.members.teams.all in
     let within : c.in-Some.index < length c.args.members.now.teams.items = omega (arith, inside, all) in
@@ -44,15 +44,15 @@ returns-in_default-joined-clause-members c =
     let rs = run.records in
     let tasks = run.family.tasks in
     let own =
-        call_task tasks (at begun_root rs c.args.at) c.begun_root.result c.in-Some.index c.begun_root.ensures
-            c.in-Some.is in
+    call_task tasks (at begun_root rs c.args.at) c.begun_root.result c.in-Some.index c.begun_root.ensures
+    c.in-Some.is in
     let none : at joined rs c.args.at ≡ None = sym c.joined.ensures ∙ c.in_default-joined.is in
     record {
       teams =
           team_put rs c.args.at c.in-Some.index own.0 c.in-Some.index c.some.result tasks
-              c.args.members.now.teams.items c.task_count-tasks.ensures.is_run.family.makers.apart
-              c.requires.members.teams own.2 own.1
-              (there_alone own.0 (root_at_initial rs c.args.at own.0 own.1 none) refl) c.some.ensures;
+          c.args.members.now.teams.items c.task_count-tasks.ensures.is_run.family.makers.apart
+          c.requires.members.teams own.2 own.1
+          (there_alone own.0 (root_at_initial rs c.args.at own.0 own.1 none) refl) c.some.ensures;
       sizes = sizes_same rs c.args.at tasks c.args.members.now.sizes.items c.requires.members.sizes none;
     }
 
@@ -63,13 +63,13 @@ some-requires-2 c =
     let tasks = run.family.tasks in
     let m = c.in-Some-joined.member in
     let own =
-        call_task tasks (at begun_root rs c.args.at) c.begun_root.result c.in-Some.index c.begun_root.ensures
-            c.in-Some.is in
+    call_task tasks (at begun_root rs c.args.at) c.begun_root.result c.in-Some.index c.begun_root.ensures
+    c.in-Some.is in
     let joins : at joined rs c.args.at ≡ Some m = sym c.joined.ensures ∙ c.in-Some-joined.is in
     let is = own.2 ∙ ap Some (same_Some own.0 m.member (sym own.1 ∙ joined_at_root rs c.args.at m joins)) in
     let leads =
-        lead_of_is rs c.args.at tasks c.args.leads.now c.lead_of.new.leads m c.in-Some.index c.in_ok-lead.lead
-            c.requires.leads joins is c.in_ok-lead.ensures in
+    lead_of_is rs c.args.at tasks c.args.leads.now c.lead_of.new.leads m c.in-Some.index c.in_ok-lead.lead
+    c.requires.leads joins is c.in_ok-lead.ensures in
     let inside = slice_get_within tasks c.in_ok-lead.lead leads.first.member leads.here in
     let few = c.task_count-tasks.ensures.is_run.family.makers.few in
     let many = c.task_count-tasks.ensures.is_run.trace.few_records in
@@ -79,8 +79,8 @@ pub index_mut-requires-2 : goal.index_mut-requires-2
 index_mut-requires-2 c =
     let run = c.args.run.now in
     let own =
-        call_task run.family.tasks (at begun_root run.records c.args.at) c.begun_root.result c.in-Some.index
-            c.begun_root.ensures c.in-Some.is in
+    call_task run.family.tasks (at begun_root run.records c.args.at) c.begun_root.result c.in-Some.index
+    c.begun_root.ensures c.in-Some.is in
     let inside = slice_get_within run.family.tasks c.in-Some.index own.0 own.2 in
     let all = c.requires.members.teams.all in
     let within : c.in-Some.index < length c.args.members.now.teams.items = omega (arith, inside, all) in
@@ -93,16 +93,16 @@ index_mut-requires-3 c =
     let tasks = run.family.tasks in
     let m = c.in-Some-joined.member in
     let own =
-        call_task tasks (at begun_root rs c.args.at) c.begun_root.result c.in-Some.index c.begun_root.ensures
-            c.in-Some.is in
+    call_task tasks (at begun_root rs c.args.at) c.begun_root.result c.in-Some.index c.begun_root.ensures
+    c.in-Some.is in
     let joins : at joined rs c.args.at ≡ Some m = sym c.joined.ensures ∙ c.in-Some-joined.is in
     let is = own.2 ∙ ap Some (same_Some own.0 m.member (sym own.1 ∙ joined_at_root rs c.args.at m joins)) in
     let leads =
-        lead_of_is rs c.args.at tasks c.args.leads.now c.lead_of.new.leads m c.in-Some.index c.in_ok-lead.lead
-            c.requires.leads joins is c.in_ok-lead.ensures in
+    lead_of_is rs c.args.at tasks c.args.leads.now c.lead_of.new.leads m c.in-Some.index c.in_ok-lead.lead
+    c.requires.leads joins is c.in_ok-lead.ensures in
     let within : c.in_ok-lead.lead < length c.args.members.now.sizes.items =
-        lead_within rs tasks c.args.members.now.sizes.items m.parallel c.in_ok-lead.lead leads
-            c.requires.members.sizes.all in
+    lead_within rs tasks c.args.members.now.sizes.items m.parallel c.in_ok-lead.lead leads
+    c.requires.members.sizes.all in
     search rules
 
 pub overflow_add-index_mut : goal.overflow_add-index_mut
@@ -113,13 +113,13 @@ overflow_add-index_mut c =
     let m = c.in-Some-joined.member in
     let sizes = c.args.members.now.sizes.items in
     let own =
-        call_task tasks (at begun_root rs c.args.at) c.begun_root.result c.in-Some.index c.begun_root.ensures
-            c.in-Some.is in
+    call_task tasks (at begun_root rs c.args.at) c.begun_root.result c.in-Some.index c.begun_root.ensures
+    c.in-Some.is in
     let joins : at joined rs c.args.at ≡ Some m = sym c.joined.ensures ∙ c.in-Some-joined.is in
     let is = own.2 ∙ ap Some (same_Some own.0 m.member (sym own.1 ∙ joined_at_root rs c.args.at m joins)) in
     let leads =
-        lead_of_is rs c.args.at tasks c.args.leads.now c.lead_of.new.leads m c.in-Some.index c.in_ok-lead.lead
-            c.requires.leads joins is c.in_ok-lead.ensures in
+    lead_of_is rs c.args.at tasks c.args.leads.now c.lead_of.new.leads m c.in-Some.index c.in_ok-lead.lead
+    c.requires.leads joins is c.in_ok-lead.ensures in
     let within = lead_within rs tasks sizes m.parallel c.in_ok-lead.lead leads c.requires.members.sizes.all in
     let there : IsLeadAt rs tasks c.args.at c.in_ok-lead.lead = record {
       member = m;
@@ -127,9 +127,9 @@ overflow_add-index_mut c =
       leads = leads;
     } in
     let few =
-        size_few rs c.args.at tasks sizes c.in_ok-lead.lead c.index_mut-3.result.now c.requires.members.sizes
-            there
-            (read_at sizes c.in_ok-lead.lead c.index_mut-3.result.now within c.index_mut-3.ensures.value) in
+    size_few rs c.args.at tasks sizes c.in_ok-lead.lead c.index_mut-3.result.now c.requires.members.sizes
+    there
+    (read_at sizes c.in_ok-lead.lead c.index_mut-3.result.now within c.index_mut-3.ensures.value) in
     let many = c.task_count-tasks.ensures.is_run.trace.few_records in
     let inside = c.requires.within in
     let small : c.index_mut-3.result.now < 2 ^ 22 = omega (arith, few, many, inside) in
@@ -145,22 +145,22 @@ returns-clause-members c =
     let sizes = c.args.members.now.sizes.items in
     let is_run = c.task_count-tasks.ensures.is_run in
     let own =
-        call_task tasks (at begun_root rs c.args.at) c.begun_root.result c.in-Some.index c.begun_root.ensures
-            c.in-Some.is in
+    call_task tasks (at begun_root rs c.args.at) c.begun_root.result c.in-Some.index c.begun_root.ensures
+    c.in-Some.is in
     let joins : at joined rs c.args.at ≡ Some m = sym c.joined.ensures ∙ c.in-Some-joined.is in
     let is = own.2 ∙ ap Some (same_Some own.0 m.member (sym own.1 ∙ joined_at_root rs c.args.at m joins)) in
     let leads =
-        lead_of_is rs c.args.at tasks c.args.leads.now c.lead_of.new.leads m c.in-Some.index lead
-            c.requires.leads joins is c.in_ok-lead.ensures in
+    lead_of_is rs c.args.at tasks c.args.leads.now c.lead_of.new.leads m c.in-Some.index lead
+    c.requires.leads joins is c.in_ok-lead.ensures in
     let within = lead_within rs tasks sizes m.parallel lead leads c.requires.members.sizes.all in
     let there : IsLeadAt rs tasks c.args.at lead = record { member = m; joins = joins; leads = leads } in
     record {
       teams =
           team_put rs c.args.at c.in-Some.index own.0 lead c.some-2.result tasks
-              c.args.members.now.teams.items is_run.family.makers.apart c.requires.members.teams own.2 own.1
-              (there_joined m joins leads) c.some-2.ensures;
+          c.args.members.now.teams.items is_run.family.makers.apart c.requires.members.teams own.2 own.1
+          (there_joined m joins leads) c.some-2.ensures;
       sizes =
           sizes_more rs c.args.at tasks sizes lead c.index_mut-3.result.now is_run.family.once
-              is_run.family.makers.apart c.requires.members.sizes there
-              (read_at sizes lead c.index_mut-3.result.now within c.index_mut-3.ensures.value);
+          is_run.family.makers.apart c.requires.members.sizes there
+          (read_at sizes lead c.index_mut-3.result.now within c.index_mut-3.ensures.value);
     }

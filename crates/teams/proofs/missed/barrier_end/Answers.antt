@@ -10,10 +10,10 @@ pub returns-in_err-event : goal.returns-in_err-event
 returns-in_err-event c =
     let P : RunView → Type 0 = λ r. IsNoWaitEvent r c.args.number in
     let silent : IsNoWaitEvent c.args.regions.now.own.run c.args.number =
-        subst P (c.run.ensures.value ∙ ap (λ (o : OwnView). o.run) c.own.ensures.value)
-            c.in_err-event.ensures in
+    subst P (c.run.ensures.value ∙ ap (λ (o : OwnView). o.run) c.own.ensures.value)
+    c.in_err-event.ensures in
     let none : EndsNoBarrier c.args.regions.now.own.run.records c.args.number =
-        no_event_end c.args.regions.now.own.run c.args.number silent in
+    no_event_end c.args.regions.now.own.run c.args.number silent in
     rw c.from_residual.ensures none
 
 pub returns-then-ne : goal.returns-then-ne
@@ -21,8 +21,8 @@ returns-then-ne c =
     let event = c.in_ok-event.event in
     let P : RunView → Type 0 = λ r. IsWaitEvent r c.args.number event.task event.kind event.endpoint in
     let is : IsWaitEvent c.args.regions.now.own.run c.args.number event.task event.kind event.endpoint =
-        subst P (c.run.ensures.value ∙ ap (λ (o : OwnView). o.run) c.own.ensures.value)
-            c.in_ok-event.ensures in
+    subst P (c.run.ensures.value ∙ ap (λ (o : OwnView). o.run) c.own.ensures.value)
+    c.in_ok-event.ensures in
     let apart : event.kind ≡ Barrier → ⊥ = search rules in
     other_event_end c.args.regions.now.own.run c.args.number event.task event.kind event.endpoint is apart
 
@@ -31,8 +31,8 @@ returns c =
     let event = c.in_ok-event.event in
     let P : RunView → Type 0 = λ r. IsWaitEvent r c.args.number event.task event.kind event.endpoint in
     let is : IsWaitEvent c.args.regions.now.own.run c.args.number event.task event.kind event.endpoint =
-        subst P (c.run.ensures.value ∙ ap (λ (o : OwnView). o.run) c.own.ensures.value)
-            c.in_ok-event.ensures in
+    subst P (c.run.ensures.value ∙ ap (λ (o : OwnView). o.run) c.own.ensures.value)
+    c.in_ok-event.ensures in
     let same : event.kind ≡ Barrier = search rules in
     event_end c.args.regions.now.own.run c.args.number event.task c.in_ok-begin.begin event.kind
-        event.endpoint is same c.in_ok-begin.ensures
+    event.endpoint is same c.in_ok-begin.ensures

@@ -21,17 +21,17 @@ returns-then-is_some c =
     let is_task = slice_get-get_or tasks c.args.index 0 c.requires in
     let P : RunView → Type 0 = λ r. at made r.records place ≡ slice_get r.family.tasks c.args.index in
     let Q : RunView → Type 0 =
-        λ r. Calls r.family.tasks (at begun_initial r.records place) c.begun_initial.result in
+    λ r. Calls r.family.tasks (at begun_initial r.records place) c.begun_initial.result in
     let is_made = subst P c.run-run.ensures.value c.made_at.ensures ∙ is_task in
     let begins =
-        called_there tasks (at begun_initial rs place) c.begun_initial.result
-            (subst Q c.run-run.ensures.value c.begun_initial.ensures) (sym c.if-is_some.ensures) in
+    called_there tasks (at begun_initial rs place) c.begun_initial.result
+    (subst Q c.run-run.ensures.value c.begun_initial.ensures) (sym c.if-is_some.ensures) in
     IfOk-weaker c.same_seats.result (λ seats. seats.items ≡ replicate 1 c.some.result)
-        (λ seats. AreFirstSeats rs tasks tables.sizes c.args.index seats.items)
-        (λ seats is.
-            own_seat task is_task (initial_there rs place task begins.0 is_made begins.1)
-                (is ∙ ap (λ s. replicate 1 s) c.some.ensures))
-        c.same_seats.ensures
+    (λ seats. AreFirstSeats rs tasks tables.sizes c.args.index seats.items)
+    (λ seats is.
+    own_seat task is_task (initial_there rs place task begins.0 is_made begins.1)
+    (is ∙ ap (λ s. replicate 1 s) c.some.ensures))
+    c.same_seats.ensures
 
 pub returns-else-is_some : goal.returns-else-is_some
 returns-else-is_some c =
@@ -44,15 +44,15 @@ returns-else-is_some c =
     let is_task = slice_get-get_or tasks c.args.index 0 c.requires in
     let P : RunView → Type 0 = λ r. at made r.records place ≡ slice_get r.family.tasks c.args.index in
     let Q : RunView → Type 0 =
-        λ r. Calls r.family.tasks (at begun_initial r.records place) c.begun_initial.result in
+    λ r. Calls r.family.tasks (at begun_initial r.records place) c.begun_initial.result in
     let is_made = subst P c.run-run.ensures.value c.made_at.ensures ∙ is_task in
     let none =
-        never_called tasks (at begun_initial rs place) c.begun_initial.result
-            (subst Q c.run-run.ensures.value c.begun_initial.ensures) (sym c.if-is_some.ensures) in
+    never_called tasks (at begun_initial rs place) c.begun_initial.result
+    (subst Q c.run-run.ensures.value c.begun_initial.ensures) (sym c.if-is_some.ensures) in
     IfOk-weaker c.same_seats-else-is_some.result (λ seats. seats.items ≡ replicate size c.none.result)
-        (λ seats. AreFirstSeats rs tasks tables.sizes c.args.index seats.items)
-        (λ seats is.
-            empty task size is_task
-                (not_initial_there rs place task c.run-run.ensures.are_tables.run.family.once is_made none)
-                c.size.ensures (is ∙ ap (λ s. replicate size s) c.none.ensures))
-        c.same_seats-else-is_some.ensures
+    (λ seats. AreFirstSeats rs tasks tables.sizes c.args.index seats.items)
+    (λ seats is.
+    empty task size is_task
+    (not_initial_there rs place task c.run-run.ensures.are_tables.run.family.once is_made none)
+    c.size.ensures (is ∙ ap (λ s. replicate size s) c.none.ensures))
+    c.same_seats-else-is_some.ensures

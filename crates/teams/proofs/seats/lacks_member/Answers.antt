@@ -15,10 +15,11 @@ returns-in_default c =
     let tables = c.args.tables.now in
     let P : RunView → Type 0 = λ r. c.joined.result ≡ at joined r.records c.args.at in
     let none : at joined tables.run.records c.args.at ≡ None =
-        sym (subst P c.run-run.ensures.value c.joined.ensures) ∙ c.in_default.is in
-    (lacks_none tables.run.records c.args.at none,
-        seated_same tables.run.records c.args.at tables.run.family.tasks c.args.rosters.now.items
-            c.requires.seated none)
+    sym (subst P c.run-run.ensures.value c.joined.ensures) ∙ c.in_default.is in (
+      lacks_none tables.run.records c.args.at none,
+      seated_same tables.run.records c.args.at tables.run.family.tasks c.args.rosters.now.items
+          c.requires.seated none,
+    )
 
 pub team-requires : goal.team-requires
 team-requires c =
@@ -30,13 +31,13 @@ team-requires c =
     let index = c.in-Some-begun_root.index in
     let P : RunView → Type 0 = λ r. c.joined.result ≡ at joined r.records c.args.at in
     let Q : RunView → Type 0 =
-        λ r. Calls r.family.tasks (at begun_root r.records c.args.at) c.begun_root.result in
+    λ r. Calls r.family.tasks (at begun_root r.records c.args.at) c.begun_root.result in
     let joins : at joined rs c.args.at ≡ Some m =
-        sym (subst P c.run-run.ensures.value c.joined.ensures) ∙ c.in-Some.is in
+    sym (subst P c.run-run.ensures.value c.joined.ensures) ∙ c.in-Some.is in
     let is =
-        call_same tasks (at begun_root rs c.args.at) c.begun_root.result index m.member
-            (subst Q c.run-run.ensures.value c.begun_root.ensures) c.in-Some-begun_root.is
-            (joined_at_root rs c.args.at m joins) in
+    call_same tasks (at begun_root rs c.args.at) c.begun_root.result index m.member
+    (subst Q c.run-run.ensures.value c.begun_root.ensures) c.in-Some-begun_root.is
+    (joined_at_root rs c.args.at m joins) in
     let inside = slice_get_within tasks index m.member is in
     let all = are.teams.all in
     omega (arith, inside, all)
@@ -51,16 +52,16 @@ returns-in_default-team c =
     let index = c.in-Some-begun_root.index in
     let P : RunView → Type 0 = λ r. c.joined.result ≡ at joined r.records c.args.at in
     let Q : RunView → Type 0 =
-        λ r. Calls r.family.tasks (at begun_root r.records c.args.at) c.begun_root.result in
+    λ r. Calls r.family.tasks (at begun_root r.records c.args.at) c.begun_root.result in
     let joins : at joined rs c.args.at ≡ Some m =
-        sym (subst P c.run-run.ensures.value c.joined.ensures) ∙ c.in-Some.is in
+    sym (subst P c.run-run.ensures.value c.joined.ensures) ∙ c.in-Some.is in
     let is =
-        call_same tasks (at begun_root rs c.args.at) c.begun_root.result index m.member
-            (subst Q c.run-run.ensures.value c.begun_root.ensures) c.in-Some-begun_root.is
-            (joined_at_root rs c.args.at m joins) in
+    call_same tasks (at begun_root rs c.args.at) c.begun_root.result index m.member
+    (subst Q c.run-run.ensures.value c.begun_root.ensures) c.in-Some-begun_root.is
+    (joined_at_root rs c.args.at m joins) in
     let none =
-        lead_there rs tasks tables.teams c.args.at index m None are.run.family.once are.teams joins is
-            (c.team.ensures ∙ ap Some c.in_default-team.is) in
+    lead_there rs tasks tables.teams c.args.at index m None are.run.family.once are.teams joins is
+    (c.team.ensures ∙ ap Some c.in_default-team.is) in
     absurd (never_of (at joined rs c.args.at) m none joins)
 
 pub fits-requires-clause-joins : goal.fits-requires-clause-joins
@@ -73,17 +74,17 @@ fits-requires-clause-joins c =
     let index = c.in-Some-begun_root.index in
     let P : RunView → Type 0 = λ r. c.joined.result ≡ at joined r.records c.args.at in
     let Q : RunView → Type 0 =
-        λ r. Calls r.family.tasks (at begun_root r.records c.args.at) c.begun_root.result in
+    λ r. Calls r.family.tasks (at begun_root r.records c.args.at) c.begun_root.result in
     let joins : at joined rs c.args.at ≡ Some m =
-        sym (subst P c.run-run.ensures.value c.joined.ensures) ∙ c.in-Some.is in
+    sym (subst P c.run-run.ensures.value c.joined.ensures) ∙ c.in-Some.is in
     let is =
-        call_same tasks (at begun_root rs c.args.at) c.begun_root.result index m.member
-            (subst Q c.run-run.ensures.value c.begun_root.ensures) c.in-Some-begun_root.is
-            (joined_at_root rs c.args.at m joins) in
+    call_same tasks (at begun_root rs c.args.at) c.begun_root.result index m.member
+    (subst Q c.run-run.ensures.value c.begun_root.ensures) c.in-Some-begun_root.is
+    (joined_at_root rs c.args.at m joins) in
     let lead = c.in-Some-team.lead in
     let there =
-        lead_there rs tasks tables.teams c.args.at index m (Some lead) are.run.family.once are.teams joins is
-            (c.team.ensures ∙ ap Some c.in-Some-team.is) in
+    lead_there rs tasks tables.teams c.args.at index m (Some lead) are.run.family.once are.teams joins is
+    (c.team.ensures ∙ ap Some c.in-Some-team.is) in
     let leads = lead_of_member rs tasks c.args.at lead m there joins in
     record { joins = joins; leads = leads }
 
@@ -97,20 +98,20 @@ index_mut-requires c =
     let index = c.in-Some-begun_root.index in
     let P : RunView → Type 0 = λ r. c.joined.result ≡ at joined r.records c.args.at in
     let Q : RunView → Type 0 =
-        λ r. Calls r.family.tasks (at begun_root r.records c.args.at) c.begun_root.result in
+    λ r. Calls r.family.tasks (at begun_root r.records c.args.at) c.begun_root.result in
     let joins : at joined rs c.args.at ≡ Some m =
-        sym (subst P c.run-run.ensures.value c.joined.ensures) ∙ c.in-Some.is in
+    sym (subst P c.run-run.ensures.value c.joined.ensures) ∙ c.in-Some.is in
     let is =
-        call_same tasks (at begun_root rs c.args.at) c.begun_root.result index m.member
-            (subst Q c.run-run.ensures.value c.begun_root.ensures) c.in-Some-begun_root.is
-            (joined_at_root rs c.args.at m joins) in
+    call_same tasks (at begun_root rs c.args.at) c.begun_root.result index m.member
+    (subst Q c.run-run.ensures.value c.begun_root.ensures) c.in-Some-begun_root.is
+    (joined_at_root rs c.args.at m joins) in
     let lead = c.in-Some-team.lead in
     let there =
-        lead_there rs tasks tables.teams c.args.at index m (Some lead) are.run.family.once are.teams joins is
-            (c.team.ensures ∙ ap Some c.in-Some-team.is) in
+    lead_there rs tasks tables.teams c.args.at index m (Some lead) are.run.family.once are.teams joins is
+    (c.team.ensures ∙ ap Some c.in-Some-team.is) in
     let leads = lead_of_member rs tasks c.args.at lead m there joins in
     let within : lead < length c.args.rosters.now.items =
-        lead_within rs tasks c.args.rosters.now.items m.parallel lead leads c.requires.seated.all in
+    lead_within rs tasks c.args.rosters.now.items m.parallel lead leads c.requires.seated.all in
     search rules
 
 pub take_seat-requires-clause-inside : goal.take_seat-requires-clause-inside
@@ -123,17 +124,17 @@ take_seat-requires-clause-inside c =
     let index = c.in-Some-begun_root.index in
     let P : RunView → Type 0 = λ r. c.joined.result ≡ at joined r.records c.args.at in
     let Q : RunView → Type 0 =
-        λ r. Calls r.family.tasks (at begun_root r.records c.args.at) c.begun_root.result in
+    λ r. Calls r.family.tasks (at begun_root r.records c.args.at) c.begun_root.result in
     let joins : at joined rs c.args.at ≡ Some m =
-        sym (subst P c.run-run.ensures.value c.joined.ensures) ∙ c.in-Some.is in
+    sym (subst P c.run-run.ensures.value c.joined.ensures) ∙ c.in-Some.is in
     let is =
-        call_same tasks (at begun_root rs c.args.at) c.begun_root.result index m.member
-            (subst Q c.run-run.ensures.value c.begun_root.ensures) c.in-Some-begun_root.is
-            (joined_at_root rs c.args.at m joins) in
+    call_same tasks (at begun_root rs c.args.at) c.begun_root.result index m.member
+    (subst Q c.run-run.ensures.value c.begun_root.ensures) c.in-Some-begun_root.is
+    (joined_at_root rs c.args.at m joins) in
     let lead = c.in-Some-team.lead in
     let there =
-        lead_there rs tasks tables.teams c.args.at index m (Some lead) are.run.family.once are.teams joins is
-            (c.team.ensures ∙ ap Some c.in-Some-team.is) in
+    lead_there rs tasks tables.teams c.args.at index m (Some lead) are.run.family.once are.teams joins is
+    (c.team.ensures ∙ ap Some c.in-Some-team.is) in
     let leads = lead_of_member rs tasks c.args.at lead m there joins in
     let old = c.index_mut.result.now in
     let within = lead_within rs tasks c.args.rosters.now.items m.parallel lead leads c.requires.seated.all in
@@ -151,13 +152,13 @@ take_seat-requires-clause-small c =
     let index = c.in-Some-begun_root.index in
     let P : RunView → Type 0 = λ r. c.joined.result ≡ at joined r.records c.args.at in
     let Q : RunView → Type 0 =
-        λ r. Calls r.family.tasks (at begun_root r.records c.args.at) c.begun_root.result in
+    λ r. Calls r.family.tasks (at begun_root r.records c.args.at) c.begun_root.result in
     let joins : at joined rs c.args.at ≡ Some m =
-        sym (subst P c.run-run.ensures.value c.joined.ensures) ∙ c.in-Some.is in
+    sym (subst P c.run-run.ensures.value c.joined.ensures) ∙ c.in-Some.is in
     let is =
-        call_same tasks (at begun_root rs c.args.at) c.begun_root.result index m.member
-            (subst Q c.run-run.ensures.value c.begun_root.ensures) c.in-Some-begun_root.is
-            (joined_at_root rs c.args.at m joins) in
+    call_same tasks (at begun_root rs c.args.at) c.begun_root.result index m.member
+    (subst Q c.run-run.ensures.value c.begun_root.ensures) c.in-Some-begun_root.is
+    (joined_at_root rs c.args.at m joins) in
     let inside = slice_get_within tasks index m.member is in
     let few = are.run.family.makers.few in
     let many = are.run.trace.few_records in
@@ -173,17 +174,17 @@ returns-then-take_seat c =
     let index = c.in-Some-begun_root.index in
     let P : RunView → Type 0 = λ r. c.joined.result ≡ at joined r.records c.args.at in
     let Q : RunView → Type 0 =
-        λ r. Calls r.family.tasks (at begun_root r.records c.args.at) c.begun_root.result in
+    λ r. Calls r.family.tasks (at begun_root r.records c.args.at) c.begun_root.result in
     let joins : at joined rs c.args.at ≡ Some m =
-        sym (subst P c.run-run.ensures.value c.joined.ensures) ∙ c.in-Some.is in
+    sym (subst P c.run-run.ensures.value c.joined.ensures) ∙ c.in-Some.is in
     let is =
-        call_same tasks (at begun_root rs c.args.at) c.begun_root.result index m.member
-            (subst Q c.run-run.ensures.value c.begun_root.ensures) c.in-Some-begun_root.is
-            (joined_at_root rs c.args.at m joins) in
+    call_same tasks (at begun_root rs c.args.at) c.begun_root.result index m.member
+    (subst Q c.run-run.ensures.value c.begun_root.ensures) c.in-Some-begun_root.is
+    (joined_at_root rs c.args.at m joins) in
     let lead = c.in-Some-team.lead in
     let there =
-        lead_there rs tasks tables.teams c.args.at index m (Some lead) are.run.family.once are.teams joins is
-            (c.team.ensures ∙ ap Some c.in-Some-team.is) in
+    lead_there rs tasks tables.teams c.args.at index m (Some lead) are.run.family.once are.teams joins is
+    (c.team.ensures ∙ ap Some c.in-Some-team.is) in
     let leads = lead_of_member rs tasks c.args.at lead m there joins in
     let old = c.index_mut.result.now in
     let within = lead_within rs tasks c.args.rosters.now.items m.parallel lead leads c.requires.seated.all in
@@ -200,7 +201,7 @@ pub returns-then-not-fits : goal.returns-then-not-fits
 returns-then-not-fits c =
     let P : RunView → Type 0 = λ r. c.joined.result ≡ at joined r.records c.args.at in
     let joins : at joined c.args.tables.now.run.records c.args.at ≡ Some c.in-Some.member =
-        sym (subst P c.run-run.ensures.value c.joined.ensures) ∙ c.in-Some.is in
+    sym (subst P c.run-run.ensures.value c.joined.ensures) ∙ c.in-Some.is in
     (ap is_some joins, c.if-not-fits.ensures)
 
 pub returns : goal.returns
@@ -213,22 +214,23 @@ returns c =
     let index = c.in-Some-begun_root.index in
     let P : RunView → Type 0 = λ r. c.joined.result ≡ at joined r.records c.args.at in
     let Q : RunView → Type 0 =
-        λ r. Calls r.family.tasks (at begun_root r.records c.args.at) c.begun_root.result in
+    λ r. Calls r.family.tasks (at begun_root r.records c.args.at) c.begun_root.result in
     let joins : at joined rs c.args.at ≡ Some m =
-        sym (subst P c.run-run.ensures.value c.joined.ensures) ∙ c.in-Some.is in
+    sym (subst P c.run-run.ensures.value c.joined.ensures) ∙ c.in-Some.is in
     let is =
-        call_same tasks (at begun_root rs c.args.at) c.begun_root.result index m.member
-            (subst Q c.run-run.ensures.value c.begun_root.ensures) c.in-Some-begun_root.is
-            (joined_at_root rs c.args.at m joins) in
+    call_same tasks (at begun_root rs c.args.at) c.begun_root.result index m.member
+    (subst Q c.run-run.ensures.value c.begun_root.ensures) c.in-Some-begun_root.is
+    (joined_at_root rs c.args.at m joins) in
     let lead = c.in-Some-team.lead in
     let there =
-        lead_there rs tasks tables.teams c.args.at index m (Some lead) are.run.family.once are.teams joins is
-            (c.team.ensures ∙ ap Some c.in-Some-team.is) in
+    lead_there rs tasks tables.teams c.args.at index m (Some lead) are.run.family.once are.teams joins is
+    (c.team.ensures ∙ ap Some c.in-Some-team.is) in
     let leads = lead_of_member rs tasks c.args.at lead m there joins in
     let old = c.index_mut.result.now in
     let within = lead_within rs tasks c.args.rosters.now.items m.parallel lead leads c.requires.seated.all in
     let stands = read_at c.args.rosters.now.items lead old within c.index_mut.ensures.value in
-    let seats = c.requires.seated.each m.parallel lead old leads stands in
-    (ap is_some joins,
-        seat_taken rs c.args.at tasks m old.items c.if-take_seat.ensures.0 joins seats
-            c.if-take_seat.ensures.1)
+    let seats = c.requires.seated.each m.parallel lead old leads stands in (
+      ap is_some joins,
+      seat_taken rs c.args.at tasks m old.items c.if-take_seat.ensures.0 joins seats
+          c.if-take_seat.ensures.1,
+    )

@@ -12,11 +12,11 @@ returns c =
     let rosters = c.seat_members-lacking.new.rosters.items in
     let lacking = c.seat_members-lacking.result in
     let count : c.len.result ≡ length own.run.records =
-        c.len.ensures.value ∙ ap (λ (r : RunView). length r.records) c.run.ensures.value in
+    c.len.ensures.value ∙ ap (λ (r : RunView). length r.records) c.run.ensures.value in
     let end : c.unwrap_or-end.result ≡ unwrap_or lacking (length own.run.records) =
-        c.unwrap_or-end.ensures ∙ ap (unwrap_or lacking) count in
+    c.unwrap_or-end.ensures ∙ ap (unwrap_or lacking) count in
     let P : ℕ → Type 0 = λ e. FindsMissed own e c.find_missed.result in
     let Q : Option ℕ → Type 0 = IsSearched own rosters in
     subst Q (sym c.or.ensures)
-        (searched own rosters lacking c.find_missed.result c.run.ensures.are_tables.placed
-            c.seat_members-lacking.ensures (subst P end c.find_missed.ensures))
+    (searched own rosters lacking c.find_missed.result c.run.ensures.are_tables.placed
+    c.seat_members-lacking.ensures (subst P end c.find_missed.ensures))

@@ -21,7 +21,7 @@ pub loop-number-preserved : goal.loop-number-preserved
 loop-number-preserved c = record {
   whole =
       whole_more c.args.tables.now.run.records c.loop-number.number c.loop-number.invariant.whole
-          c.if-lacks_member.ensures.0;
+      c.if-lacks_member.ensures.0;
   seated = c.if-lacks_member.ensures.1;
 }
 
@@ -29,9 +29,9 @@ pub returns : goal.returns
 returns c =
     let rs = c.args.tables.now.run.records in
     let count : c.len-number-end.result ≡ length rs =
-        c.len-number-end.ensures.value ∙ ap (λ (r : RunView). length r.records) c.run.ensures.value in
+    c.len-number-end.ensures.value ∙ ap (λ (r : RunView). length r.records) c.run.ensures.value in
     let last : c.loop-number.number ≡ length rs =
-        omega (arith, c.loop-number-test.false, c.loop-number.auto.number-end, count) in
+    omega (arith, c.loop-number-test.false, c.loop-number.auto.number-end, count) in
     let P : ℕ → Type 0 = IsWholeBefore rs in
     let Q : ℕ → Type 0 = λ n. AreSeated rs n c.args.tables.now.run.family.tasks c.loop-number.rosters.items in
     (subst P last c.loop-number.invariant.whole, subst Q last c.loop-number.invariant.seated)

@@ -71,6 +71,6 @@ returns-clause-ledger c = λ right.
       c.len-index-end.ensures,
       c.in-Ok.ensures.entries,
     ) in
-    are_all rs c.loop-index.ledger right.apart right.within ( subst (λ n. AreEntered rs n c.loop-index.ledger)
-        last
+    are_all rs c.loop-index.ledger right.apart right.within (subst (λ n. AreEntered rs n c.loop-index.ledger)
+    last
     (c.loop-index.invariant right))

@@ -8,11 +8,11 @@ use Rattle.wait_coverage.proofs.coverage.are_held.Goals as goal
 pub loop-index-preserved : goal.loop-index-preserved
 loop-index-preserved c =
     let here =
-        read_at c.args.spans.now c.loop-index.index c.index-spans-index.result c.loop-index-test.true
-            c.index-spans-index.is in
+    read_at c.args.spans.now c.loop-index.index c.index-spans-index.result c.loop-index-test.true
+    c.index-spans-index.is in
     held_more (take c.args.seen c.args.ledger.now) c.args.cover c.args.spans.now c.loop-index.index
-        c.index-spans-index.result c.loop-index.invariant here
-        (c.in_ok-is_held.ensures.held c.if-not-branch.false)
+    c.index-spans-index.result c.loop-index.invariant here
+    (c.in_ok-is_held.ensures.held c.if-not-branch.false)
 
 pub returns-clause-held : goal.returns-clause-held
 returns-clause-held c = λ all span has.
@@ -24,7 +24,7 @@ pub returns-then-not-branch-clause-all : goal.returns-then-not-branch-clause-all
 returns-then-not-branch-clause-all c = λ shallow held.
     let span = c.index-spans-index.result in
     let has =
-        get_contains c.args.spans.now span c.loop-index.index
-            (read_at c.args.spans.now c.loop-index.index span c.loop-index-test.true
-                c.index-spans-index.is) in
+    get_contains c.args.spans.now span c.loop-index.index
+    (read_at c.args.spans.now c.loop-index.index span c.loop-index-test.true
+    c.index-spans-index.is) in
     sym c.if-not-branch.true ∙ c.in_ok-is_held.ensures.all (shallow span has) (held span has)

@@ -8,4 +8,4 @@ use Rattle.wait_coverage.proofs.coverage.are_held.Given as goal
 abbrev pub invariant-loop-index : goal.invariant-loop-index
 invariant-loop-index l =
     (k : ℕ) (span : Span) → k < l.index → slice_get l.spans k ≡ Some span
-        → IsSpanHeld (take l.seen l.ledger) span l.cover
+    → IsSpanHeld (take l.seen l.ledger) span l.cover

@@ -11,7 +11,7 @@ loop-place-init c = record {
   ends = ends_start (own_of c.args.teams.now) c.new-ends.result.items c.new-ends.ensures.items;
   waits =
       waits_start (own_of c.args.teams.now) c.new-ends.result.items c.new-waits.result.items
-          c.new-ends.ensures.items c.new-waits.ensures.items;
+      c.new-ends.ensures.items c.new-waits.ensures.items;
 }
 
 pub loop-place-preserved : goal.loop-place-preserved
@@ -24,17 +24,18 @@ loop-place-preserved c =
     elim c.match-wait_at.branch [
       | in-Some+in_ok-push+in_ok-push-2 w ↦
           rw (w.ends-is, w.waits-is, w.in_ok-push.ensures.items, w.in_ok-push-2.ensures.items) record {
-        ends =
-            ends_more own n c.number.result w.in-Some.wait c.loop-place.ends.items stands
+            ends =
+                ends_more own n c.number.result w.in-Some.wait c.loop-place.ends.items stands
                 c.loop-place.invariant.ends w.in-Some.ensures;
-        waits =
-            waits_more own n c.number.result w.in-Some.wait c.loop-place.ends.items c.loop-place.waits.items
+            waits =
+                waits_more own n c.number.result w.in-Some.wait c.loop-place.ends.items
+                c.loop-place.waits.items
                 is_own stands c.loop-place.invariant.waits w.in-Some.ensures;
-      }
+          }
       | in_default w ↦ rw (w.ends-is, w.waits-is) record {
         ends =
             ends_other own n c.number.result c.loop-place.ends.items is_own stands c.loop-place.invariant.ends
-                w.in_default.ensures;
+            w.in_default.ensures;
         waits = c.loop-place.invariant.waits;
       }
     ]

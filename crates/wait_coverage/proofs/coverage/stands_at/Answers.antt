@@ -13,11 +13,11 @@ returns c = λ records root path are stands.
     elim c.match-path.branch [
       | in-Some+in_ok-extend_from_slice w ↦
           let found : w.in-Some.path.now ≡ path =
-              same_Some w.in-Some.path.now path (sym (ap option_copied w.in-Some.is) ∙ is_path) in
+          same_Some w.in-Some.path.now path (sym (ap option_copied w.in-Some.is) ∙ is_path) in
           let whole : c.from_vec.result ≡ path =
-              c.from_vec.ensures ∙ ap (λ (v : Vec ℕ). v.items) w.numbers-is
-                  ∙ w.in_ok-extend_from_slice.ensures.items
-                  ∙ ap (λ l. l ++ w.in-Some.path.now) c.new-numbers.ensures.items ∙ found in
+          c.from_vec.ensures ∙ ap (λ (v : Vec ℕ). v.items) w.numbers-is
+          ∙ w.in_ok-extend_from_slice.ensures.items
+          ∙ ap (λ l. l ++ w.in-Some.path.now) c.new-numbers.ensures.items ∙ found in
           rw (top, whole) stands
       | in_default w ↦ absurd (none-some path (sym (ap option_copied w.in_default.is) ∙ is_path))
     ]

@@ -14,9 +14,9 @@ pub returns-in_default : goal.returns-in_default
 returns-in_default c =
     let event = c.requires.event in
     let says =
-        taskgroup_says c.args.done.now.teams.run c.args.at c.args.event.task ForTaskgroup End event refl in
+    taskgroup_says c.args.done.now.teams.run c.args.at c.args.event.task ForTaskgroup End event refl in
     unended_noted c.args.done.now c.args.at event.task c.args.nodes.now c.alone.result c.args.progress.now
-        c.requires.noted says c.in_default.ensures c.alone.ensures.alone
+    c.requires.noted says c.in_default.ensures c.alone.ensures.alone
 
 pub returns : goal.returns
 returns c =
@@ -35,6 +35,6 @@ returns c =
     let stands = read_at heads own head (omega (arith, inside, all)) c.index.ensures in
     let apart = c.run-run.ensures.is_done.teams.run.family.makers.apart in
     closed_noted done c.args.at own event.task begin c.args.nodes.now c.gather-node.result c.args.progress.now
-        _
+    _
     apart noted ends event.indexed head stands c.gather-node.ensures (ap (set heads own) c.some.ensures) refl
-        refl
+    refl

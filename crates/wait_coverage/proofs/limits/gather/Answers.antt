@@ -14,13 +14,13 @@ nodes-init c = record {
 pub offset_bounds-nodes-number : goal.offset_bounds-nodes-number
 offset_bounds-nodes-number c =
     let within : c.in-Some.number < length c.args.nodes.now =
-        c.nodes.invariant.known c.in-Some.number ((c.later.ensures c.in-Some.number).0 c.in-Some.is).0 in
+    c.nodes.invariant.known c.in-Some.number ((c.later.ensures c.in-Some.number).0 c.in-Some.is).0 in
     search rules
 
 pub offset_bounds-nodes-number-in-Some : goal.offset_bounds-nodes-number-in-Some
 offset_bounds-nodes-number-in-Some c =
     let within : c.in-Some.number < length c.args.nodes.now =
-        c.nodes.invariant.known c.in-Some.number ((c.later.ensures c.in-Some.number).0 c.in-Some.is).0 in
+    c.nodes.invariant.known c.in-Some.number ((c.later.ensures c.in-Some.number).0 c.in-Some.is).0 in
     search rules
 
 pub bounds-nodes-number : goal.bounds-nodes-number
@@ -47,7 +47,7 @@ nodes-smaller c =
     let inside : number < length nodes = c.nodes.invariant.known number known.0 in
     let node : Node = get_or nodes number c.index-nodes-number-in-Some.result in
     smaller_next nodes c.nodes.rest number node c.requires.falling known.0
-        (slice_get-get_or nodes number c.index-nodes-number-in-Some.result inside)
+    (slice_get-get_or nodes number c.index-nodes-number-in-Some.result inside)
 
 pub nodes-preserved : goal.nodes-preserved
 nodes-preserved c =
@@ -57,16 +57,16 @@ nodes-preserved c =
     let inside : number < length nodes = c.nodes.invariant.known number known.0 in
     let node : Node = get_or nodes number c.index-nodes-number-in-Some.result in
     let there : slice_get nodes number ≡ Some node =
-        slice_get-get_or nodes number c.index-nodes-number-in-Some.result inside in
+    slice_get-get_or nodes number c.index-nodes-number-in-Some.result inside in
     record {
       gathered =
           let read =
-              same_Some (get_or nodes number c.index-nodes-number.result) node
-                  (sym (slice_get-get_or nodes number c.index-nodes-number.result inside) ∙ there) in
+          same_Some (get_or nodes number c.index-nodes-number.result) node
+          (sym (slice_get-get_or nodes number c.index-nodes-number.result inside) ∙ there) in
           let limit = c.max-limit.ensures ∙ ap (λ (n : Node). max c.nodes.limit n.limit) read in
           rw limit
-              (gathered_more nodes c.args.head c.nodes.rest c.args.begin c.nodes.limit number node
-                  c.nodes.invariant.gathered known.0 known.1 there);
+          (gathered_more nodes c.args.head c.nodes.rest c.args.begin c.nodes.limit number node
+          c.nodes.invariant.gathered known.0 known.1 there);
       known =
           λ next is. let less = c.requires.falling number next node there is in omega (arith, less, inside);
     }
@@ -74,5 +74,5 @@ nodes-preserved c =
 pub returns : goal.returns
 returns c =
     gathers c.args.nodes.now c.args.head c.nodes.rest c.args.begin c.nodes.limit c.requires.falling
-        c.nodes.invariant.gathered c.nodes.invariant.known
-        (λ number is less. c.in_default.not-Some number ((c.later.ensures number).1 (is, less)))
+    c.nodes.invariant.gathered c.nodes.invariant.known
+    (λ number is less. c.in_default.not-Some number ((c.later.ensures number).1 (is, less)))

@@ -15,9 +15,9 @@ offset_bounds-nodes-begin c =
     let rs = records_of c.args.done.now in
     let own = c.requires.ends.0 in
     let less =
-        begin_before rs c.args.at own c.in-Some.begin Taskwait
-            (ended_region rs c.args.at own c.in-Some.begin Taskwait c.requires.ends.1
-                (c.in-Some.ensures own Taskwait End c.requires.ends.1)) in
+    begin_before rs c.args.at own c.in-Some.begin Taskwait
+    (ended_region rs c.args.at own c.in-Some.begin Taskwait c.requires.ends.1
+    (c.in-Some.ensures own Taskwait End c.requires.ends.1)) in
     let count = c.requires.count in
     let within : c.in-Some.begin < length c.args.nodes.now = omega (arith, less, count) in
     search rules
@@ -27,9 +27,9 @@ bounds-nodes-begin c =
     let rs = records_of c.args.done.now in
     let own = c.requires.ends.0 in
     let less =
-        begin_before rs c.args.at own c.in-Some.begin Taskwait
-            (ended_region rs c.args.at own c.in-Some.begin Taskwait c.requires.ends.1
-                (c.in-Some.ensures own Taskwait End c.requires.ends.1)) in
+    begin_before rs c.args.at own c.in-Some.begin Taskwait
+    (ended_region rs c.args.at own c.in-Some.begin Taskwait c.requires.ends.1
+    (c.in-Some.ensures own Taskwait End c.requires.ends.1)) in
     let count = c.requires.count in
     omega (arith, less, count)
 
@@ -38,9 +38,9 @@ bounds-nodes-begin-in-Some c =
     let rs = records_of c.args.done.now in
     let own = c.requires.ends.0 in
     let less =
-        begin_before rs c.args.at own c.in-Some.begin Taskwait
-            (ended_region rs c.args.at own c.in-Some.begin Taskwait c.requires.ends.1
-                (c.in-Some.ensures own Taskwait End c.requires.ends.1)) in
+    begin_before rs c.args.at own c.in-Some.begin Taskwait
+    (ended_region rs c.args.at own c.in-Some.begin Taskwait c.requires.ends.1
+    (c.in-Some.ensures own Taskwait End c.requires.ends.1)) in
     let count = c.requires.count in
     omega (arith, less, count)
 
@@ -50,17 +50,18 @@ returns-in-Some c = λ task begin ends.
     let own = c.requires.ends.0 in
     let found = c.in-Some.ensures own Taskwait End c.requires.ends.1 in
     let less =
-        begin_before rs c.args.at own c.in-Some.begin Taskwait
-            (ended_region rs c.args.at own c.in-Some.begin Taskwait c.requires.ends.1 found) in
+    begin_before rs c.args.at own c.in-Some.begin Taskwait
+    (ended_region rs c.args.at own c.in-Some.begin Taskwait c.requires.ends.1 found) in
     let count = c.requires.count in
     let same =
-        (one_region rs c.args.at own task c.in-Some.begin begin Taskwait Taskwait found
-            (ended ends)).begin_is in
-    let within : c.in-Some.begin < length c.args.nodes.now = omega (arith, less, count) in
-    (get_or c.args.nodes.now c.in-Some.begin c.index-nodes-begin.result,
-        ap (slice_get c.args.nodes.now) (sym same)
-            ∙ slice_get-get_or c.args.nodes.now c.in-Some.begin c.index-nodes-begin.result within,
-        refl)
+    (one_region rs c.args.at own task c.in-Some.begin begin Taskwait Taskwait found
+    (ended ends)).begin_is in
+    let within : c.in-Some.begin < length c.args.nodes.now = omega (arith, less, count) in (
+      get_or c.args.nodes.now c.in-Some.begin c.index-nodes-begin.result,
+      ap (slice_get c.args.nodes.now) (sym same)
+          ∙ slice_get-get_or c.args.nodes.now c.in-Some.begin c.index-nodes-begin.result within,
+      refl,
+    )
 
 pub returns-in-None : goal.returns-in-None
 returns-in-None c = λ task begin ends. absurd (c.in-None.ensures task begin Taskwait (ended ends))

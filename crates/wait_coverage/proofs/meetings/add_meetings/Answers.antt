@@ -9,4 +9,4 @@ returns c =
     let all = subst P c.run.ensures.value c.len-at-end.ensures.value in
     let past = c.loop-at-test.false in
     added_all c.args.done.now c.loop-at.at c.loop-at.nodes.items c.loop-at.invariant
-        (omega (arith, past, all))
+    (omega (arith, past, all))

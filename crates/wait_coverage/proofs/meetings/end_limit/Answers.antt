@@ -6,25 +6,25 @@ use Rattle.wait_coverage.proofs.meetings.end_limit.Goals as goal
 pub returns-in-None : goal.returns-in-None
 returns-in-None c =
     teamless_limit c.args.done.now c.args.at c.args.end.task c.args.end.begin c.zero.result
-        c.run-run.ensures.is_done.teams c.requires.ends (c.team.ensures ∙ ap Some c.in-None.is)
+    c.run-run.ensures.is_done.teams c.requires.ends (c.team.ensures ∙ ap Some c.in-None.is)
 
 pub number-requires : goal.number-requires
 number-requires c =
     begin_inside c.args.done.now c.args.at c.args.end.task c.args.end.begin c.run-run.ensures.is_done.teams
-        c.requires.ends
+    c.requires.ends
 
 pub bounds-meetings-team : goal.bounds-meetings-team
 bounds-meetings-team c =
     let in_team = c.team.ensures ∙ ap Some c.in-Some.is in
     own_row c.args.done.now c.args.at c.args.end.task c.in-Some.team c.args.end.begin c.args.meetings.now
-        c.run-run.ensures.is_done.teams c.requires.met c.requires.ends in_team
+    c.run-run.ensures.is_done.teams c.requires.met c.requires.ends in_team
 
 pub offset_bounds-meetings-team : goal.offset_bounds-meetings-team
 offset_bounds-meetings-team c =
     let in_team = c.team.ensures ∙ ap Some c.in-Some.is in
     let inside : c.in-Some.team < length c.args.meetings.now =
-        own_row c.args.done.now c.args.at c.args.end.task c.in-Some.team c.args.end.begin c.args.meetings.now
-            c.run-run.ensures.is_done.teams c.requires.met c.requires.ends in_team in
+    own_row c.args.done.now c.args.at c.args.end.task c.in-Some.team c.args.end.begin c.args.meetings.now
+    c.run-run.ensures.is_done.teams c.requires.met c.requires.ends in_team in
     search rules
 
 pub index-requires : goal.index-requires
@@ -37,12 +37,12 @@ index-requires c =
     let teams = c.run-run.ensures.is_done.teams in
     let in_team = c.team.ensures ∙ ap Some c.in-Some.is in
     let inside =
-        own_row done c.args.at index c.in-Some.team begin meetings teams c.requires.met c.requires.ends
-            in_team in
+    own_row done c.args.at index c.in-Some.team begin meetings teams c.requires.met c.requires.ends
+    in_team in
     let stands = read_at meetings c.in-Some.team row inside c.index-meetings-team.is in
     let within : c.number.result < length row.items =
-        own_meeting done c.args.at index c.in-Some.team begin c.number.result meetings row teams
-            c.requires.met c.requires.ends in_team c.number.ensures stands in
+    own_meeting done c.args.at index c.in-Some.team begin c.number.result meetings row teams
+    c.requires.met c.requires.ends in_team c.number.ensures stands in
     search rules
 
 pub returns-in-Some : goal.returns-in-Some
@@ -55,12 +55,12 @@ returns-in-Some c =
     let teams = c.run-run.ensures.is_done.teams in
     let in_team = c.team.ensures ∙ ap Some c.in-Some.is in
     let inside =
-        own_row done c.args.at index c.in-Some.team begin meetings teams c.requires.met c.requires.ends
-            in_team in
+    own_row done c.args.at index c.in-Some.team begin meetings teams c.requires.met c.requires.ends
+    in_team in
     let stands = read_at meetings c.in-Some.team row inside c.index-meetings-team.is in
     let within =
-        own_meeting done c.args.at index c.in-Some.team begin c.number.result meetings row teams
-            c.requires.met c.requires.ends in_team c.number.ensures stands in
+    own_meeting done c.args.at index c.in-Some.team begin c.number.result meetings row teams
+    c.requires.met c.requires.ends in_team c.number.ensures stands in
     met_limit done c.args.at index c.in-Some.team begin c.number.result c.index.result.now meetings row teams
-        c.requires.met c.requires.ends in_team c.number.ensures stands
+    c.requires.met c.requires.ends in_team c.number.ensures stands
     (read_at row.items c.number.result c.index.result.now within c.index.ensures)

@@ -14,10 +14,10 @@ overflow_add-index_mut c =
     let within = slice_get_within run.family.tasks parent made.creator made.creator_indexed in
     let all = c.requires.counts.all in
     let stands =
-        read_at c.args.counts.now.items parent c.index_mut.result.now (omega (arith, within, all))
-            c.index_mut.ensures.value in
+    read_at c.args.counts.now.items parent c.index_mut.result.now (omega (arith, within, all))
+    c.index_mut.ensures.value in
     let count =
-        c.requires.counts.each parent made.creator c.index_mut.result.now made.creator_indexed stands in
+    c.requires.counts.each parent made.creator c.index_mut.result.now made.creator_indexed stands in
     let few = children_few run.records made.creator c.args.at in
     let many = c.records-records.ensures.is_run.trace.few_records in
     let inside = c.requires.within in
@@ -32,13 +32,13 @@ returns-in-Some c =
     let within = slice_get_within run.family.tasks parent made.creator made.creator_indexed in
     let all = c.requires.counts.all in
     let stands =
-        read_at c.args.counts.now.items parent c.index_mut.result.now (omega (arith, within, all))
-            c.index_mut.ensures.value in
+    read_at c.args.counts.now.items parent c.index_mut.result.now (omega (arith, within, all))
+    c.index_mut.ensures.value in
     counts_more run.records c.args.at parent made.creator made.task c.index_mut.result.now run.family.tasks
-        c.args.counts.now.items c.records-records.ensures.is_run.family.makers.apart c.requires.counts
-        made.creator_indexed stands made.says
+    c.args.counts.now.items c.records-records.ensures.is_run.family.makers.apart c.requires.counts
+    made.creator_indexed stands made.says
 
 pub returns-in_default : goal.returns-in_default
 returns-in_default c =
     counts_other c.args.run.now.records c.args.at c.args.run.now.family.tasks c.args.counts.now.items
-        c.requires.counts c.in_default.ensures
+    c.requires.counts c.in_default.ensures

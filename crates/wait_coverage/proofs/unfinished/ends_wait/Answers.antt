@@ -12,6 +12,6 @@ returns c =
     let teams = c.teams.result.now in
     let same = c.teams.ensures.value ∙ ap (λ (d : DoneView). d.teams) c.done.ensures.value in
     rw c.is_some.ensures
-        (subst P same
-            (ends_told teams.run.records teams.run.family.tasks c.args.number c.wait_at.result
-                c.wait_at.ensures))
+    (subst P same
+    (ends_told teams.run.records teams.run.family.tasks c.args.number c.wait_at.result
+    c.wait_at.ensures))

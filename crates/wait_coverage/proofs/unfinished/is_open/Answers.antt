@@ -10,27 +10,27 @@ use Rattle.wait_coverage.proofs.unfinished.is_open.Goals as goal
 pub find_marks-requires : goal.find_marks-requires
 find_marks-requires c =
     rw c.done-done.ensures.value
-        (waiting_within (records_of c.args.known.now.done) (tasks_of c.args.known.now.done) c.args.number
-            c.in-Some.wait c.in-Some.ensures)
+    (waiting_within (records_of c.args.known.now.done) (tasks_of c.args.known.now.done) c.args.number
+    c.in-Some.wait c.in-Some.ensures)
 
 pub returns-in_ok-marks-in-Some-clause-open : goal.returns-in_ok-marks-in-Some-clause-open
 returns-in_ok-marks-in-Some-clause-open c = λ are.
     let done = c.args.known.now.done in
     let exact = own_children_done done c.done-done.ensures.is_done are in
     let names =
-        c.seen.ensures
-            ∙ ap (λ (r : RunView). seen_at r.records c.args.number)
-                (c.run.ensures.value ∙ ap (λ (d : DoneView). d.teams.run) c.done-done.ensures.value) in
+    c.seen.ensures
+    ∙ ap (λ (r : RunView). seen_at r.records c.args.number)
+    (c.run.ensures.value ∙ ap (λ (d : DoneView). d.teams.run) c.done-done.ensures.value) in
     let late = rw c.done-done.ensures.value at c.is_late_task.ensures in
     let marked = rw c.done-done.ensures.value at c.in_ok-marks-in-Some.ensures in
     let tells = late c.in-Some.wait (rw c.as_slice.ensures.value marked) in
     let same =
-        late_if_open done c.args.number c.seen.result c.args.task c.in-Some.wait exact
-            (omega (arith, c.seen.type_inv)) c.in-Some.ensures (sym names) in
+    late_if_open done c.args.number c.seen.result c.args.task c.in-Some.wait exact
+    (omega (arith, c.seen.type_inv)) c.in-Some.ensures (sym names) in
     ((λ yes_it. same.0 (tells.0 yes_it)), (λ is_open. tells.1 (same.1 is_open)))
 
 pub returns-in-None-clause-open : goal.returns-in-None-clause-open
 returns-in-None-clause-open c =
     λ are.
-        none_open (records_of c.args.known.now.done) c.args.number c.args.task
-            (c.in-None.ensures (own_children_done c.args.known.now.done c.done-done.ensures.is_done are))
+    none_open (records_of c.args.known.now.done) c.args.number c.args.task
+    (c.in-None.ensures (own_children_done c.args.known.now.done c.done-done.ensures.is_done are))

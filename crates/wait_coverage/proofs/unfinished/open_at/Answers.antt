@@ -9,18 +9,18 @@ use Rattle.wait_coverage.proofs.unfinished.open_at.Goals as goal
 pub find_marks-requires : goal.find_marks-requires
 find_marks-requires c =
     rw c.done-done.ensures.value
-        (waiting_within (records_of c.args.known.now.done) (tasks_of c.args.known.now.done) c.args.number
-            c.in-Some.wait c.in-Some.ensures)
+    (waiting_within (records_of c.args.known.now.done) (tasks_of c.args.known.now.done) c.args.number
+    c.in-Some.wait c.in-Some.ensures)
 
 pub returns-in_ok-marks-in-Some : goal.returns-in_ok-marks-in-Some
 returns-in_ok-marks-in-Some c = λ exact.
     let done = c.args.known.now.done in
     let names =
-        c.seen.ensures
-            ∙ ap (λ (r : RunView). seen_at r.records c.args.number)
-                (c.run.ensures.value ∙ ap (λ (d : DoneView). d.teams.run) c.done-done.ensures.value) in
+    c.seen.ensures
+    ∙ ap (λ (r : RunView). seen_at r.records c.args.number)
+    (c.run.ensures.value ∙ ap (λ (d : DoneView). d.teams.run) c.done-done.ensures.value) in
     let late = rw c.done-done.ensures.value at c.first_late.ensures in
     let marked = rw c.done-done.ensures.value at c.in_ok-marks-in-Some.ensures in
     late_open done c.args.number c.seen.result c.in-Some.wait c.first_late.result c.done-done.ensures.is_done
-        exact (omega (arith, c.seen.type_inv)) c.in-Some.ensures (sym names)
-        (late c.in-Some.wait (rw c.as_slice.ensures.value marked))
+    exact (omega (arith, c.seen.type_inv)) c.in-Some.ensures (sym names)
+    (late c.in-Some.wait (rw c.as_slice.ensures.value marked))

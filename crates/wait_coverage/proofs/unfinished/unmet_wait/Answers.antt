@@ -12,19 +12,19 @@ pub returns-then-is_reached : goal.returns-then-is_reached
 returns-then-is_reached c = λ exact.
     let done = c.args.known.now.done in
     let names =
-        c.seen.ensures
-            ∙ ap (λ (r : RunView). seen_at r.records c.args.number)
-                (c.run.ensures.value ∙ ap (λ (d : DoneView). d.teams.run) c.done-done.ensures.value) in
+    c.seen.ensures
+    ∙ ap (λ (r : RunView). seen_at r.records c.args.number)
+    (c.run.ensures.value ∙ ap (λ (d : DoneView). d.teams.run) c.done-done.ensures.value) in
     limit_complete done c.args.number c.limit.result c.seen.result exact c.limit.ensures (sym names)
-        (omega (arith, c.seen.type_inv)) (c.is_reached.ensures c.if-is_reached.true)
+    (omega (arith, c.seen.type_inv)) (c.is_reached.ensures c.if-is_reached.true)
 
 pub returns : goal.returns
 returns c =
     let done = c.args.known.now.done in
     let P : TeamsView → Type 0 =
-        λ t.
-            MatchOption c.wait_at.result (EndsNoWaitAt t.run.records c.args.number)
-                (IsWaitAt t.run.records t.run.family.tasks c.args.number) in
+    λ t.
+    MatchOption c.wait_at.result (EndsNoWaitAt t.run.records c.args.number)
+    (IsWaitAt t.run.records t.run.family.tasks c.args.number) in
     none_or_wait done c.args.number c.wait_at.result
-        (subst P (c.teams.ensures.value ∙ ap (λ (d : DoneView). d.teams) c.done-done.ensures.value)
-            c.wait_at.ensures)
+    (subst P (c.teams.ensures.value ∙ ap (λ (d : DoneView). d.teams) c.done-done.ensures.value)
+    c.wait_at.ensures)

@@ -7,4 +7,4 @@ use Rattle.wait_coverage.proofs.waits.first_late.Given as goal
 abbrev pub invariant-loop-place : goal.invariant-loop-place
 invariant-loop-place l =
     (wait : Wait) → AreAwaited l.done.teams.run.records l.done.teams.run.family.tasks wait l.marks
-        → (k task : ℕ) → k < l.place → IsLateAt l.done wait l.seen k task → ⊥
+    → (k task : ℕ) → k < l.place → IsLateAt l.done wait l.seen k task → ⊥

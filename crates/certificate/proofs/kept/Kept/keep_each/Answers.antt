@@ -15,14 +15,16 @@ records-init c = record {
   parts = sym c.into_iter-rest.ensures.rest;
   counted = refl;
   few =
-      omega
-          (arith, c.self.invariant.trace.is_trace.few_records,
-              ap (λ (t : TraceView). length t.records) c.self.view_is);
+      omega (
+        arith,
+        c.self.invariant.trace.is_trace.few_records,
+        ap (λ (t : TraceView). length t.records) c.self.view_is,
+      );
   room = tt;
   kept = kept_more c.args.self.now;
   sound =
       All-same (λ (r : Record). IsSoundIn c.args.self.now.version r.body) _ _ c.into_iter-rest.ensures.rest
-          c.requires;
+      c.requires;
 }
 
 pub keep-requires : goal.keep-requires
@@ -30,37 +32,37 @@ keep-requires c =
     let now = c.records.invariant in
     let version = ap (λ (t : TraceView). t.version) now.kept in
     rw version
-        (All-head (λ (r : Record). IsSoundIn c.args.self.now.version r.body) c.in-Some.event
-            (into_iter_items c.next.new.self)
-            (All-same (λ (r : Record). IsSoundIn c.args.self.now.version r.body) _ _
-                (sym c.in-Some.ensures.items) now.sound))
+    (All-head (λ (r : Record). IsSoundIn c.args.self.now.version r.body) c.in-Some.event
+    (into_iter_items c.next.new.self)
+    (All-same (λ (r : Record). IsSoundIn c.args.self.now.version r.body) _ _
+    (sym c.in-Some.ensures.items) now.sound))
 
 pub records-preserved : goal.records-preserved
 records-preserved c =
     let now = c.records.invariant in
     let kept =
-        with_record-ok c.records.self c.keep.new.self c.in-Some.event
-            (c.in-Ok.ensures (ok_not_err _ Memory)) in
+    with_record-ok c.records.self c.keep.new.self c.in-Some.event
+    (c.in-Ok.ensures (ok_not_err _ Memory)) in
     let records = ap (λ (t : TraceView). t.records) now.kept in
     let version = ap (λ (t : TraceView). t.version) now.kept in
     record {
       done = now.done ++ c.in-Some.event ∷ [];
       parts =
           now.parts ∙ ap (λ (rs : List Record). now.done ++ rs) c.in-Some.ensures.items
-              ∙ sym (append_assoc now.done (c.in-Some.event ∷ []) (into_iter_items c.next.new.self));
+          ∙ sym (append_assoc now.done (c.in-Some.event ∷ []) (into_iter_items c.next.new.self));
       counted = omega (arith, length-append now.done (c.in-Some.event ∷ []), now.counted);
       few = now.few;
       room = HaveRoom-push c.args.self.now.records now.done c.in-Some.event now.room (rw records at kept.0);
       kept =
           kept.1
-              ∙ rw (version, records)
-                  (ap (λ (rs : List Record). record { version = c.args.self.now.version; records = rs })
-                      (append_assoc c.args.self.now.records now.done (c.in-Some.event ∷ [])));
+          ∙ rw (version, records)
+          (ap (λ (rs : List Record). record { version = c.args.self.now.version; records = rs })
+          (append_assoc c.args.self.now.records now.done (c.in-Some.event ∷ [])));
       sound =
           All-tail (λ (r : Record). IsSoundIn c.args.self.now.version r.body) c.in-Some.event
-              (into_iter_items c.next.new.self)
-              (All-same (λ (r : Record). IsSoundIn c.args.self.now.version r.body) _ _
-                  (sym c.in-Some.ensures.items) now.sound);
+          (into_iter_items c.next.new.self)
+          (All-same (λ (r : Record). IsSoundIn c.args.self.now.version r.body) _ _
+          (sym c.in-Some.ensures.items) now.sound);
     }
 
 pub returns-in-Err-clause-few : goal.returns-in-Err-clause-few

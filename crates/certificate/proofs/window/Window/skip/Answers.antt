@@ -6,6 +6,6 @@ pub returns : goal.returns
 returns c =
     let w = c.self.inside in
     let within : w.start + c.args.count ≤ w.end =
-        omega
-            (arith, length-slice_range w.bytes.items w.start w.end (omega arith), ap length c.self.view_is) in
+    omega
+    (arith, length-slice_range w.bytes.items w.start w.end (omega arith), ap length c.self.view_is) in
     slice_range-skip w.bytes.items w.start w.end c.args.count within ∙ ap (drop c.args.count) c.self.view_is

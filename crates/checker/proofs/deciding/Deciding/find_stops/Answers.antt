@@ -9,9 +9,9 @@ loop-at-preserved c =
     elim c.if-is_stop.branch [
       | then-is_stop+in_ok-push w ↦
           rw (w.stops-is, w.in_ok-push.ensures.items)
-              (stop_more reading c.loop-at.at c.loop-at.stops.items c.loop-at.invariant)
+          (stop_more reading c.loop-at.at c.loop-at.stops.items c.loop-at.invariant)
       | else-is_stop w ↦
           rw w.stops-is
-              (stop_other reading c.loop-at.at c.loop-at.stops.items (c.is_stop.ensures w.if-is_stop.false)
-                  c.loop-at.invariant)
+          (stop_other reading c.loop-at.at c.loop-at.stops.items (c.is_stop.ensures w.if-is_stop.false)
+          c.loop-at.invariant)
     ]

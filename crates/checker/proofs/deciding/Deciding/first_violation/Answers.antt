@@ -8,7 +8,7 @@ use Rattle.checker.proofs.deciding.Deciding.first_violation.Goals as goal
 pub returns-in-Some-clause-found : goal.returns-in-Some-clause-found
 returns-in-Some-clause-found c =
     first_violation (by_task c.args.self.now.run.records) c.loop-at.at c.in-Some.why
-        (rw c.in-Some.is at c.in_ok-why.ensures.decided) c.loop-at.invariant
+    (rw c.in-Some.is at c.in_ok-why.ensures.decided) c.loop-at.invariant
 
 pub loop-at-preserved : goal.loop-at-preserved
 loop-at-preserved c = below_more _ _ c.loop-at.invariant (rw c.in_default.is at c.in_ok-why.ensures.decided)
@@ -17,7 +17,7 @@ pub returns-clause-found : goal.returns-clause-found
 returns-clause-found c =
     let rs = c.args.self.now.run.records in
     let long =
-        c.len-at-end.ensures.value
-            ∙ ap (λ (r : RunView). length r.records) (c.run.ensures.value ∙ c.sound.ensures.run)
-            ∙ ap (λ (v : ClearView). length v.run.records) c.self.view_is in
+    c.len-at-end.ensures.value
+    ∙ ap (λ (r : RunView). length r.records) (c.run.ensures.value ∙ c.sound.ensures.run)
+    ∙ ap (λ (v : ClearView). length v.run.records) c.self.view_is in
     λ i. complete_whole rs c.loop-at.at i c.loop-at.invariant (omega (arith, long, c.loop-at-test.false))

@@ -7,8 +7,8 @@ pub returns-in-Some : goal.returns-in-Some
 returns-in-Some c = (
   λ standing other awaits.
       stands_same c.args.self.now.placed.now c.in-Some.awaited other
-          (same_Some c.in-Some.awaited other (sym c.in-Some.is ∙ (c.awaited_at.ensures other).1 awaits))
-          (c.stands.ensures.0 standing),
+      (same_Some c.in-Some.awaited other (sym c.in-Some.is ∙ (c.awaited_at.ensures other).1 awaits))
+      (c.stands.ensures.0 standing),
   λ all. c.stands.ensures.1 (all c.in-Some.awaited ((c.awaited_at.ensures c.in-Some.awaited).0 c.in-Some.is)),
 )
 

@@ -6,8 +6,8 @@ use Rattle.checker.proofs.front.Front.offer_heads.Goals as goal
 pub returns-clause-all : goal.returns-clause-all
 returns-clause-all c = λ i may.
     let head =
-        head_of c.args.self.now.run.now.records c.args.self.now.placed.now c.args.self.now.heads.now i
-            c.requires.front.are_heads may in
+    head_of c.args.self.now.run.now.records c.args.self.now.placed.now c.args.self.now.heads.now i
+    c.requires.front.are_heads may in
     let low = head.1 in
     let end = c.loop-head-test.false in
     let P : ℕ → Type 0 = λ j. Contains c.loop-head.ready j in

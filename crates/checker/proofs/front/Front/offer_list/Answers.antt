@@ -11,7 +11,7 @@ list-init c = record {
   offered = λ of lists.
       let firsts = c.args.lists.now.firsts.items in
       let read : slice_index firsts c.args.key ≡ c.index.result.now =
-          get_or_default firsts c.args.key 0 c.index.result.now c.requires.key ∙ sym c.index.ensures in
+      get_or_default firsts c.args.key 0 c.index.result.now c.requires.key ∙ sym c.index.ensures in
       let first = lists.first c.args.key c.requires.key in
       rw (← read) (λ i below is may. absurd (first.none i (omega arith) below is), first.found);
 }
@@ -20,7 +20,7 @@ pub list-preserved : goal.list-preserved
 list-preserved c = record {
   more =
       more_then c.args.self.now.run.now.records c.args.self.now.placed.now c.args.ready.now c.list.ready
-          c.offer.new.ready c.list.invariant.more c.in_ok-offer.ensures.more;
+      c.offer.new.ready c.list.invariant.more c.in_ok-offer.ensures.more;
   offered = λ of lists.
       let rs = c.args.self.now.run.now.records in
       let place = c.list.place in
@@ -29,8 +29,8 @@ list-preserved c = record {
       let before = c.list.invariant.offered of lists in
       let here = before.1 inside in
       let read : slice_index nexts place ≡ c.index-in-list.result.now =
-          get_or_default nexts place 0 c.index-in-list.result.now (rw c.requires.rising.all inside)
-              ∙ sym c.index-in-list.ensures in
+      get_or_default nexts place 0 c.index-in-list.result.now (rw c.requires.rising.all inside)
+      ∙ sym c.index-in-list.ensures in
       let next = lists.next place c.args.key (omega arith) inside here in
       let P : ℕ → Type 0 = λ j. Contains c.offer.new.ready j in
       rw (← read) (

@@ -11,7 +11,7 @@ invariant-list l = record {
   offered : (of : ℕ → Option ℕ)
       → AreLists of (length l.self.run.now.records) 0 l.lists.firsts.items l.lists.nexts.items
       → ((i : ℕ) → i < l.place → of i ≡ Some l.key → MayFollow l.self.run.now.records l.self.placed.now i
-            → Contains l.ready i)
+      → Contains l.ready i)
       × (l.place < length l.self.run.now.records → of l.place ≡ Some l.key);
 }
 

@@ -11,5 +11,5 @@ invariant-loop-key l = record {
   offered : (of : ℕ → Option ℕ)
       → AreLists of (length l.self.run.now.records) 0 l.lists.firsts.items l.lists.nexts.items
       → (i k : ℕ) → l.from ≤ k → k < l.key → of i ≡ Some k
-          → MayFollow l.self.run.now.records l.self.placed.now i → Contains l.ready i;
+      → MayFollow l.self.run.now.records l.self.placed.now i → Contains l.ready i;
 }

@@ -8,7 +8,7 @@ pub returns-clause-lists : goal.returns-clause-lists
 returns-clause-lists c = λ of n is rising lists.
     let firsts = c.args.self.now.firsts.items in
     let read : slice_index firsts c.args.key ≡ c.index.result.now =
-        get_or_default firsts c.args.key 0 c.index.result.now c.requires.key ∙ sym c.index.ensures in
+    get_or_default firsts c.args.key 0 c.index.result.now c.requires.key ∙ sym c.index.ensures in
     let first = lists.first c.args.key c.requires.key in
     let behind = first.behind in
     let within = rising.all in

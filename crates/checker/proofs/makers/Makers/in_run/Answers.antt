@@ -7,8 +7,8 @@ use Rattle.checker.proofs.makers.Makers.in_run.Goals as goal
 pub returns-in_err-exclude-clause-fault : goal.returns-in_err-exclude-clause-fault
 returns-in_err-exclude-clause-fault c =
     let p =
-        err_from_is_err_and c.from_residual-in_err-exclude.result c.from_residual-in_err-exclude.ensures.1 in
+    err_from_is_err_and c.from_residual-in_err-exclude.result c.from_residual-in_err-exclude.ensures.1 in
     let rs = c.args.run.now.records in
     rw (p.1, p.2)
-        (fault_next rs EntryTwice (LengthAhead ∷ []) c.in_err-exclude.field-0.0 c.in_ok-places.ensures.free
-            (c.in_err-exclude.ensures.fault rs c.find_ahead.ensures))
+    (fault_next rs EntryTwice (LengthAhead ∷ []) c.in_err-exclude.field-0.0 c.in_ok-places.ensures.free
+    (c.in_err-exclude.ensures.fault rs c.find_ahead.ensures))

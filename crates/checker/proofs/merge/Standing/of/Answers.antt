@@ -15,13 +15,16 @@ loop-index-preserved c =
     let inside : k < length order = c.loop-index-test.true in
     let ready = c.requires k inside in
     let may =
-        ready_follows rs c.loop-index.standing.placed.items c.loop-index.standing.heads.items links
-            (take k order) place c.loop-index.invariant ready in
+    ready_follows rs c.loop-index.standing.placed.items c.loop-index.standing.heads.items links
+    (take k order) place c.loop-index.invariant ready in
     let runs = thread_there rs place ready.within in
     let now =
-        standing_more rs c.loop-index.standing.placed.items c.loop-index.standing.heads.items links
-            (take k order) place runs.0 c.loop-index.invariant may runs.1 in
-    rw
-        (c.place.ensures.placed, c.place.ensures.heads runs.0 runs.1, c.place.ensures.links,
-            take_more order k 0 inside)
-        now
+    standing_more rs c.loop-index.standing.placed.items c.loop-index.standing.heads.items links
+    (take k order) place runs.0 c.loop-index.invariant may runs.1 in
+    rw (
+      c.place.ensures.placed,
+      c.place.ensures.heads runs.0 runs.1,
+      c.place.ensures.links,
+      take_more order k 0 inside,
+    )
+    now

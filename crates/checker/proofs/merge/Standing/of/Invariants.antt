@@ -6,4 +6,4 @@ use Rattle.checker.proofs.merge.Standing.of.Given as goal
 abbrev pub invariant-loop-index : goal.invariant-loop-index
 invariant-loop-index l =
     AreStanding l.run.records l.standing.placed.items l.standing.heads.items l.standing.links.items
-        (take l.index l.order)
+    (take l.index l.order)

@@ -7,4 +7,4 @@ use Rattle.checker.proofs.starts.Precedence.first_behind.Given as goal
 abbrev pub invariant-loop-at : goal.invariant-loop-at
 invariant-loop-at l =
     (task : ℕ) → ArePredecessors l.self.own.run.records task l.predecessors
-        → IsFirstOf l.self.file.records l.self.own.run.records l.predecessors l.bound l.at l.first
+    → IsFirstOf l.self.file.records l.self.own.run.records l.predecessors l.bound l.at l.first

@@ -10,7 +10,7 @@ pub returns-in-None-clause-late : goal.returns-in-None-clause-late
 returns-in-None-clause-late c =
     let P : PrecedenceView → Type 0 = λ v. AreReady v.file.records c.args.at in
     let ready =
-        subst P c.self.view_is
-            (none_waits _ _ c.args.at c.self.invariant
-                (ap (option_map (λ (starts : Vec ℕ). starts.items)) c.in-None.is)) in
+    subst P c.self.view_is
+    (none_waits _ _ c.args.at c.self.invariant
+    (ap (option_map (λ (starts : Vec ℕ). starts.items)) c.in-None.is)) in
     ((λ never. absurd (false≢true never)), (λ late. absurd (late.1 (ready c.args.task late.0))))

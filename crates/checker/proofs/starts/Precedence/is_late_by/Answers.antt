@@ -9,9 +9,9 @@ returns-in-Some-clause-late c =
     let own = c.args.self.now.own.run in
     let d = c.in-Some.dependent in
     if_ok (TellsLate own d.index d.bound c.args.task) (λ late. IsTrue late ↔ IsLate rs c.args.at c.args.task)
-        c.is_late_of.result
+    c.is_late_of.result
     (λ answer. tells_late rs own c.args.at d.index d.bound c.args.task answer c.in-Some.ensures)
-        c.is_late_of.ensures.late
+    c.is_late_of.ensures.late
 
 pub returns-in-None-clause-late : goal.returns-in-None-clause-late
 returns-in-None-clause-late c =

@@ -11,12 +11,12 @@ returns-then-is_among-clause-late c =
     let among = (rw c.deref.ensures.value at c.is_among.ensures).0 c.if-is_among.true in
     let tells = rw (← c.self.view_is) at c.behind_at.ensures in
     rw (← c.self.view_is, c.is_some.ensures) (
-        λ dependent there.
-            behind_if c.self.inside.file.now.records run.records run.family.tasks items dependent c.args.bound
-                c.args.task c.behind_at.result known.is_own.run.family.noted
+    λ dependent there.
+    behind_if c.self.inside.file.now.records run.records run.family.tasks items dependent c.args.bound
+    c.args.task c.behind_at.result known.is_own.run.family.noted
     (predecessors_at run.records c.self.inside.edges.now.run.records run.family.tasks items c.args.index
-        c.task.result dependent (ap (λ (r : RunView). r.records) known.same)
-        (rw c.run.ensures.value at c.task.ensures) there c.in_ok-predecessors.ensures.predecessors)
+    c.task.result dependent (ap (λ (r : RunView). r.records) known.same)
+    (rw c.run.ensures.value at c.task.ensures) there c.in_ok-predecessors.ensures.predecessors)
     among tells)
 
 pub returns-clause-late : goal.returns-clause-late
@@ -26,8 +26,8 @@ returns-clause-late c =
     let items = c.in_ok-predecessors.predecessors.items in
     let tells = rw c.deref.ensures.value at c.is_among.ensures in
     rw (← c.self.view_is) (
-        λ dependent there. not_among run.records items dependent c.args.bound c.args.task c.is_among.result
+    λ dependent there. not_among run.records items dependent c.args.bound c.args.task c.is_among.result
     (predecessors_at run.records c.self.inside.edges.now.run.records run.family.tasks items c.args.index
-        c.task.result dependent (ap (λ (r : RunView). r.records) known.same)
-        (rw c.run.ensures.value at c.task.ensures) there c.in_ok-predecessors.ensures.predecessors)
+    c.task.result dependent (ap (λ (r : RunView). r.records) known.same)
+    (rw c.run.ensures.value at c.task.ensures) there c.in_ok-predecessors.ensures.predecessors)
     tells c.if-is_among.false)

@@ -9,5 +9,5 @@ pub returns-in-None-clause-found : goal.returns-in-None-clause-found
 returns-in-None-clause-found c =
     let P : PrecedenceView → Type 0 = λ v. AreReady v.file.records c.args.at in
     subst P c.self.view_is
-        (none_waits _ _ c.args.at c.self.invariant
-            (ap (option_map (λ (starts : Vec ℕ). starts.items)) c.in-None.is))
+    (none_waits _ _ c.args.at c.self.invariant
+    (ap (option_map (λ (starts : Vec ℕ). starts.items)) c.in-None.is))

@@ -9,7 +9,7 @@ returns-in-Some-clause-found c =
     let own = c.args.self.now.own.run in
     let d = c.in-Some.dependent in
     if_ok (FindsLate rs own d.index d.bound)
-        (λ found. MatchOption found (AreReady rs c.args.at) (IsFirstLateAt rs c.args.at)) c.late_of.result
+    (λ found. MatchOption found (AreReady rs c.args.at) (IsFirstLateAt rs c.args.at)) c.late_of.result
     (λ found. found_by rs own c.args.at d.index d.bound found c.in-Some.ensures) c.late_of.ensures.found
 
 pub returns-in-None-clause-found : goal.returns-in-None-clause-found

@@ -12,10 +12,10 @@ returns-then-index-from-clause-found c =
     let within : c.args.index < length run.family.tasks = rw (← c.self.view_is) at c.requires in
     let all = known.latest.all in
     let read : slice_index latest c.args.index ≡ c.index.result.now =
-        get_or_default latest c.args.index 0 c.index.result.now (omega (arith, within, all))
-            ∙ sym c.index.ensures in
+    get_or_default latest c.args.index 0 c.index.result.now (omega (arith, within, all))
+    ∙ sym c.index.ensures in
     rw (← c.self.view_is)
-        (λ task there.
-            done_by_latest run.records run.family.tasks c.self.inside.lengths.now latest c.args.index task
-                c.args.bound known.is_own.run.family.noted known.lengths known.latest there
-                c.ranges.bound.fits (rw (read, ← c.from.ensures) c.if-index-from.true))
+    (λ task there.
+    done_by_latest run.records run.family.tasks c.self.inside.lengths.now latest c.args.index task
+    c.args.bound known.is_own.run.family.noted known.lengths known.latest there
+    c.ranges.bound.fits (rw (read, ← c.from.ensures) c.if-index-from.true))

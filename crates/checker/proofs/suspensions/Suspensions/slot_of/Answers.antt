@@ -14,9 +14,9 @@ pub overflow_add-result : goal.overflow_add-result
 overflow_add-result c =
     let row = has_row c.args.self.now.rows.items c.args.begin.index c.args.begin.turn c.requires.has in
     let read : c.index.result.now ≡ slice_index c.args.self.now.rows.items c.args.begin.index =
-        c.index.ensures
-            ∙ get_or_default c.args.self.now.rows.items c.args.begin.index c.index.result.now 0
-                (omega (arith, row)) in
+    c.index.ensures
+    ∙ get_or_default c.args.self.now.rows.items c.args.begin.index c.index.result.now 0
+    (omega (arith, row)) in
     let low = c.requires.within in
     let count = c.len-count.ensures in
     let fits = c.len-count.type_inv in
@@ -26,7 +26,7 @@ pub returns : goal.returns
 returns c =
     let row = has_row c.args.self.now.rows.items c.args.begin.index c.args.begin.turn c.requires.has in
     let read : c.index.result.now ≡ slice_index c.args.self.now.rows.items c.args.begin.index =
-        c.index.ensures
-            ∙ get_or_default c.args.self.now.rows.items c.args.begin.index c.index.result.now 0
-                (omega (arith, row)) in
+    c.index.ensures
+    ∙ get_or_default c.args.self.now.rows.items c.args.begin.index c.index.result.now 0
+    (omega (arith, row)) in
     omega (arith, read)

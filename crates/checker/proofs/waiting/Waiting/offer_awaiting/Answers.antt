@@ -13,9 +13,9 @@ returns-in-Some-clause-awaiting c =
     IfOk-weaker c.offer_list.result _ _ (λ _ offered i awaits may.
     let found = c.key_behind.ensures.key i awaits in
     offered (key_of it.run.now.family.tasks it.run.now.records it.suspensions.now.rows.items)
-        c.requires.waiting.awaiting i
-        (found.2 ∙ ap Some (same_Some found.0 c.in-Some.key (sym found.1 ∙ c.in-Some.is))) may)
-        c.offer_list.ensures.offered
+    c.requires.waiting.awaiting i
+    (found.2 ∙ ap Some (same_Some found.0 c.in-Some.key (sym found.1 ∙ c.in-Some.is))) may)
+    c.offer_list.ensures.offered
 
 pub returns-in-None-clause-awaiting : goal.returns-in-None-clause-awaiting
 returns-in-None-clause-awaiting c = λ i awaits may.

@@ -9,7 +9,7 @@ use Rattle.checker.proofs.workers.Work.find_in_share.Goals as goal
 abbrev Keeps : ℕ → ℕ → WorkView → Type 0
 Keeps worker next work = IsShared work.workers worker next
     × ((index : ℕ) → index < next → IsShared work.workers worker index
-          → IsMet (by_task work.records) work.stops index)
+    → IsMet (by_task work.records) work.stops index)
 
 pub loop-stop-preserved : goal.loop-stop-preserved
 loop-stop-preserved c =
@@ -29,9 +29,9 @@ pub returns-clause-found : goal.returns-clause-found
 returns-clause-found c =
     let inside = c.self.inside in
     let P : WorkView → Type 0 =
-        λ w. (index : ℕ) → IsShared w.workers c.args.worker index → IsMet (by_task w.records) w.stops index in
+    λ w. (index : ℕ) → IsShared w.workers c.args.worker index → IsMet (by_task w.records) w.stops index in
     let Q : WorkView → Type 0 = Keeps c.args.worker c.loop-stop.stop in
     let before = subst Q (sym c.self.view_is) c.loop-stop.invariant in
     subst P c.self.view_is
-        (met_whole (by_task inside.deciding.now.run.records) inside.stops.now inside.workers c.args.worker
-            c.loop-stop.stop c.loop-stop-test.false before.1)
+    (met_whole (by_task inside.deciding.now.run.records) inside.stops.now inside.workers c.args.worker
+    c.loop-stop.stop c.loop-stop-test.false before.1)

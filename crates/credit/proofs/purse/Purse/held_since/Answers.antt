@@ -9,24 +9,24 @@ use Rattle.credit.proofs.purse.Purse.held_since.Goals as goal
 pub overflow_add-result : goal.overflow_add-result
 overflow_add-result c =
     let small =
-        time_above-small c.self.inside.shares.items (progress_at c.self.inside.tree) c.self.invariant.1
-            (path_of c.args.share.now).0 c.in-Above.time
+    time_above-small c.self.inside.shares.items (progress_at c.self.inside.tree) c.self.invariant.1
+    (path_of c.args.share.now).0 c.in-Above.time
     (ap (time_above (progress_at c.self.inside.tree)) (sym c.runs.ensures.path) ∙ c.in-Above.ensures) in
     omega (arith, small)
 
 pub returns-in-Above : goal.returns-in-Above
 returns-in-Above c =
     IsHeldFrom-seen c.self.inside.shares.items c.args.self.now c.args.share.now (Some (c.in-Above.time + 1))
-        c.self.view_is
-    ( IsHeldFrom-above c.self.inside.shares.items (progress_at c.self.inside.tree) c.self.invariant.1
-        (path_of c.args.share.now).0 (path_of c.args.share.now).1 c.in-Above.time
+    c.self.view_is
+    (IsHeldFrom-above c.self.inside.shares.items (progress_at c.self.inside.tree) c.self.invariant.1
+    (path_of c.args.share.now).0 (path_of c.args.share.now).1 c.in-Above.time
     (ap (time_above (progress_at c.self.inside.tree)) (sym c.runs.ensures.path) ∙ c.in-Above.ensures))
 
 pub returns-in-Missing : goal.returns-in-Missing
 returns-in-Missing c =
     IsHeldFrom-seen c.self.inside.shares.items c.args.self.now c.args.share.now None c.self.view_is
-    ( IsHeldFrom-no_run c.self.inside.shares.items (progress_at c.self.inside.tree) c.self.invariant.1
-        (path_of c.args.share.now).0 (path_of c.args.share.now).1
+    (IsHeldFrom-no_run c.self.inside.shares.items (progress_at c.self.inside.tree) c.self.invariant.1
+    (path_of c.args.share.now).0 (path_of c.args.share.now).1
     (ap (time_above (progress_at c.self.inside.tree)) (sym c.runs.ensures.path) ∙ c.in-Missing.ensures.0)
     (ap (λ (x : Progress). x.run) (progress_at-none c.self.inside.tree (path_of c.args.share.now).0
     (ap (place (child c.self.inside.tree)) (sym c.runs.ensures.path) ∙ c.in-Missing.ensures.1))))

@@ -7,5 +7,5 @@ use Rattle.credit.proofs.share.Share.runs.Goals as goal
 pub returns-clause-path : goal.returns-clause-path
 returns-clause-path c =
     ap reverse c.as_slice.ensures.value
-        ∙ ap (λ p. p.0) (sym (path_of-finish_share c.self.inside.runs.items c.self.inside.last))
-        ∙ ap (λ s. (path_of s).0) c.self.view_is
+    ∙ ap (λ p. p.0) (sym (path_of-finish_share c.self.inside.runs.items c.self.inside.last))
+    ∙ ap (λ s. (path_of s).0) c.self.view_is

@@ -6,9 +6,9 @@ use Rattle.credit.proofs.share.Share.starts_with.Goals as goal
 pub returns-then-starts_with : goal.returns-then-starts_with
 returns-then-starts_with c =
     rw (← c.self.view_is, ← c.other.view_is)
-        (rw begins_with-runs (let h = c.starts_with.ensures.value in grind (arith, common_steps)))
+    (rw begins_with-runs (let h = c.starts_with.ensures.value in grind (arith, common_steps)))
 
 pub returns-else-starts_with : goal.returns-else-starts_with
 returns-else-starts_with c =
     rw (← c.self.view_is, ← c.other.view_is)
-        (rw begins_with-runs (let h = c.starts_with.ensures.value in grind (arith, common_steps)))
+    (rw begins_with-runs (let h = c.starts_with.ensures.value in grind (arith, common_steps)))

@@ -11,7 +11,7 @@ test_of : (progress : Progress) (run : Run) → progress.run ≡ Some run → Is
     → nat_eq progress.held_children run.keeps ≡ true
 test_of progress run e (full other f count) =
     eq-eqb progress.held_children run.keeps
-        (count ∙ ap (λ (r : Run). r.keeps) (same_some other run (sym f ∙ e)))
+    (count ∙ ap (λ (r : Run). r.keeps) (same_some other run (sym f ∙ e)))
 
 pub returns-in-Some : goal.returns-in-Some
 returns-in-Some c = (

@@ -10,12 +10,12 @@ returns-in_default c =
     let all : suc done + more ≡ c.args.end - c.args.first = omega arith in
     let at : c.args.first + done ≡ c.numbers.number = omega arith in
     let none : since_all (child_since c.args.self.now c.args.index) c.args.start c.args.first (suc done)
-            ≡ None =
+    ≡ None =
     ap (λ o. both_of o (child_since c.args.self.now c.args.index (c.args.first + done)))
-        c.numbers.invariant.latest
+    c.numbers.invariant.latest
     ∙ ap (λ n. both_of (Some c.numbers.latest) (child_since c.args.self.now c.args.index n)) at
     ∙ ap (both_of (Some c.numbers.latest)) (sym c.child_since.ensures ∙ c.in_default.is) in
     sym
-        (ap (since_all (child_since c.args.self.now c.args.index) c.args.start c.args.first) (sym all)
-            ∙ since_all-none (child_since c.args.self.now c.args.index) c.args.start c.args.first (suc done)
-                more none)
+    (ap (since_all (child_since c.args.self.now c.args.index) c.args.start c.args.first) (sym all)
+    ∙ since_all-none (child_since c.args.self.now c.args.index) c.args.start c.args.first (suc done)
+    more none)

@@ -20,6 +20,6 @@ returns-clause-call g c =
     looked c.args.seat.now.place.me.0 c.draw-ticket.result c.await_turn.new.place.me.0.seen c.count-len.result
     c.draw-ticket.new.place.me c.await_turn.new.place.me c.count-len.new.place.me c.store.new.seat.me
     c.draw-ticket.ensures.ticket c.await_turn.ensures.turn c.await_turn.ensures.view c.count-len.ensures.view
-        c.store.ensures.2
+    c.store.ensures.2
     (c.count-len.ensures.count
-        ∙ ap (λ m. Rattle.std.specs.Prelude.length (entries_after m.0.seen)) c.await_turn.ensures.view)
+    ∙ ap (λ m. Rattle.std.specs.Prelude.length (entries_after m.0.seen)) c.await_turn.ensures.view)

@@ -30,9 +30,9 @@ invariant_of-self c =
     let few = subst (λ (v : LogView). length v.records < max_records) (sym c.self.view_is) c.requires.few in
     let rises = subst (λ (v : LogView). v.known ≤ c.args.seen) (sym c.self.view_is) c.requires.rises in
     let allowed =
-        subst (λ (v : LogView). allows (standing_of v.records) c.args.body ≡ true) (sym c.self.view_is)
-            c.requires.allowed in
+    subst (λ (v : LogView). allows (standing_of v.records) c.args.body ≡ true) (sym c.self.view_is)
+    c.requires.allowed in
     log-pushed before i.standing c.after-self-inside.result after event c.self.invariant few rises allowed
-        c.requires.sound c.read_numbers.ensures
+    c.requires.sound c.read_numbers.ensures
     c.thread.ensures c.len.ensures c.push_reserved.ensures.thread c.push_reserved.ensures.records
-        c.known_from-self-inside.ensures c.after-self-inside.ensures
+    c.known_from-self-inside.ensures c.after-self-inside.ensures

@@ -10,7 +10,7 @@ push-requires-clause-rises g c =
     let i = c.self.inside in
     subst (λ k. k ≤ c.look-seen.result) (sym c.reserve.ensures.kept.known)
     (known-below i.log.records i.log.known c.look-seen.result (view_of i.seat) (view_of c.look-seen.new.seat)
-        Look c.self.invariant c.look-seen.ensures.call)
+    Look c.self.invariant c.look-seen.ensures.call)
 
 pub invariant_of-self-2 : goal.invariant_of-self-2
 invariant_of-self-2 g c =
@@ -22,5 +22,5 @@ invariant_of-self-2 g c =
       body = c.args.body;
     } in
     observed i.log c.reserve.new.self c.push.new.self (view_of i.seat) (view_of c.look-seen.new.seat) r
-        c.self.invariant c.reserve.ensures.kept
+    c.self.invariant c.reserve.ensures.kept
     c.look-seen.ensures.call c.requires.unfinished c.push.ensures.records c.push.ensures.known

@@ -10,15 +10,15 @@ use Rattle.recorder.proofs.recording.Recorder.ompt_callback_task_schedule.Goals 
 pub returns-in-Some-clause-started : goal.returns-in-Some-clause-started
 returns-in-Some-clause-started g c = rw c.in-Some.is (λ n same.
     subst (λ (m : MutBor TaskView). OnOk c.switch.result (c.switch.new.next ≡ started m.now))
-        (same_Some c.in-Some.next n same) c.switch.ensures.started)
+    (same_Some c.in-Some.next n same) c.switch.ensures.started)
 
 pub returns-in-Some-clause-unchanged : goal.returns-in-Some-clause-unchanged
 returns-in-Some-clause-unchanged g c = rw c.in-Some.is (λ n same.
     subst (λ (m : MutBor TaskView). OnErr c.switch.result (c.switch.new.next ≡ m.now))
-        (same_Some c.in-Some.next n same) c.switch.ensures.unchanged)
+    (same_Some c.in-Some.next n same) c.switch.ensures.unchanged)
 
 pub returns-in-Some-clause-credit : goal.returns-in-Some-clause-credit
 returns-in-Some-clause-credit g c =
     on_ok_weaker c.switch.result (λ allowed part is_part.
     moves_credit c.args.self.now (schedule_of c.args.prior c.args.status (Some c.in-Some.next.now)) part
-        allowed is_part) c.switch.ensures.may
+    allowed is_part) c.switch.ensures.may

@@ -10,6 +10,6 @@ pub returns : goal.returns
 returns c =
     c.after_move.ensures 0
     ∙ ap (λ (n : states.Nature). state_after n (Some c.state.result) (0, the_move c.args.step))
-        c.nature.ensures
+    c.nature.ensures
     ∙ ap (λ (s : State). state_after (nature c.args.self.now) (Some s) (0, the_move c.args.step))
-        c.state.ensures
+    c.state.ensures

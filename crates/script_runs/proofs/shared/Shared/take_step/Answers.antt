@@ -9,9 +9,9 @@ returns-in-Ok-clause-taken g c _ =
     let steps = c.steps.result.now in
     let s = c.in-Some.step.now in
     let is =
-        slice_get_read steps (length steps) c.args.at s refl
-            (ltb-true c.args.at (length steps) (sym c.in-Some.ensures.lookup.0)) c.in-Some.ensures.lookup.1 in
+    slice_get_read steps (length steps) c.args.at s refl
+    (ltb-true c.args.at (length steps) (sym c.in-Some.ensures.lookup.0)) c.in-Some.ensures.lookup.1 in
     taken_here g.C.Context.steps c.args.at s c.args.recorder.now c.met-values.new.recorder c.call.new.recorder
-        c.left-left.new.recorder (rw (sym c.args.self.now.of_the_script, sym c.steps.ensures.value) is)
-        c.met-values.ensures.records c.met-values.ensures.thread c.in-Ok.ensures.called
-        c.left-left.ensures.records c.left-left.ensures.thread
+    c.left-left.new.recorder (rw (sym c.args.self.now.of_the_script, sym c.steps.ensures.value) is)
+    c.met-values.ensures.records c.met-values.ensures.thread c.in-Ok.ensures.called
+    c.left-left.ensures.records c.left-left.ensures.thread

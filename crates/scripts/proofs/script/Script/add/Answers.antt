@@ -12,15 +12,15 @@ invariant_of-self-2 c =
     let s : Step = step_of steps c.args.thread c.args.after body in
     let view : c.args.self.now ≡ steps = sym c.self.view_is in
     let follows : may_follow steps c.args.after body ≡ true =
-        ap (λ (xs : List Step). may_follow xs c.args.after body) (sym view) ∙ sym c.place_of.ensures.may
-            ∙ ap is_some c.in-Some.is in
+    ap (λ (xs : List Step). may_follow xs c.args.after body) (sym view) ∙ sym c.place_of.ensures.may
+    ∙ ap is_some c.in-Some.is in
     let room : is_full steps body ≡ false =
-        ap (λ (xs : List Step). is_full xs body) (sym view) ∙ sym c.is_full.ensures ∙ c.if-is_full.false in
+    ap (λ (xs : List Step). is_full xs body) (sym view) ∙ sym c.is_full.ensures ∙ c.if-is_full.false in
     let grown : c.push_reserved.new.self.items ≡ steps ++ s ∷ [] = search rules in
     rw grown (record {
       script = IsScript-more steps s c.self.invariant.script room (omega arith) follows;
       are_lives =
           AreLives-more steps s c.self.inside.lives c.note.new.lives c.self.invariant.are_lives
-              (search rules);
+          (search rules);
       is_tally = search rules;
     })

@@ -18,10 +18,10 @@ returns-then-may_name-clause-may c =
     let named_well : is_earlier now c.args.after ≡ (may_name now body && is_earlier now c.args.after) =
     ap (λ b. b && is_earlier now c.args.after) c.if-may_name.ensures in
     found ∙ named_well
-        ∙ sym ( after-last (is_call body) (is_earlier now c.args.after) (not (has_twice (named body)))
+    ∙ sym (after-last (is_call body) (is_earlier now c.args.after) (not (has_twice (named body)))
     (list_all (λ task. may_be_named (is_made (made body) task) (life now task)) (named body)))
 
 pub returns-then-may_name-clause-same : goal.returns-then-may_name-clause-same
 returns-then-may_name-clause-same c =
     found-same c.self.inside.steps.items c.args.after c.find.result
-        (c.find.ensures c.self.inside.steps.items c.self.invariant.is_tally)
+    (c.find.ensures c.self.inside.steps.items c.self.invariant.is_tally)

@@ -12,8 +12,7 @@ returns-then-number-from c = λ steps tally.
     let (small, same) = c.in-Ok.ensures in
     let count = get_or c.args.self.now.steps c.in-Some.thread 0 in
     let read : c.from-2.result ≡ count =
-        c.from-2.ensures ∙ ap (λ (at : ℕ). get_or c.args.self.now.steps at 0) (c.from.ensures ∙ same) in
-    (
+    c.from-2.ensures ∙ ap (λ (at : ℕ). get_or c.args.self.now.steps at 0) (c.from.ensures ∙ same) in (
       earlier-has steps c.args.named c.in-Some.thread c.in-Some.number count c.in-Some.is
           (tally.counted c.in-Some.thread small) (omega (arith, read, c.if-number-from.true)),
       ap (λ (at : ℕ). Some (at, c.in-Some.number)) same ∙ sym c.in-Some.is,
@@ -24,6 +23,6 @@ returns-else-number-from c = λ steps tally.
     let (small, same) = c.in-Ok.ensures in
     let count = get_or c.args.self.now.steps c.in-Some.thread 0 in
     let read : c.from-2.result ≡ count =
-        c.from-2.ensures ∙ ap (λ (at : ℕ). get_or c.args.self.now.steps at 0) (c.from.ensures ∙ same) in
+    c.from-2.ensures ∙ ap (λ (at : ℕ). get_or c.args.self.now.steps at 0) (c.from.ensures ∙ same) in
     earlier-lacks steps c.args.named c.in-Some.thread c.in-Some.number count c.in-Some.is
     (tally.counted c.in-Some.thread small) (omega (arith, read, c.if-number-from.false))

@@ -8,6 +8,6 @@ pub returns : goal.returns
 returns c =
     let natures = c.natures-natures.result.now in
     come_new c.args.origins.now.records c.args.origins.now.family.tasks natures c.loop-nature.states.items
-        (c.loop-nature.invariant
-            ∙ ap (map state_at_first) (take_all c.loop-nature.nature-index natures c.loop-nature-test.false))
-        c.natures-natures.ensures.all c.natures-natures.ensures.natures
+    (c.loop-nature.invariant
+    ∙ ap (map state_at_first) (take_all c.loop-nature.nature-index natures c.loop-nature-test.false))
+    c.natures-natures.ensures.all c.natures-natures.ensures.natures

@@ -16,11 +16,11 @@ returns-in-Some-clause-come c = λ moves come.
     let pass = c.args.pass in
     let event = c.in-Some.event in
     let is : IsSchedule run i event.status event.prior event.next =
-        rw c.run-run.ensures.value at c.in-Some.ensures in
+    rw c.run-run.ensures.value at c.in-Some.ensures in
     let stopped = and_move pass run.records i (Some is.task) (step.Stopped event.status) moves in
     come_same run.records run.family.tasks
-        (and_move pass run.records i (at started run.records i) step.Started stopped) _
-        c.note_next-started.new.self
+    (and_move pass run.records i (at started run.records i) step.Started stopped) _
+    c.note_next-started.new.self
     (schedule_moves_at pass run.records i event.status is.task is.follower moves is.says)
     (c.note_next-started.ensures.come stopped (c.note-stopped.ensures.come is.task is.indexed moves come))
 
@@ -30,17 +30,17 @@ returns-in_default-discarded-clause-come c = λ moves come.
     let i = c.args.at in
     let no_schedule : at schedule run.records i ≡ None = rw c.run-run.ensures.value at c.in_default.ensures in
     let calls : IsIndexOf run discarded i c.discarded.result =
-        rw c.run-run.ensures.value at c.discarded.ensures in
+    rw c.run-run.ensures.value at c.discarded.ensures in
     come_same run.records run.family.tasks moves _ c.args.self.now
-        (no_moves_at c.args.pass run.records i moves c.requires.within no_schedule
-            (call_none run.family.tasks _ c.discarded.result calls c.in_default-discarded.is))
-        come
+    (no_moves_at c.args.pass run.records i moves c.requires.within no_schedule
+    (call_none run.family.tasks _ c.discarded.result calls c.in_default-discarded.is))
+    come
 
 pub note-requires-clause-moves : goal.note-requires-clause-moves
 note-requires-clause-moves c =
     let run = c.args.origins.now in
     let calls : IsIndexOf run discarded c.args.at c.discarded.result =
-        rw c.run-run.ensures.value at c.discarded.ensures in
+    rw c.run-run.ensures.value at c.discarded.ensures in
     discard_move run c.args.at c.in-Some-discarded.index c.discarded.result calls c.in-Some-discarded.is
 
 pub returns-clause-come : goal.returns-clause-come
@@ -48,11 +48,11 @@ returns-clause-come c = λ moves come.
     let run = c.args.origins.now in
     let i = c.args.at in
     let calls : IsIndexOf run discarded i c.discarded.result =
-        rw c.run-run.ensures.value at c.discarded.ensures in
+    rw c.run-run.ensures.value at c.discarded.ensures in
     let (task, says, stands) =
-        call_task run.family.tasks (at discarded run.records i) c.discarded.result c.in-Some-discarded.index
-            calls c.in-Some-discarded.is in
+    call_task run.family.tasks (at discarded run.records i) c.discarded.result c.in-Some-discarded.index
+    calls c.in-Some-discarded.is in
     come_same run.records run.family.tasks
-        (and_move c.args.pass run.records i (Some task) step.Discarded moves) _ c.note.new.self
+    (and_move c.args.pass run.records i (Some task) step.Discarded moves) _ c.note.new.self
     (discard_moves_at c.args.pass run.records i task moves says)
     (c.note.ensures.come task stands moves come)

@@ -18,22 +18,25 @@ loop-at-preserved c =
     elim c.if-fulfils_early.branch [
       | then-fulfils_early w ↦
           rw w.self-is
-              (come_same rs tasks (and_record Early rs i before) (moves_before Early rs (i + 1))
-                  w.read.new.self (moves_more Early rs i) (w.read.ensures.come before c.loop-at.invariant))
+          (come_same rs tasks (and_record Early rs i before) (moves_before Early rs (i + 1))
+          w.read.new.self (moves_more Early rs i) (w.read.ensures.come before c.loop-at.invariant))
       | else-fulfils_early w ↦
           let late = sym (rw c.run-run.ensures.value at c.fulfils_early.ensures) ∙ w.if-fulfils_early.false in
           rw w.self-is
-              (come_same rs tasks before (moves_before Early rs (i + 1)) c.loop-at.self
-                  (λ task. moves_more Early rs i task ∙ early_unread rs i before late task)
-                  c.loop-at.invariant)
+          (come_same rs tasks before (moves_before Early rs (i + 1)) c.loop-at.self
+          (λ task. moves_more Early rs i task ∙ early_unread rs i before late task)
+          c.loop-at.invariant)
     ]
 
 pub returns : goal.returns
 returns c =
     let rs = c.args.origins.now.records in
     let all : c.loop-at.at ≡ length rs =
-        omega
-            (arith, c.loop-at-test.false, c.loop-at.auto.at-end,
-                rw c.run-run.ensures.value at c.len-at-end.ensures.value) in
+    omega (
+      arith,
+      c.loop-at-test.false,
+      c.loop-at.auto.at-end,
+      rw c.run-run.ensures.value at c.len-at-end.ensures.value,
+    ) in
     subst (λ n. HasCome rs c.args.origins.now.family.tasks (moves_before Early rs n) c.loop-at.self) all
-        c.loop-at.invariant
+    c.loop-at.invariant

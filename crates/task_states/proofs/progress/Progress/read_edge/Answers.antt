@@ -10,11 +10,11 @@ returns-clause-come c = λ turn here moves come.
     let i = c.args.at in
     let index = c.in-Some.index in
     let is : IsEdgeMove run c.args.edge i index c.in-Some.step =
-        rw c.run.ensures.value at c.in-Some.ensures in
+    rw c.run.ensures.value at c.in-Some.ensures in
     come_same run.records run.family.tasks (and_one is.task (i, the_move c.in-Some.step) moves)
-        (λ task. moves task ++ edge_moves c.args.edge run.records task turn i) c.go_on.new.self
+    (λ task. moves task ++ edge_moves c.args.edge run.records task turn i) c.go_on.new.self
     (λ other. ap (λ l. moves other ++ l) (is.alone turn other here))
     (went_on run.records run.family.tasks index is.task i (the_nature c.nature.result)
-        (the_move c.in-Some.step) moves c.args.self.now c.go_on.new.self
-        (λ k at_k. c.run.ensures.is_run.family.makers.apart k index is.task at_k is.indexed) is.indexed
-        (c.nature.ensures is.task is.indexed) c.go_on.ensures.states c.go_on.ensures.refused come)
+    (the_move c.in-Some.step) moves c.args.self.now c.go_on.new.self
+    (λ k at_k. c.run.ensures.is_run.family.makers.apart k index is.task at_k is.indexed) is.indexed
+    (c.nature.ensures is.task is.indexed) c.go_on.ensures.states c.go_on.ensures.refused come)

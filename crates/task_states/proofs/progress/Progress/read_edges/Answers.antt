@@ -17,17 +17,17 @@ loop-at-preserved c = record {
       let place = get_or ps k 0 in
       let low = c.loop-at-test.true in
       come_same rs tasks
-          (λ task.
-              moves task ++ flat_map (edge_moves edge rs task turn) (take k ps)
-                  ++ edge_moves edge rs task turn place)
-          (λ task. moves task ++ flat_map (edge_moves edge rs task turn) (take (k + 1) ps))
-          c.read_edge.new.self
       (λ task.
-          ap (λ l. moves task ++ flat_map (edge_moves edge rs task turn) l) (take_more ps k 0 low)
-              ∙ sym (flat_map_more (edge_moves edge rs task turn) (moves task) (take k ps) place))
+      moves task ++ flat_map (edge_moves edge rs task turn) (take k ps)
+      ++ edge_moves edge rs task turn place)
+      (λ task. moves task ++ flat_map (edge_moves edge rs task turn) (take (k + 1) ps))
+      c.read_edge.new.self
+      (λ task.
+      ap (λ l. moves task ++ flat_map (edge_moves edge rs task turn) l) (take_more ps k 0 low)
+      ∙ sym (flat_map_more (edge_moves edge rs task turn) (moves task) (take k ps) place))
       (c.read_edge.ensures.come turn (edges k 0 low)
-          (λ task. moves task ++ flat_map (edge_moves edge rs task turn) (take k ps))
-          (c.loop-at.invariant.come turn edges moves come));
+      (λ task. moves task ++ flat_map (edge_moves edge rs task turn) (take k ps))
+      (c.loop-at.invariant.come turn edges moves come));
 }
 
 pub returns-clause-come : goal.returns-clause-come
@@ -35,9 +35,9 @@ returns-clause-come c = λ turn edges moves come.
     let rs = c.args.origins.now.records in
     let ps = c.args.places.now in
     come_same rs c.args.origins.now.family.tasks
-        (λ task. moves task ++ flat_map (edge_moves c.args.edge rs task turn) (take c.loop-at.at-index ps)) _
-        c.loop-at.self
+    (λ task. moves task ++ flat_map (edge_moves c.args.edge rs task turn) (take c.loop-at.at-index ps)) _
+    c.loop-at.self
     (λ task.
-        ap (λ l. moves task ++ flat_map (edge_moves c.args.edge rs task turn) l)
-            (sym (take_all c.loop-at.at-index ps c.loop-at-test.false)))
+    ap (λ l. moves task ++ flat_map (edge_moves c.args.edge rs task turn) l)
+    (sym (take_all c.loop-at.at-index ps c.loop-at-test.false)))
     (c.loop-at.invariant.come turn edges moves come)

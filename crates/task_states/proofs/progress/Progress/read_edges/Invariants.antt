@@ -13,8 +13,8 @@ invariant-loop-at l = record {
   come : (turn : ℕ) → All (λ place. is_edge l.edge l.origins.records turn place ≡ true) l.places
       → (moves : ℕ → List (ℕ × Move)) → HasCome l.origins.records l.origins.family.tasks moves l.initial.self
       → HasCome l.origins.records l.origins.family.tasks
-          (λ task.
-              moves task
-                  ++ flat_map (edge_moves l.edge l.origins.records task turn) (take l.at-index l.places))
-          l.self;
+      (λ task.
+      moves task
+      ++ flat_map (edge_moves l.edge l.origins.records task turn) (take l.at-index l.places))
+      l.self;
 }

@@ -18,18 +18,18 @@ loop-at-preserved c =
     let place = get_or left k 0 in
     let before = moves_read Rest rs (take k left) in
     come_same rs c.args.origins.now.family.tasks (and_record Rest rs place before)
-        (moves_read Rest rs (take (k + 1) left)) c.read.new.self
+    (moves_read Rest rs (take (k + 1) left)) c.read.new.self
     (rest_more rs left k place (slice_get-get_or left k 0 c.loop-at-test.true))
-        (c.read.ensures.come before c.loop-at.invariant)
+    (c.read.ensures.come before c.loop-at.invariant)
 
 pub returns : goal.returns
 returns c =
     let rs = c.args.origins.now.records in
     let left = c.args.left.now in
     come_same rs c.args.origins.now.family.tasks (moves_read Rest rs (take c.loop-at.at-index left))
-        (moves_before Rest rs (length rs)) c.loop-at.self
+    (moves_before Rest rs (length rs)) c.loop-at.self
     (λ task.
-        sym (c.requires.left.all task)
-            ∙ ap (λ l. moves_read Rest rs l task)
-                (sym (take_all c.loop-at.at-index left c.loop-at-test.false)))
-        c.loop-at.invariant
+    sym (c.requires.left.all task)
+    ∙ ap (λ l. moves_read Rest rs l task)
+    (sym (take_all c.loop-at.at-index left c.loop-at-test.false)))
+    c.loop-at.invariant

@@ -7,4 +7,4 @@ use Rattle.task_states.proofs.progress.Progress.read_rest.Given as goal
 abbrev pub invariant-loop-at : goal.invariant-loop-at
 invariant-loop-at l =
     HasCome l.origins.records l.origins.family.tasks
-        (moves_read Rest l.origins.records (take l.at-index l.left)) l.self
+    (moves_read Rest l.origins.records (take l.at-index l.left)) l.self

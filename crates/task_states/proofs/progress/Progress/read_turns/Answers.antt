@@ -19,17 +19,17 @@ loop-turn-init c =
     let rs = c.args.origins.now.records in
     come_same rs c.args.origins.now.family.tasks (moves_before Home rs (length rs)) _ c.args.self.now
     (λ task.
-        ap (λ l. moves_before Home rs (length rs) task ++ l) (turned_none rs task)
-            ∙ append-nil (moves_before Home rs (length rs) task))
-        c.requires
+    ap (λ l. moves_before Home rs (length rs) task ++ l) (turned_none rs task)
+    ∙ append-nil (moves_before Home rs (length rs) task))
+    c.requires
 
 pub read_edges-requires-clause-within : goal.read_edges-requires-clause-within
 read_edges-requires-clause-within c =
     let rs = c.args.origins.now.records in
     let turn = c.loop-turn.turn in
     let begins : c.row.result.now ≡ filter (is_edge Begins rs turn) (places rs) =
-        c.row.ensures ∙ ap (λ rows. row_at rows turn) c.as_slice.ensures.value
-            ∙ c.in_ok-begins.ensures turn c.loop-turn-test.true in
+    c.row.ensures ∙ ap (λ rows. row_at rows turn) c.as_slice.ensures.value
+    ∙ c.in_ok-begins.ensures turn c.loop-turn-test.true in
     subst (All (λ place. place < length rs)) (sym begins) (row_within Begins rs turn (length rs))
 
 pub read_edges-requires-in-loop-turn-clause-within : goal.read_edges-requires-in-loop-turn-clause-within
@@ -37,8 +37,8 @@ read_edges-requires-in-loop-turn-clause-within c =
     let rs = c.args.origins.now.records in
     let turn = c.loop-turn.turn in
     let ends : c.row-in-loop-turn.result.now ≡ filter (is_edge Ends rs turn) (places rs) =
-        c.row-in-loop-turn.ensures ∙ ap (λ rows. row_at rows turn) c.as_slice-in-loop-turn.ensures.value
-            ∙ c.in_ok-ends.ensures turn c.loop-turn-test.true in
+    c.row-in-loop-turn.ensures ∙ ap (λ rows. row_at rows turn) c.as_slice-in-loop-turn.ensures.value
+    ∙ c.in_ok-ends.ensures turn c.loop-turn-test.true in
     subst (All (λ place. place < length rs)) (sym ends) (row_within Ends rs turn (length rs))
 
 pub loop-turn-preserved : goal.loop-turn-preserved
@@ -50,40 +50,40 @@ loop-turn-preserved c =
     let ends = c.row-in-loop-turn.result.now in
     let before = moves_before Home rs (length rs) in
     let first : begins ≡ filter (is_edge Begins rs turn) (places rs) =
-        c.row.ensures ∙ ap (λ rows. row_at rows turn) c.as_slice.ensures.value
-            ∙ c.in_ok-begins.ensures turn low in
+    c.row.ensures ∙ ap (λ rows. row_at rows turn) c.as_slice.ensures.value
+    ∙ c.in_ok-begins.ensures turn low in
     let second : ends ≡ filter (is_edge Ends rs turn) (places rs) =
-        c.row-in-loop-turn.ensures ∙ ap (λ rows. row_at rows turn) c.as_slice-in-loop-turn.ensures.value
-            ∙ c.in_ok-ends.ensures turn low in
+    c.row-in-loop-turn.ensures ∙ ap (λ rows. row_at rows turn) c.as_slice-in-loop-turn.ensures.value
+    ∙ c.in_ok-ends.ensures turn low in
     let begins_all =
-        subst (All (λ place. is_edge Begins rs turn place ≡ true)) (sym first)
-            (row_edges Begins rs turn (places rs)) in
+    subst (All (λ place. is_edge Begins rs turn place ≡ true)) (sym first)
+    (row_edges Begins rs turn (places rs)) in
     let ends_all =
-        subst (All (λ place. is_edge Ends rs turn place ≡ true)) (sym second)
-            (row_edges Ends rs turn (places rs)) in
+    subst (All (λ place. is_edge Ends rs turn place ≡ true)) (sym second)
+    (row_edges Ends rs turn (places rs)) in
     let begun =
-        c.read_edges.ensures.come turn begins_all (λ task. before task ++ turned rs turn task)
-            c.loop-turn.invariant in
+    c.read_edges.ensures.come turn begins_all (λ task. before task ++ turned rs turn task)
+    c.loop-turn.invariant in
     let ended =
-        c.read_edges-in-loop-turn.ensures.come turn ends_all
-            (λ task. before task ++ turned rs turn task ++ flat_map (edge_moves Begins rs task turn) begins)
-            begun in
+    c.read_edges-in-loop-turn.ensures.come turn ends_all
+    (λ task. before task ++ turned rs turn task ++ flat_map (edge_moves Begins rs task turn) begins)
+    begun in
     come_same rs c.args.origins.now.family.tasks
-        (λ task.
-            (before task ++ turned rs turn task ++ flat_map (edge_moves Begins rs task turn) begins)
-                ++ flat_map (edge_moves Ends rs task turn) ends)
-        (λ task. before task ++ turned rs (turn + 1) task) c.read_edges-in-loop-turn.new.self
+    (λ task.
+    (before task ++ turned rs turn task ++ flat_map (edge_moves Begins rs task turn) begins)
+    ++ flat_map (edge_moves Ends rs task turn) ends)
+    (λ task. before task ++ turned rs (turn + 1) task) c.read_edges-in-loop-turn.new.self
     (λ task. turned_more rs task turn (before task) begins ends first second) ended
 
 pub returns : goal.returns
 returns c =
     let rs = c.args.origins.now.records in
     let last : c.loop-turn.turn ≡ turns_in rs =
-        omega (arith, c.loop-turn-test.false, c.loop-turn.auto.turn-end)
-            ∙ rw c.run.ensures.value at c.turn_count-turns.ensures in
+    omega (arith, c.loop-turn-test.false, c.loop-turn.auto.turn-end)
+    ∙ rw c.run.ensures.value at c.turn_count-turns.ensures in
     come_same rs c.args.origins.now.family.tasks
-        (λ task. moves_before Home rs (length rs) task ++ turned rs c.loop-turn.turn task)
-        (moves_before Rest rs 0) c.loop-turn.self
+    (λ task. moves_before Home rs (length rs) task ++ turned rs c.loop-turn.turn task)
+    (moves_before Rest rs 0) c.loop-turn.self
     (λ task.
-        rest_start rs task ∙ ap (λ n. moves_before Home rs (length rs) task ++ turned rs n task) (sym last))
-        c.loop-turn.invariant
+    rest_start rs task ∙ ap (λ n. moves_before Home rs (length rs) task ++ turned rs n task) (sym last))
+    c.loop-turn.invariant

@@ -7,7 +7,7 @@ use Rattle.task_states.proofs.progress.Progress.read_turns.Given as goal
 abbrev pub invariant-loop-turn : goal.invariant-loop-turn
 invariant-loop-turn l =
     HasCome l.origins.records l.origins.family.tasks
-        (λ task.
-            moves_before Home l.origins.records (length l.origins.records) task
-                ++ turned l.origins.records l.turn task)
-        l.self
+    (λ task.
+    moves_before Home l.origins.records (length l.origins.records) task
+    ++ turned l.origins.records l.turn task)
+    l.self

@@ -11,48 +11,48 @@ pub returns-in_err-find_misfit-clause-fault : goal.returns-in_err-find_misfit-cl
 returns-in_err-find_misfit-clause-fault c =
     let p = err_from_is_err_and c.from_residual.result c.from_residual.ensures.1 in
     rw (p.1, p.2)
-        (fault_current c.args.run.now.records c.in_err-find_misfit.field-0.0
-            c.in_err-find_misfit.ensures.fault)
+    (fault_current c.args.run.now.records c.in_err-find_misfit.field-0.0
+    c.in_err-find_misfit.ensures.fault)
 
 pub returns-in_err-schedules-clause-fault : goal.returns-in_err-schedules-clause-fault
 returns-in_err-schedules-clause-fault c =
     let p =
-        err_from_is_err_and c.from_residual-in_err-schedules.result
-            c.from_residual-in_err-schedules.ensures.1 in
+    err_from_is_err_and c.from_residual-in_err-schedules.result
+    c.from_residual-in_err-schedules.ensures.1 in
     rw (p.1, p.2)
-        (fault_moved c.args.run.now.records c.in_err-schedules.field-0.0 c.in_ok-find_misfit.ensures.free
-            c.in_err-schedules.ensures.fault)
+    (fault_moved c.args.run.now.records c.in_err-schedules.field-0.0 c.in_ok-find_misfit.ensures.free
+    c.in_err-schedules.ensures.fault)
 
 pub returns-in_err-exclude-clause-fault : goal.returns-in_err-exclude-clause-fault
 returns-in_err-exclude-clause-fault c =
     let p =
-        err_from_is_err_and c.from_residual-in_err-exclude.result c.from_residual-in_err-exclude.ensures.1 in
+    err_from_is_err_and c.from_residual-in_err-exclude.result c.from_residual-in_err-exclude.ensures.1 in
     let rs = c.args.run.now.records in
     rw (p.1, p.2)
-        (fault_gap rs c.in_err-exclude.field-0.0 c.in_ok-find_misfit.ensures.free
-            c.in_ok-schedules.ensures.free (c.in_err-exclude.ensures.fault rs c.requires.gap))
+    (fault_gap rs c.in_err-exclude.field-0.0 c.in_ok-find_misfit.ensures.free
+    c.in_ok-schedules.ensures.free (c.in_err-exclude.ensures.fault rs c.requires.gap))
 
 pub returns-in_err-states-clause-fault : goal.returns-in_err-states-clause-fault
 returns-in_err-states-clause-fault c =
     let p =
-        err_from_is_err_and c.from_residual-in_err-states.result c.from_residual-in_err-states.ensures.1 in
+    err_from_is_err_and c.from_residual-in_err-states.result c.from_residual-in_err-states.ensures.1 in
     rw (p.1, p.2)
-        (fault_status c.args.run.now.records c.in_err-states.field-0.0 c.in_ok-find_misfit.ensures.free
-            c.in_ok-schedules.ensures.free
-            (c.in_ok-exclude.ensures.free c.args.run.now.records c.requires.gap)
-            (rw c.in_ok-schedules.ensures.run at c.in_err-states.ensures.fault))
+    (fault_status c.args.run.now.records c.in_err-states.field-0.0 c.in_ok-find_misfit.ensures.free
+    c.in_ok-schedules.ensures.free
+    (c.in_ok-exclude.ensures.free c.args.run.now.records c.requires.gap)
+    (rw c.in_ok-schedules.ensures.run at c.in_err-states.ensures.fault))
 
 pub returns-in_err-regions-clause-fault : goal.returns-in_err-regions-clause-fault
 returns-in_err-regions-clause-fault c =
     let p =
-        err_from_is_err_and c.from_residual-in_err-regions.result c.from_residual-in_err-regions.ensures.1 in
+    err_from_is_err_and c.from_residual-in_err-regions.result c.from_residual-in_err-regions.ensures.1 in
     rw (p.1, p.2)
-        (fault_region c.args.run.now.records c.args.own.now c.in_err-regions.field-0.0 c.requires.own
-            c.run-records.ensures.is_own.places c.in_ok-find_misfit.ensures.free
-            c.in_ok-schedules.ensures.free
-            (c.in_ok-exclude.ensures.free c.args.run.now.records c.requires.gap)
-            (rw c.in_ok-schedules.ensures.run at c.in_ok-states.ensures.ordered)
-            c.in_err-regions.ensures.fault)
+    (fault_region c.args.run.now.records c.args.own.now c.in_err-regions.field-0.0 c.requires.own
+    c.run-records.ensures.is_own.places c.in_ok-find_misfit.ensures.free
+    c.in_ok-schedules.ensures.free
+    (c.in_ok-exclude.ensures.free c.args.run.now.records c.requires.gap)
+    (rw c.in_ok-schedules.ensures.run at c.in_ok-states.ensures.ordered)
+    c.in_err-regions.ensures.fault)
 
 pub invariant_of-result : goal.invariant_of-result
 invariant_of-result c = rw (c.again.ensures, c.run.ensures.value, c.in_ok-schedules.ensures.run) (record {

@@ -19,26 +19,26 @@ unwrap-trace-requires c =
     let rs = c.args.trace.now.records in
     let P : ℕ → Type 0 = λ version. IsTraceOf version rs in
     let trace : IsTraceOf 2 rs =
-        subst P c.requires.version (rw c.records.ensures.value at c.records.ensures.is_trace) in
+    subst P c.requires.version (rw c.records.ensures.value at c.records.ensures.is_trace) in
     accepted_arranged rs c.in_ok-records.records.items c.from_turns.result (copies c) trace
-        c.from_turns.ensures.refused
+    c.from_turns.ensures.refused
 
 pub returns-in_err-family-clause-memory_alone : goal.returns-in_err-family-clause-memory_alone
 returns-in_err-family-clause-memory_alone c =
     let rs = c.args.trace.now.records in
     let p =
-        err_from_is_err_and c.from_residual-in_err-family.result c.from_residual-in_err-family.ensures.1 in
+    err_from_is_err_and c.from_residual-in_err-family.result c.from_residual-in_err-family.ensures.1 in
     let made = rw c.unwrap-trace.ensures at c.from_turns.ensures.accepted in
     let copied : c.in_ok-records.records.items ≡ in_own_order rs =
-        rw (c.requires.order, c.records.ensures.value) at c.in_ok-records.ensures in
+    rw (c.requires.order, c.records.ensures.value) at c.in_ok-records.ensures in
     rw (p.1, p.2)
-        (memory_arranged rs c.unwrap-trace.result.records c.in_err-family.field-0.0
-            (ap (λ (t : TraceView). t.records) made ∙ copied) c.requires.once c.requires.rooted
-            c.in_err-family.ensures.fault)
+    (memory_arranged rs c.unwrap-trace.result.records c.in_err-family.field-0.0
+    (ap (λ (t : TraceView). t.records) made ∙ copied) c.requires.once c.requires.rooted
+    c.in_err-family.ensures.fault)
 
 pub returns-clause-records : goal.returns-clause-records
 returns-clause-records c =
     let made = rw c.unwrap-trace.ensures at c.from_turns.ensures.accepted in
     let copied : c.in_ok-records.records.items ≡ in_own_order c.args.trace.now.records =
-        rw (c.requires.order, c.records.ensures.value) at c.in_ok-records.ensures in
+    rw (c.requires.order, c.records.ensures.value) at c.in_ok-records.ensures in
     ap (λ (t : TraceView). t.records) made ∙ copied

@@ -20,9 +20,9 @@ returns-then-branch-clause-families c =
     let rs = c.args.trace.now.records in
     let own = c.in_ok-is_in_own_order.ensures in
     file_families rs _ c.in_ok-file.ensures.family (own.rises c.if-branch.true) (own.gapless c.if-branch.true)
-        refl
-        (c.in_file.ensures ∙ ap (λ (l : List Record). range_with_len 0 (length l)) c.records.ensures.value)
-        refl
+    refl
+    (c.in_file.ensures ∙ ap (λ (l : List Record). range_with_len 0 (length l)) c.records.ensures.value)
+    refl
 
 pub returns-clause-families : goal.returns-clause-families
 returns-clause-families c =
@@ -30,4 +30,4 @@ returns-clause-families c =
     let gap = rw c.records-3.ensures.value at c.in_ok-gap.ensures in
     let order = c.in_ok-order.ensures ∙ ap (λ (l : List Record). own_places l) c.records-4.ensures.value in
     arranged_families rs _ c.in_ok-of.field-0 c.in_ok-file.ensures.family c.in_ok-of.ensures.is_run
-        c.in_ok-of.ensures.records gap refl order
+    c.in_ok-of.ensures.records gap refl order

@@ -10,5 +10,5 @@ use Rattle.task_tree.proofs.family.Family.climbs.Given as goal
 abbrev pub invariant-loop-step : goal.invariant-loop-step
 invariant-loop-step l =
     (records : List Record) → IsFamilyOf records l.self → (root task : ℕ) (whole : List ℕ)
-        → slice_get l.self.tasks l.index ≡ Some task → HasPath records root task whole
-        → length whole ≡ length l.path → IsClimbing records l.self.tasks root whole l.path l.step l.current
+    → slice_get l.self.tasks l.index ≡ Some task → HasPath records root task whole
+    → length whole ≡ length l.path → IsClimbing records l.self.tasks root whole l.path l.step l.current

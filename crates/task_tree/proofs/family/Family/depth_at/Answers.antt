@@ -7,9 +7,9 @@ use Rattle.task_tree.proofs.family.Family.depth_at.Goals as goal
 pub returns-in-Some : goal.returns-in-Some
 returns-in-Some c =
     ap (λ o. option_map_or (λ (s : Standing). s.depth) o 0) (sym c.in-Some.is)
-        ∙ depth_read c.args.self.now c.args.index c.standing_at.result c.standing_at.ensures
+    ∙ depth_read c.args.self.now c.args.index c.standing_at.result c.standing_at.ensures
 
 pub returns-in-None : goal.returns-in-None
 returns-in-None c =
     ap (λ o. option_map_or (λ (s : Standing). s.depth) o 0) (sym c.in-None.is)
-        ∙ depth_read c.args.self.now c.args.index c.standing_at.result c.standing_at.ensures
+    ∙ depth_read c.args.self.now c.args.index c.standing_at.result c.standing_at.ensures

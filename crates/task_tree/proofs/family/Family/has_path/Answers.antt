@@ -7,8 +7,8 @@ returns-in_default c = λ records are task here. (
   λ no. absurd (false≢true no),
   λ stands.
       absurd
-          (standing_none records c.args.self.now c.args.index task c.args.root c.args.path.now
-              c.standing_at.result are here c.standing_at.ensures c.in_default.is stands),
+      (standing_none records c.args.self.now c.args.index task c.args.root c.args.path.now
+      c.standing_at.result are here c.standing_at.ensures c.in_default.is stands),
 )
 
 pub returns-then-standing-root : goal.returns-then-standing-root
@@ -16,10 +16,10 @@ returns-then-standing-root c = λ records are task here. (
   λ no. absurd (false≢true no),
   λ stands.
       absurd
-          (c.if-standing-root.true
-              (standing_there records c.args.self.now c.args.index task c.args.root c.args.path.now
-                  c.standing_at.result c.in-Some.standing are here c.standing_at.ensures c.in-Some.is
-                  stands).0),
+      (c.if-standing-root.true
+      (standing_there records c.args.self.now c.args.index task c.args.root c.args.path.now
+      c.standing_at.result c.in-Some.standing are here c.standing_at.ensures c.in-Some.is
+      stands).0),
 )
 
 pub returns-then-standing-path : goal.returns-then-standing-path
@@ -27,15 +27,15 @@ returns-then-standing-path c = λ records are task here. (
   λ no. absurd (false≢true no),
   λ stands.
       absurd
-          (c.if-standing-path.true
-              (standing_there records c.args.self.now c.args.index task c.args.root c.args.path.now
-                  c.standing_at.result c.in-Some.standing are here c.standing_at.ensures c.in-Some.is
-                  stands).1),
+      (c.if-standing-path.true
+      (standing_there records c.args.self.now c.args.index task c.args.root c.args.path.now
+      c.standing_at.result c.in-Some.standing are here c.standing_at.ensures c.in-Some.is
+      stands).1),
 )
 
 pub returns : goal.returns
 returns c = λ records are task here.
     path_by records c.args.self.now c.args.index task c.args.root c.args.path.now c.standing_at.result
-        c.in-Some.standing c.climbs.result are here c.standing_at.ensures c.in-Some.is
-        c.if-standing-root.false c.if-standing-path.false
+    c.in-Some.standing c.climbs.result are here c.standing_at.ensures c.in-Some.is
+    c.if-standing-root.false c.if-standing-path.false
     (λ root whole stands long. c.climbs.ensures records are root task whole here stands long)

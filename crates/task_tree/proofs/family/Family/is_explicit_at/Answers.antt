@@ -11,6 +11,6 @@ returns c = λ records are task is.
     let aligned = c.self.invariant in
     let within : c.args.index < length c.self.inside.links.items = omega (arith, inside, aligned) in
     rw (c.is_some.ensures, c.get.ensures)
-        (explicit_is records _ c.args.index task c.index.result.now own is_own
-            (slice_get_read c.self.inside.links.items (length c.self.inside.links.items) c.args.index
-                c.index.result.now refl within c.index.ensures))
+    (explicit_is records _ c.args.index task c.index.result.now own is_own
+    (slice_get_read c.self.inside.links.items (length c.self.inside.links.items) c.args.index
+    c.index.result.now refl within c.index.ensures))

@@ -7,5 +7,5 @@ use Rattle.task_tree.proofs.family.Family.root.Goals as goal
 pub returns : goal.returns
 returns c = λ records are.
     let is : c.map.result ≡ option_map (λ (standing : Standing). standing.root) c.standing_of.result =
-        search rules in
+    search rules in
     rw is (root_is records c.args.self.now c.args.task c.standing_of.result are c.standing_of.ensures)

@@ -4,5 +4,5 @@ use Rattle.task_tree.proofs.family.Family.subject.Goals as goal
 pub returns : goal.returns
 returns c =
     λ records are.
-        rw (← c.self.view_is, c.slot_at.ensures, c.as_slice.ensures.value)
-            (subject_calls records _ c.args.at (rw (← c.self.view_is) at are))
+    rw (← c.self.view_is, c.slot_at.ensures, c.as_slice.ensures.value)
+    (subject_calls records _ c.args.at (rw (← c.self.view_is) at are))

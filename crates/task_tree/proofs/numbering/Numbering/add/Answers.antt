@@ -10,9 +10,9 @@ invariant_of-self-in-Ok c =
     let ids = c.self.inside.ids.items in
     let is : c.len-index.result ≡ length ids = search rules in
     let updates : Updates nat_cmp c.self.inside.indices c.insert.new.self c.args.id
-            (Some c.len-index.result) =
-        c.in-Ok.ensures.updates in
+    (Some c.len-index.result) =
+    c.in-Ok.ensures.updates in
     let P : ℕ → Type 0 = λ k. Updates nat_cmp c.self.inside.indices c.insert.new.self c.args.id (Some k) in
     rw c.in_ok-push.ensures.items
-        (indices_more ids (order_of c.self.inside.ranks) c.self.inside.indices c.insert.new.self c.args.id
-            c.self.invariant (rw (← c.self.view_is) at c.requires) (subst P is updates))
+    (indices_more ids (order_of c.self.inside.ranks) c.self.inside.indices c.insert.new.self c.args.id
+    c.self.invariant (rw (← c.self.view_is) at c.requires) (subst P is updates))

@@ -9,6 +9,6 @@ returns-then-index-id c =
     let ids = c.self.inside.ids.items in
     let within : c.args.near < length ids = search rules in
     let is : slice_get ids c.args.near ≡ Some c.args.id =
-        slice_get_read ids (length ids) c.args.near c.index.result.now refl within c.index.ensures
-            ∙ ap Some c.if-index-id.true in
+    slice_get_read ids (length ids) c.args.near c.index.result.now refl within c.index.ensures
+    ∙ ap Some c.if-index-id.true in
     rw (← c.self.view_is) (index_is ids c.args.id c.args.near c.self.invariant.apart is)

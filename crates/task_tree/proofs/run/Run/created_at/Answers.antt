@@ -8,6 +8,6 @@ returns-then-is_explicit_at c = λ task place is.
     let rs = run.records.now in
     let here = rw (← c.self.view_is) at is in
     rw (← c.self.view_is)
-        (created_place rs task c.made_at.result place c.self.invariant.family.once
-            ((c.is_explicit_at.ensures rs c.self.invariant.family task here).0 c.if-is_explicit_at.true)
-            (c.made_at.ensures rs c.self.invariant.family ∙ here))
+    (created_place rs task c.made_at.result place c.self.invariant.family.once
+    ((c.is_explicit_at.ensures rs c.self.invariant.family task here).0 c.if-is_explicit_at.true)
+    (c.made_at.ensures rs c.self.invariant.family ∙ here))

@@ -13,5 +13,5 @@ returns-clause-tree c =
       families = families;
       paths =
           paths_alike reading.records (in_own_order rs) (own_family c.in_ok-families.families).tasks
-              c.in_ok-paths.paths.items reading.same (paths reading.records reading.family);
+          c.in_ok-paths.paths.items reading.same (paths reading.records reading.family);
     }

@@ -18,8 +18,8 @@ returns-in_err-teams-clause-fault c =
     let Q : RegionsView → Type 0 = λ r. IsOwnFault r.own TeamShort c.in_err-teams.field-0.0 in
     let p = err_from_is_err_and c.from_residual.result c.from_residual.ensures.1 in
     rw (p.1, p.2)
-        (own_fault rs own TeamShort c.in_err-teams.field-0.0 of_teams (subst P c.requires.records states.own)
-            states.regions.own.places (subst Q c.regions.ensures.value c.in_err-teams.ensures.fault))
+    (own_fault rs own TeamShort c.in_err-teams.field-0.0 of_teams (subst P c.requires.records states.own)
+    states.regions.own.places (subst Q c.regions.ensures.value c.in_err-teams.ensures.fault))
 
 pub invariant_of-result : goal.invariant_of-result
 invariant_of-result c = record {
@@ -39,5 +39,5 @@ invariant_of-result c = record {
 pub returns-clause-coverage : goal.returns-clause-coverage
 returns-clause-coverage c =
     build_own c.args.trace.now.records c.args.states.now c.regions.result.now c.in_ok-teams.teams
-        c.requires.records c.regions.ensures.is_states c.regions.ensures.value c.in_ok-teams.ensures.run
-        c.in_ok-teams.ensures.places
+    c.requires.records c.regions.ensures.is_states c.regions.ensures.value c.in_ok-teams.ensures.run
+    c.in_ok-teams.ensures.places

@@ -16,5 +16,5 @@ returns-clause-first c = λ ledger right end here.
     (known.teams ∙ c.teams.ensures.value) c.done-done.ensures.is_done
     (known.done (subst P (sym c.teams.ensures.value) ledger))
     (one_number_of c.args.self.now c.args.index c.end.result end c.teams.ensures.is_coverage
-        c.end.ensures.value here)
-        c.in_ok-open_at.ensures
+    c.end.ensures.value here)
+    c.in_ok-open_at.ensures

@@ -8,7 +8,7 @@ use Rattle.wait_coverage.proofs.coverage.Coverage.first_open_all.Goals as goal
 pub loop-asked-init : goal.loop-asked-init
 loop-asked-init c =
     λ ledger right.
-        none_asked c.args.self.now c.args.of.now c.in_ok-found.found.items c.in_ok-found.ensures.items
+    none_asked c.args.self.now c.args.of.now c.in_ok-found.found.items c.in_ok-found.ensures.items
 
 pub loop-asked-preserved : goal.loop-asked-preserved
 loop-asked-preserved c = λ ledger right.
@@ -18,10 +18,10 @@ loop-asked-preserved c = λ ledger right.
     let known = c.in_ok-known.ensures in
     rw c.in_ok-push.ensures.items (one_more coverage c.args.of.now c.loop-asked.asked index
     c.in_ok-open_at.field-0 c.loop-asked.found.items
-        (slice_get-get_or c.args.of.now c.loop-asked.asked 0 c.loop-asked-test.true)
+    (slice_get-get_or c.args.of.now c.loop-asked.asked 0 c.loop-asked-test.true)
     (c.loop-asked.invariant ledger right)
     (λ end here. open_first coverage.teams c.in_ok-known.known.done c.end.result end c.in_ok-open_at.field-0
     (known.teams ∙ c.teams.ensures.value) c.done-done.ensures.is_done
     (known.done (subst P (sym c.teams.ensures.value) ledger))
     (one_number_of coverage index c.end.result end c.teams.ensures.is_coverage c.end.ensures.value here)
-        c.in_ok-open_at.ensures))
+    c.in_ok-open_at.ensures))

@@ -16,11 +16,11 @@ returns-clause-held c = λ ledger right.
     let seen = c.seen-seen.ensures ∙ ap (λ (r : RunView). seen_at r.records c.end.result) is_run in
     if_ok-map (λ held tells is end here.
     let at_end =
-        one_number_of coverage c.args.index c.end.result end c.teams.ensures.is_coverage c.end.ensures.value
-            here in
+    one_number_of coverage c.args.index c.end.result end c.teams.ensures.is_coverage c.end.ensures.value
+    here in
     let names = ap (seen_at run.records) (sym at_end) ∙ sym seen in
     held_complete coverage c.args.ledger.now end c.seen-seen.result (cover_of wait) c.in_ok-spans.spans.items
-        c.teams.ensures.is_coverage right ledger
+    c.teams.ensures.is_coverage right ledger
     (c.in_ok-spans.ensures end (c.wait-wait.ensures end here)) names
-        (rw (c.cover.ensures, c.as_slice.ensures.value) at (tells is))
+    (rw (c.cover.ensures, c.as_slice.ensures.value) at (tells is))
     ) c.are_held.result c.are_held.ensures.held

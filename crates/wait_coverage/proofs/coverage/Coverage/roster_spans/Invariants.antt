@@ -5,4 +5,4 @@ use Rattle.wait_coverage.proofs.coverage.Coverage.roster_spans.Given as goal
 abbrev pub invariant-loop-index : goal.invariant-loop-index
 invariant-loop-index l =
     AreRosterSpans l.self.teams.run.records l.self.teams.run.family.tasks l.number l.roster l.index
-        l.spans.items
+    l.spans.items

@@ -14,8 +14,8 @@ returns c =
     let is = c.self.invariant in
     let run = c.self.inside.teams.run in
     let there =
-        ap (λ (r : RunView). slice_get r.family.tasks c.args.task) (sym c.run.ensures.value)
-            ∙ c.task-id.ensures in
+    ap (λ (r : RunView). slice_get r.family.tasks c.args.task) (sym c.run.ensures.value)
+    ∙ c.task-id.ensures in
     let same = same_Some c.task-id.result id (sym there ∙ here) in
     span_is run.records run.family c.args.task id _ is.teams.run.family here (λ root path stands.
     let P : ℕ → Type 0 = λ t. HasPath run.records c.in_ok-root.root t c.in_ok-root.path in

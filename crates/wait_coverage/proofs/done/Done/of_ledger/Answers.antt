@@ -14,13 +14,13 @@ returns-clause-done c = λ ledger.
     let table = c.in_ok-lengths.lengths.items in
     let entries = c.args.ledger.now in
     let R : RunView → Type 0 =
-        λ r. IsLedgerOf r.records entries → AreLengthsBelow r.records (length entries) r.family.tasks table in
+    λ r. IsLedgerOf r.records entries → AreLengthsBelow r.records (length entries) r.family.tasks table in
     let are : R teams.run = subst R c.run.ensures.value c.in_ok-lengths.ensures.lengths in
     let lengths = c.as_slice.ensures.value in
     ok_both c.by_lengths.result (λ done. done.teams ≡ teams)
-        (λ done. done.own ≡ map done_length c.as_slice.result.now) AreDone c.by_lengths.ensures.teams
-        c.by_lengths.ensures.own ( λ done same own.
+    (λ done. done.own ≡ map done_length c.as_slice.result.now) AreDone c.by_lengths.ensures.teams
+    c.by_lengths.ensures.own (λ done same own.
     let P : TeamsView → Type 0 = λ t. AreOwn t.run.records t.run.family.tasks done.own in
     subst P (sym same)
-        (own_of_entries teams.run.records entries teams.run.family.tasks table done.own
-            c.run.ensures.is_teams.run.trace ledger (are ledger) (own ∙ ap (map done_length) lengths)))
+    (own_of_entries teams.run.records entries teams.run.family.tasks table done.own
+    c.run.ensures.is_teams.run.trace ledger (are ledger) (own ∙ ap (map done_length) lengths)))

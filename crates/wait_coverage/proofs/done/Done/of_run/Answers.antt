@@ -15,9 +15,9 @@ returns-clause-done c =
     let are : R teams.run = subst R c.run.ensures.value c.in_ok-lengths.ensures in
     let lengths = c.as_slice.ensures.value in
     ok_both c.by_lengths.result (λ done. done.teams ≡ teams)
-        (λ done. done.own ≡ map done_length c.as_slice.result.now) AreDone c.by_lengths.ensures.teams
-        c.by_lengths.ensures.own ( λ done same own.
+    (λ done. done.own ≡ map done_length c.as_slice.result.now) AreDone c.by_lengths.ensures.teams
+    c.by_lengths.ensures.own (λ done same own.
     let P : TeamsView → Type 0 = λ t. AreOwn t.run.records t.run.family.tasks done.own in
     subst P (sym same)
-        (own_of_records teams.run.records teams.run.family.tasks table done.own are
-            (own ∙ ap (map done_length) lengths)))
+    (own_of_records teams.run.records teams.run.family.tasks table done.own are
+    (own ∙ ap (map done_length) lengths)))

@@ -8,6 +8,6 @@ returns c =
     let below = rw (← c.self.view_is) at c.requires in
     let count = c.self.invariant.count in
     rw (← c.self.view_is)
-        (c.self.invariant.known c.args.number c.index.result.now
-            (read_at inside.nodes.items c.args.number c.index.result.now (omega (arith, below, count))
-                c.index.ensures))
+    (c.self.invariant.known c.args.number c.index.result.now
+    (read_at inside.nodes.items c.args.number c.index.result.now (omega (arith, below, count))
+    c.index.ensures))

@@ -17,11 +17,11 @@ returns-in-Taskwait c = λ parent here.
     let run = search.teams.run in
     let is_wait = sym c.in-Taskwait.is ∙ ap (λ (s : SearchView). s.wait) c.self.view_is in
     let P : Wait → Type 0 =
-        λ w. IsTrue c.is_between.result ↔ IsWithin run.records run.family.tasks parent c.args.made w in
+    λ w. IsTrue c.is_between.result ↔ IsWithin run.records run.family.tasks parent c.args.made w in
     subst P is_wait
-        (within_taskwait run.records run.family.tasks parent c.args.made c.args.index c.in-Taskwait.task
-            c.in-Taskwait.begin c.is_between.result known.teams.run.family.makers.apart here
-            c.is_between.ensures)
+    (within_taskwait run.records run.family.tasks parent c.args.made c.args.index c.in-Taskwait.task
+    c.in-Taskwait.begin c.is_between.result known.teams.run.family.makers.apart here
+    c.is_between.ensures)
 
 pub returns-in-Taskgroup : goal.returns-in-Taskgroup
 returns-in-Taskgroup c = λ parent here.
@@ -32,9 +32,9 @@ returns-in-Taskgroup c = λ parent here.
     let answer = c.is_between-in-Taskgroup.result in
     let P : Wait → Type 0 = λ w. IsTrue answer ↔ IsWithin run.records run.family.tasks parent c.args.made w in
     subst P is_wait
-        (within_taskgroup run.records run.family.tasks parent c.args.made c.args.index c.in-Taskgroup.task
-            c.in-Taskgroup.begin c.in-Taskgroup.end answer known.teams.run.family.makers.apart here
-            c.is_between-in-Taskgroup.ensures)
+    (within_taskgroup run.records run.family.tasks parent c.args.made c.args.index c.in-Taskgroup.task
+    c.in-Taskgroup.begin c.in-Taskgroup.end answer known.teams.run.family.makers.apart here
+    c.is_between-in-Taskgroup.ensures)
 
 pub returns-then-are_teammates : goal.returns-then-are_teammates
 returns-then-are_teammates c = λ parent here.
@@ -53,16 +53,16 @@ returns-then-are_teammates c = λ parent here.
     let own = get_or tasks task 0 in
     let is_own = slice_get-get_or tasks task 0 inside in
     let M : TeamsView → Type 0 =
-        λ t.
-            slice_get t.run.family.tasks task ≡ Some own
-                → slice_get t.run.family.tasks c.args.index ≡ Some parent
-                → IsTrue c.are_teammates.result ↔ IsTeammate t.run.records own parent in
+    λ t.
+    slice_get t.run.family.tasks task ≡ Some own
+    → slice_get t.run.family.tasks c.args.index ≡ Some parent
+    → IsTrue c.are_teammates.result ↔ IsTeammate t.run.records own parent in
     let mates = subst M teams_is (c.are_teammates.ensures own parent) is_own here in
     let B : TeamsView → Type 0 =
-        λ t. IsTrue answer ↔ IsBeforeBegin (row_at t.begins c.args.index) number c.args.made in
+    λ t. IsTrue answer ↔ IsBeforeBegin (row_at t.begins c.args.index) number c.args.made in
     let before = subst B teams_is c.is_before_begin.ensures in
     let P : Wait → Type 0 = λ w. IsTrue answer ↔ IsWithin rs tasks parent c.args.made w in
     subst P is_wait
-        (within_barrier rs tasks (row_at search.teams.begins c.args.index) own parent c.args.made c.args.index
-            task number answer is_own (mates.0 c.if-are_teammates.true)
-            (known.teams.begins.each c.args.index parent here) before)
+    (within_barrier rs tasks (row_at search.teams.begins c.args.index) own parent c.args.made c.args.index
+    task number answer is_own (mates.0 c.if-are_teammates.true)
+    (known.teams.begins.each c.args.index parent here) before)
