@@ -16,7 +16,7 @@ use Rattle.credit_ledger.specs.Seats.{AreClaims, claim_of}
 use Rattle.credit_ledger.proofs.ExtendsLemmas.{GoOn, starts-go_on}
 use Rattle.thread_buffers.specs.Buffers.{BufferView}
 use Rattle.recorder.specs.Logs.{AreOrderly, known_of}
-use Rattle.recorder.specs.Recorders.{RecorderView, AreEntered}
+use Rattle.recorder.specs.Recorders.{RecorderView, HaveEntries}
 use Rattle.callbacks.specs.Closed.{thread_of, recorded_by, IsBuffer, AreClosed, IsPart, AreParts}
 
 pub parts-claims : (recorders : List RecorderView) (seats : List Seat) (buffers : List BufferView)
@@ -73,7 +73,7 @@ part-buffer r s b entries part on = record {
       (subst (AreOrderly r.thread) (sym part.records_are) part.recorded.orderly);
   known = subst (λ l. known_of l ≤ length entries) (sym part.records_are)
       (omega (arith, part.recorded.known_rises, part.backed.seen, on.length_kept));
-  entered = subst (λ l. AreEntered l entries) (sym part.records_are)
+  entered = subst (λ l. HaveEntries l entries) (sym part.records_are)
       (λ i q e is makes. on.kept q.seen e (part.backed.entered i q e is makes));
 }
 

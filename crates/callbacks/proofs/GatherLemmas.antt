@@ -16,7 +16,7 @@ use Rattle.thread_buffers.specs.Buffers.{BufferView}
 use Rattle.trace_ledger.proofs.EntryLemmas.{get_take}
 use Rattle.recorder.specs.Logs.{Follows}
 use Rattle.callbacks.specs.Closed.{ClosedView, IsBuffer, AreClosed}
-use Rattle.callbacks.specs.Gathered.{gathered, AreApart}
+use Rattle.callbacks.specs.Gathered.{gathered, HaveOwnThreads}
 
 -- ---- lists
 
@@ -131,7 +131,7 @@ pub follows_of : (closed : ClosedView) (i : ℕ) (r : Record) → AreClosed clos
 follows_of closed i r are from = (buffer_of closed i r are from).orderly from.place r from.is
 
 -- two buffers of one thread are one
-same_buffer : (buffers : List BufferView) (m n : ℕ) (a b : BufferView) → AreApart buffers
+same_buffer : (buffers : List BufferView) (m n : ℕ) (a b : BufferView) → HaveOwnThreads buffers
     → slice_get buffers m ≡ Some a → slice_get buffers n ≡ Some b → a.thread ≡ b.thread → m ≡ n
 same_buffer buffers m n a b apart first second same = elim (cases_order m n) [
   | inl is ↦ is
@@ -150,7 +150,7 @@ pub record AreOfOne (buffers : List BufferView) (k i : ℕ) (q r : Record) : Typ
   pub first_is : slice_get buffer.records first ≡ Some q
   pub second_is : slice_get buffer.records second ≡ Some r
 
-pub of_one : (closed : ClosedView) (k i : ℕ) (q r : Record) → AreClosed closed → AreApart closed.buffers
+pub of_one : (closed : ClosedView) (k i : ℕ) (q r : Record) → AreClosed closed → HaveOwnThreads closed.buffers
     → k < i → slice_get (gathered closed.buffers) k ≡ Some q → slice_get (gathered closed.buffers) i ≡ Some r
     → q.thread ≡ r.thread → AreOfOne closed.buffers k i q r
 of_one closed k i q r are apart less first second same =
@@ -179,7 +179,7 @@ abbrev is_of : ℕ → Record → Bool
 is_of thread q = q.thread == thread
 
 -- an earlier buffer is of another thread
-other_thread : (closed : ClosedView) (i : ℕ) (r : Record) → AreClosed closed → AreApart closed.buffers
+other_thread : (closed : ClosedView) (i : ℕ) (r : Record) → AreClosed closed → HaveOwnThreads closed.buffers
     → (from : IsGathered closed.buffers i r) → (k : ℕ) (q : Record)
     → slice_get (gathered (take from.number closed.buffers)) k ≡ Some q → is_of r.thread q ≡ false
 other_thread closed i r are apart from k q is =
@@ -203,11 +203,11 @@ same_thread closed i r are from k q is =
     eq-eqb q.thread r.thread (its ∙ sym (follows_of closed i r are from).thread_is)
 
 -- the records of the thread before i are those before it in its buffer
-pub own_before : (closed : ClosedView) (i : ℕ) (r : Record) → AreClosed closed → AreApart closed.buffers
+pub buffer_before : (closed : ClosedView) (i : ℕ) (r : Record) → AreClosed closed → HaveOwnThreads closed.buffers
     → (from : IsGathered closed.buffers i r)
     → filter (λ q. q.thread == r.thread) (take i (gathered closed.buffers))
     ≡ take from.place from.buffer.records
-own_before closed i r are apart from =
+buffer_before closed i r are apart from =
     let earlier = gathered (take from.number closed.buffers) in
     let own = take from.place from.buffer.records in
     ap (filter (is_of r.thread)) from.before

@@ -12,7 +12,7 @@ use Rattle.ompt_events.specs.Records.{finish, made}
 use Rattle.thread_buffers.specs.Buffers.{BufferView}
 use Rattle.callbacks.specs.declared.gathering.Counted.{Counted}
 use Rattle.callbacks.specs.declared.gathering.Counted.TheVariants.{Entries, Records, Tasks}
-use Rattle.callbacks.specs.Gathered.{gathered, AreApart, count_of}
+use Rattle.callbacks.specs.Gathered.{gathered, HaveOwnThreads, count_of}
 
 pub count-append : (what : Counted) (xs ys : List Record)
     → count_of what (xs ++ ys) ≡ count_of what xs + count_of what ys
@@ -46,7 +46,7 @@ count-below what (x ∷ buffers) (suc i) b is =
 pub apart-from_next : (buffers : List BufferView) → IsNonDecreasingBy (λ (b : BufferView). b.thread) buffers
     → ((i : ℕ) (a b : BufferView) → i + 1 < length buffers → slice_get buffers i ≡ Some a
     → slice_get buffers (i + 1) ≡ Some b → a.thread ≢ b.thread)
-    → AreApart buffers
+    → HaveOwnThreads buffers
 apart-from_next buffers sorted next i j a b less is_a is_b same =
     let far = slice_get_within buffers j b is_b in
     let c : BufferView = get_or buffers (i + 1) a in

@@ -30,9 +30,9 @@ use Rattle.recorder.specs.Standing.{innermost, next_standing, is_outside}
 use Rattle.recorder.specs.Logs.{standing_of, AreOrderly}
 use Rattle.recorder.proofs.LogLemmas.{standing-pushed}
 use Rattle.callbacks.specs.Closed.{ClosedView, AreClosed}
-use Rattle.callbacks.specs.Gathered.{gathered, AreApart}
+use Rattle.callbacks.specs.Gathered.{gathered, HaveOwnThreads}
 use Rattle.callbacks.proofs.GatherLemmas.{IsGathered, from_buffer, in_gathered, buffer_of, follows_of}
-use Rattle.callbacks.proofs.GatherLemmas.{own_before}
+use Rattle.callbacks.proofs.GatherLemmas.{buffer_before}
 use Rattle.callbacks.proofs.KnownLaw.{take_next}
 use Rattle.callbacks.proofs.ThreadLaws.{allowed_outside}
 
@@ -270,12 +270,12 @@ initial_stands closed i r task from is =
     let here = in_gathered closed.buffers from.number p from.buffer q from.stands there in
     (k, at_get begun_initial (gathered closed.buffers) k q here ∙ begins)
 
-roots_at : (closed : ClosedView) (i : ℕ) (r : Record) → AreClosed closed → AreApart closed.buffers
+roots_at : (closed : ClosedView) (i : ℕ) (r : Record) → AreClosed closed → HaveOwnThreads closed.buffers
     → (from : IsGathered closed.buffers i r)
     → (walk_of r.thread (take i (gathered closed.buffers))).roots ≡ open_roots (stood closed i r from)
 roots_at closed i r are apart from =
     let within = slice_get_within from.buffer.records from.place r from.is in
-    ap (λ l. (fold after_record threads.at_start l).roots) (own_before closed i r are apart from)
+    ap (λ l. (fold after_record threads.at_start l).roots) (buffer_before closed i r are apart from)
     ∙ roots_along from.buffer.thread from.buffer.records from.place (buffer_of closed i r are from).orderly
     (omega (arith, within))
 
@@ -293,7 +293,7 @@ none_open (Some x) initial free = absurd (none-some x (sym free))
 
 -- ---- the law
 
-not_nested : (closed : ClosedView) (i : ℕ) → AreClosed closed → AreApart closed.buffers
+not_nested : (closed : ClosedView) (i : ℕ) → AreClosed closed → HaveOwnThreads closed.buffers
     → IsFreeOf (gathered closed.buffers) CreatedTwice → IsNested (gathered closed.buffers) i → ⊥
 not_nested closed i are apart free (forked_inside task parallel forks other) =
     let (r, is, forks_it) = get_at forked (gathered closed.buffers) i (task, parallel) forks in
@@ -318,6 +318,6 @@ not_nested closed i are apart free (initial_inside task walk begins (r, is, walk
     let roots = ap (λ (w : Walk). w.roots) walk_is ∙ roots_at closed i r are apart from in
     some (roots ∙ none_open s.member s.initial none)
 
-pub none_nested : (closed : ClosedView) → AreClosed closed → AreApart closed.buffers
+pub none_nested : (closed : ClosedView) → AreClosed closed → HaveOwnThreads closed.buffers
     → IsFreeOf (gathered closed.buffers) CreatedTwice → IsFreeOf (gathered closed.buffers) NestedParallel
 none_nested closed are apart free i (nested_parallel nested) = not_nested closed i are apart free nested

@@ -20,7 +20,7 @@ use Rattle.credit_ledger.specs.declared.entry.Entry.{Entry}
 use Rattle.trace_ledger.specs.Entries.{claimed_entry, entry_of, IsEntryAt}
 use Rattle.recorder.specs.Logs.{known_from}
 use Rattle.callbacks.specs.Closed.{ClosedView, AreClosed}
-use Rattle.callbacks.specs.Gathered.{gathered, AreApart, ArePaired}
+use Rattle.callbacks.specs.Gathered.{gathered, HaveOwnThreads, ArePaired}
 use Rattle.callbacks.proofs.GatherLemmas.{from_buffer, buffer_of, follows_of, seen_get}
 use Rattle.callbacks.proofs.KnownLaw.{seen_known, known_within, known_later}
 use Rattle.callbacks.proofs.SeenLemmas.{finishes, seens, seens_length, in_seens, seen_among, all_taken}
@@ -92,7 +92,7 @@ known_finishing : (r : Record) → finishes r ≡ true → known_from r.seen r.b
 known_finishing r makes = ap (λ b. if b then r.seen + 1 else r.seen) makes
 
 -- two such records would be of one thread, along which the indices rise
-named_once : (closed : ClosedView) → AreClosed closed → AreApart closed.buffers
+named_once : (closed : ClosedView) → AreClosed closed → HaveOwnThreads closed.buffers
     → AreOnce (gathered closed.buffers)
 named_once closed are apart k i a b less first second makes_a makes_b same =
     let of_a = entered closed k a are first makes_a in
@@ -112,7 +112,7 @@ repeats_none rs i apart (k, less, first, second, same) =
     let (b, is_b, makes_b) = finishing_get rs i second in
     apart k i a b less is_a is_b makes_a makes_b (sym (seen_get rs k a is_a) ∙ same ∙ seen_get rs i b is_b)
 
-pub none_twice : (closed : ClosedView) → AreClosed closed → AreApart closed.buffers
+pub none_twice : (closed : ClosedView) → AreClosed closed → HaveOwnThreads closed.buffers
     → IsFreeOf (gathered closed.buffers) EntryTwice
 none_twice closed are apart i (entry_twice repeats) =
     repeats_none (gathered closed.buffers) i (named_once closed are apart) repeats
@@ -129,7 +129,7 @@ seens_below closed q are is =
     omega (arith, within, named.names)
 
 -- where the numbers are the same, each entry is one that a record names
-ledger_to : (closed : ClosedView) (index : ℕ) (e : Entry) → AreClosed closed → AreApart closed.buffers
+ledger_to : (closed : ClosedView) (index : ℕ) (e : Entry) → AreClosed closed → HaveOwnThreads closed.buffers
     → entries_in (gathered closed.buffers) ≡ length closed.entries → slice_get closed.entries index ≡ Some e
     → (i : ℕ) × IsEntryAt (gathered closed.buffers) i index e
 ledger_to closed index e are apart many is =
@@ -156,7 +156,7 @@ ledger_back closed index e are (i, made) =
     ap (slice_get closed.entries) (sym seen)
     ∙ (buffer_of closed i r are from).entered from.place r e from.is makes
 
-pub paired_from_count : (closed : ClosedView) → AreClosed closed → AreApart closed.buffers
+pub paired_from_count : (closed : ClosedView) → AreClosed closed → HaveOwnThreads closed.buffers
     → entries_in (gathered closed.buffers) ≡ length closed.entries → ArePaired closed
 paired_from_count closed are apart many = record {
   ledger = λ index e. (ledger_to closed index e are apart many, ledger_back closed index e are);
@@ -178,7 +178,7 @@ all_named closed q paired below =
     let (r, here, makes, seen) = entry_get rs i q e made in
     seen_among rs i q r here (entry_finishes r.thread (finish r.body) (claim r.body) e makes) seen
 
-pub count_from_paired : (closed : ClosedView) → AreClosed closed → AreApart closed.buffers → ArePaired closed
+pub count_from_paired : (closed : ClosedView) → AreClosed closed → HaveOwnThreads closed.buffers → ArePaired closed
     → entries_in (gathered closed.buffers) ≡ length closed.entries
 count_from_paired closed are apart paired =
     let rs = gathered closed.buffers in
@@ -187,7 +187,7 @@ count_from_paired closed are apart paired =
     let high = le-length_from_below (seens rs) (length closed.entries) (λ q. all_named closed q paired) in
     omega (arith, low, high, seens_length rs)
 
-pub as_many_pair : (closed : ClosedView) → AreClosed closed → AreApart closed.buffers
+pub as_many_pair : (closed : ClosedView) → AreClosed closed → HaveOwnThreads closed.buffers
     → (entries_in (gathered closed.buffers) ≡ length closed.entries) ↔ ArePaired closed
 as_many_pair closed are apart = (paired_from_count closed are apart, count_from_paired closed are apart)
 
@@ -213,7 +213,7 @@ not_ahead closed i are many (ledger_length past) =
     let (r, is) = get_within rs i (seen_within rs i (entries_in rs) past) in
     omega (arith, known_below closed i r are is, many, past, seen_get rs i r is)
 
-pub none_ahead : (closed : ClosedView) → AreClosed closed → AreApart closed.buffers → ArePaired closed
+pub none_ahead : (closed : ClosedView) → AreClosed closed → HaveOwnThreads closed.buffers → ArePaired closed
     → IsFreeOf (gathered closed.buffers) LengthAhead
 none_ahead closed are apart paired i (length_ahead ahead) =
     not_ahead closed i are (count_from_paired closed are apart paired) ahead

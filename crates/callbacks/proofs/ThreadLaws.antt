@@ -19,12 +19,12 @@ use Rattle.recorder.specs.Standing.{is_in_place, runs_its_task, ends_innermost, 
 use Rattle.recorder.specs.Standing.{allows}
 use Rattle.recorder.specs.Logs.{standing_of}
 use Rattle.callbacks.specs.Closed.{ClosedView, AreClosed}
-use Rattle.callbacks.specs.Gathered.{gathered, AreApart, IsWithin}
-use Rattle.callbacks.proofs.GatherLemmas.{all_from_get, from_buffer, follows_of, own_before}
+use Rattle.callbacks.specs.Gathered.{gathered, HaveOwnThreads, IsWithinLimits}
+use Rattle.callbacks.proofs.GatherLemmas.{all_from_get, from_buffer, follows_of, buffer_before}
 
 -- ---- numbers in a thread
 
-numbered : (closed : ClosedView) (i : ℕ) → AreClosed closed → AreApart closed.buffers
+numbered : (closed : ClosedView) (i : ℕ) → AreClosed closed → HaveOwnThreads closed.buffers
     → HasSeqGap (gathered closed.buffers) i → ⊥
 numbered closed i are apart (r, is, differs) =
     let from = from_buffer closed.buffers i r is in
@@ -32,10 +32,10 @@ numbered closed i are apart (r, is, differs) =
     let own = take from.place from.buffer.records in
     let count : count_by (λ (q : Record). q.thread == r.thread) earlier ≡ length own =
     sym (length-filter (λ (q : Record). q.thread == r.thread) earlier)
-    ∙ ap length (own_before closed i r are apart from) in
+    ∙ ap length (buffer_before closed i r are apart from) in
     differs ((follows_of closed i r are from).seq_is ∙ sym count)
 
-pub threads_numbered : (closed : ClosedView) → AreClosed closed → AreApart closed.buffers
+pub threads_numbered : (closed : ClosedView) → AreClosed closed → HaveOwnThreads closed.buffers
     → IsFreeOf (gathered closed.buffers) SeqGap
 threads_numbered closed are apart i (seq_gap gap) = numbered closed i are apart gap
 
@@ -87,7 +87,7 @@ all_in_range closed are = all_from_get IsInRange (gathered closed.buffers)
     (λ i r is. (follows_of closed i r are (from_buffer closed.buffers i r is)).in_range)
 
 -- the records are a trace where there are no more than a trace may have
-pub gathered_trace : (closed : ClosedView) → AreClosed closed → IsWithin (gathered closed.buffers)
+pub gathered_trace : (closed : ClosedView) → AreClosed closed → IsWithinLimits (gathered closed.buffers)
     → IsTraceOf 2 (gathered closed.buffers)
 gathered_trace closed are within = record {
   known = inr refl;

@@ -8,7 +8,7 @@ use Rattle.credit_ledger.specs.declared.shared.Seat.{Seat}
 use Rattle.credit_ledger.specs.Places.{seat_id, view_of}
 use Rattle.thread_buffers.specs.Buffers.{BufferView}
 use Rattle.recorder.specs.Logs.{AreOrderly, AreRecorded, known_of}
-use Rattle.recorder.specs.Recorders.{RecorderView, AreEntered, IsBacked}
+use Rattle.recorder.specs.Recorders.{RecorderView, HaveEntries, IsBacked}
 
 -- what clauses see of closed recorders
 pub record ClosedView : Type 0 where
@@ -29,7 +29,7 @@ pub record IsBuffer (entries : List Entry) (b : BufferView) : Type 0 where
   pub few : length b.records ≤ max_records
   pub orderly : AreOrderly b.thread b.records
   pub known : known_of b.records ≤ length entries
-  pub entered : AreEntered b.records entries
+  pub entered : HaveEntries b.records entries
 
 -- each buffer is such a one, and they are sorted by thread number
 pub record AreClosed (closed : ClosedView) : Type 0 where

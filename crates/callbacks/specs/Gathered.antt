@@ -22,8 +22,8 @@ abbrev pub gathered : List BufferView → List Record
 gathered buffers = flat_map (λ (b : BufferView). b.records) buffers
 
 -- no two buffers have one thread number
-abbrev pub AreApart : List BufferView → Type 0
-AreApart buffers =
+abbrev pub HaveOwnThreads : List BufferView → Type 0
+HaveOwnThreads buffers =
     (i j : ℕ) (a b : BufferView) → i < j → slice_get buffers i ≡ Some a → slice_get buffers j ≡ Some b
     → a.thread ≢ b.thread
 
@@ -35,8 +35,8 @@ pub record ArePaired (closed : ClosedView) : Type 0 where
   pub once : IsFreeOf (gathered closed.buffers) EntryTwice
 
 -- there are no more records and tasks than a trace may have
-abbrev pub IsWithin : List Record → Type 0
-IsWithin rs = (length rs ≤ max_records) × (tasks_in rs ≤ max_tasks)
+abbrev pub IsWithinLimits : List Record → Type 0
+IsWithinLimits rs = (length rs ≤ max_records) × (tasks_in rs ≤ max_tasks)
 
 -- how many of what is counted there are in the records
 abbrev pub count_of : Counted → List Record → ℕ
@@ -47,10 +47,10 @@ count_of Tasks rs = tasks_in rs
 -- why there is no trace: two buffers have one thread number, or the finishing records and the entries do not
 -- pair off; else there are too many records or tasks; else memory is short
 pub data IsGatherFault (closed : ClosedView) : CallFault → Type 0 where
-  unpaired : (AreApart closed.buffers → ArePaired closed → ⊥) → IsGatherFault closed WrongState
-  too_many : AreApart closed.buffers → ArePaired closed → (IsWithin (gathered closed.buffers) → ⊥)
+  unpaired : (HaveOwnThreads closed.buffers → ArePaired closed → ⊥) → IsGatherFault closed WrongState
+  too_many : HaveOwnThreads closed.buffers → ArePaired closed → (IsWithinLimits (gathered closed.buffers) → ⊥)
       → IsGatherFault closed Full
-  out_of_memory : AreApart closed.buffers → ArePaired closed → IsWithin (gathered closed.buffers)
+  out_of_memory : HaveOwnThreads closed.buffers → ArePaired closed → IsWithinLimits (gathered closed.buffers)
       → IsGatherFault closed Memory
 
 -- a task goes from record a to record b: it is created at a, and starts, is discarded or has its event

@@ -5,7 +5,7 @@ ghost use Rattle.std.specs.Vec.{vec_capacity};
 ghost use Rattle.credit_ledger.specs.declared.view.Step.{Step};
 ghost use Rattle.credit_ledger.specs.Histories.{IsLegal, entries_after};
 ghost use Rattle.credit_ledger.specs.Places.{ledger_id, seat_id, view_of};
-ghost use Rattle.credit_ledger.specs.Seats.{AreClaims, AreApart, claim_of};
+ghost use Rattle.credit_ledger.specs.Seats.{AreClaims, AreSeatsApart, claim_of};
 ghost use Rattle.recorder.specs.declared.fault.CallFault.TheVariants.{Memory};
 ghost use Rattle.callbacks.specs.Closed.{thread_of, recorded_by, AreClosed, AreParts};
 
@@ -72,7 +72,7 @@ pub fn close_all<R: Wait>(
     ensures closed { IfOk result (λ closed. (history : List Step) × IsLegal history
         × (closed.entries ≡ entries_after history)
         × AreClaims history (map (λ r. claim_of r.seat) recorders.items)
-        × AreApart (map (λ r. claim_of r.seat) recorders.items)) }
+        × AreSeatsApart (map (λ r. claim_of r.seat) recorders.items)) }
     ensures buffers { IfOk result (λ closed.
         IsPermutation (map recorded_by recorders.items) (map thread_of closed.buffers)) }
     ensures are_closed { IfOk result AreClosed }

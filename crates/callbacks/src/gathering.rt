@@ -11,7 +11,7 @@ ghost use Rattle.ompt_events.specs.Causes.{IsFreeOf, entries_in};
 ghost use Rattle.ompt_events.specs.Traces.{IsTraceOf};
 ghost use Rattle.recorder.specs.declared.fault.CallFault.TheVariants.{Memory};
 ghost use Rattle.callbacks.specs.Closed.{AreClosed};
-ghost use Rattle.callbacks.specs.Gathered.{gathered, AreApart, ArePaired, IsWithin, IsGatherFault};
+ghost use Rattle.callbacks.specs.Gathered.{gathered, HaveOwnThreads, ArePaired, IsWithinLimits, IsGatherFault};
 ghost use Rattle.callbacks.specs.Gathered.{AreHandedOver, count_of};
 
 use crate::closed::Closed;
@@ -69,7 +69,7 @@ impl Counted {
 /// Whether no two buffers have one thread number.
 fn are_apart(buffers: &[Buffer]) -> bool
     requires { IsNonDecreasingBy (λ b. b.thread) buffers.now }
-    ensures { IsTrue result ↔ AreApart buffers.now }
+    ensures { IsTrue result ↔ HaveOwnThreads buffers.now }
 {
     'buffers: for index in 1..buffers.len() {
         if buffers[index - 1].thread() == buffers[index].thread() {
@@ -83,7 +83,7 @@ impl Closed {
     /// Whether no two buffers have one thread number, and the finishing records and the ledger's entries
     /// pair off one to one.
     fn is_paired(&self) -> bool
-        ensures { IsTrue result ↔ (AreApart self.now.buffers × ArePaired self.now) }
+        ensures { IsTrue result ↔ (HaveOwnThreads self.now.buffers × ArePaired self.now) }
     {
         if !are_apart(self.buffers()) {
             return false;
@@ -104,7 +104,7 @@ impl Closed {
 
     /// Whether there are no more records and tasks than a trace may have.
     fn is_within(&self) -> bool
-        ensures { IsTrue result ↔ IsWithin (gathered self.now.buffers) }
+        ensures { IsTrue result ↔ IsWithinLimits (gathered self.now.buffers) }
     {
         let buffers = self.buffers();
         Counted::Records.left(buffers, MAX_RECORDS).is_some()
@@ -123,7 +123,7 @@ impl Closed {
 /// created or suspended on another thread was handed over with a note that was met.
 pub fn gather(alloc: Global, closed: Closed) -> Result<Trace, (Closed, CallFault)>
     ensures trace { IfOk result (λ trace. trace ≡ record { version = 2; records = gathered closed.buffers }) }
-    ensures apart { OnOk result (AreApart closed.buffers) }
+    ensures apart { OnOk result (HaveOwnThreads closed.buffers) }
     ensures paired { OnOk result (ArePaired closed) }
     ensures numbered { IfOk result (λ trace. IsFreeOf trace.records SeqGap) }
     ensures outside { IfOk result (λ trace.
@@ -143,7 +143,7 @@ pub fn gather(alloc: Global, closed: Closed) -> Result<Trace, (Closed, CallFault
 
 /// The trace of closed recorders that have one.
 fn joined(alloc: Global, closed: Closed) -> Result<Trace, (Closed, CallFault)>
-    requires { IsWithin (gathered closed.buffers) }
+    requires { IsWithinLimits (gathered closed.buffers) }
     ensures trace { IfOk result (λ trace. trace ≡ record { version = 2; records = gathered closed.buffers }) }
     ensures are_closed { OnOk result (AreClosed closed) }
     ensures returned { IfErr result (λ refused. refused.0 ≡ closed) }
@@ -158,9 +158,9 @@ fn joined(alloc: Global, closed: Closed) -> Result<Trace, (Closed, CallFault)>
 impl Closed {
     /// Why there is no trace of these, before it needs memory.
     fn test(&self) -> Result<(), CallFault>
-        ensures apart { OnOk result (AreApart self.now.buffers) }
+        ensures apart { OnOk result (HaveOwnThreads self.now.buffers) }
         ensures paired { OnOk result (ArePaired self.now) }
-        ensures within { OnOk result (IsWithin (gathered self.now.buffers)) }
+        ensures within { OnOk result (IsWithinLimits (gathered self.now.buffers)) }
         ensures fault { IfErr result (IsGatherFault self.now) }
     {
         if !self.is_paired() {
@@ -174,7 +174,7 @@ impl Closed {
 
     /// How many records there are.
     fn record_count(&self) -> usize
-        requires { IsWithin (gathered self.now.buffers) }
+        requires { IsWithinLimits (gathered self.now.buffers) }
         ensures { result ≡ length (gathered self.now.buffers) }
     {
         match Counted::Records.left(self.buffers(), MAX_RECORDS) {

@@ -16,8 +16,8 @@ use Rattle.certificate.specs.Formats.{line_feeds}
 use Rattle.certificate.specs.Files.{no_trace, traces}
 use Rattle.certificate.specs.Pieces.{IsWholeLines, AreJudged}
 use Rattle.certificate.specs.Windows.{LineFeedAt}
-use Rattle.certificate.specs.ReadingOn.{IsBetweenLines, IsToldAfter, IsEnded, ReadsAhead}
-use Rattle.certificate.specs.Ahead.{Waits, IsToldNext, IsAfterStep, SameSource, SameLines, IsAdded}
+use Rattle.certificate.specs.ReadingOn.{IsBetweenLines, IsToldAfter, IsReadToEnd, ReadsAhead}
+use Rattle.certificate.specs.Ahead.{Waits, IsToldNext, IsAfterStep, SameSource, SameLines, ArePiecesAdded}
 use Rattle.certificate.specs.Ahead.{IsRefilled, WorkedBeside, HasMet, MeetsMore}
 use Rattle.certificate.proofs.CountLemmas.{TakesTurns-more}
 use Rattle.certificate.proofs.PieceLemmas.{no_memory}
@@ -61,7 +61,7 @@ pub record Next (known left : Option (List ℕ)) (room : ℕ) (front : List ℕ)
 
 next_between : (known left left' : Option (List ℕ)) (room : ℕ) (front : List ℕ) (old middle new : Ahead)
     (u : Unit {0})
-    → IsAdded (Ok u) old middle → SameSource old middle → IsRefilled middle new left left'
+    → ArePiecesAdded (Ok u) old middle → SameSource old middle → IsRefilled middle new left left'
     → Waits known left room front old
     → IsBetweenLines known new.line new.kept (front ++ new.block.waiting) left'
 next_between known left left' room front old middle new u added same re waits =
@@ -188,14 +188,14 @@ HasMet-more old new a a' b b' more taken broken t first_a first_b met =
 
 pub ended_step : (known left : Option (List ℕ)) (room n : ℕ) (kept : TraceView) (front : List ℕ)
     (ahead : Ahead) (r : Result (Unit {0}) ReadCause)
-    → ahead.line ≡ n → n ≡ 1 → OnOk r (n ≢ 1) → IsEnded r known n kept room left
+    → ahead.line ≡ n → n ≡ 1 → OnOk r (n ≢ 1) → IsReadToEnd r known n kept room left
     → IsAfterStep r known left room front ahead
 ended_step known left room n kept front ahead (Ok u) line first later ended = absurd (later first)
 ended_step known left room n kept front ahead (Err cause) line first later ended = rw line ended
 
 -- the last pieces were added
 pub added_last : (known left : Option (List ℕ)) (room : ℕ) (front : List ℕ) (old new : Ahead) (u : Unit {0})
-    → old.block.waiting ≡ [] → IsAdded (Ok u) old new → Waits known left room front old
+    → old.block.waiting ≡ [] → ArePiecesAdded (Ok u) old new → Waits known left room front old
     → IsBetweenLines known new.line new.kept front left
 added_last known left room front old new u none added waits =
     let all : front ++ old.block.waiting ≡ front = ap (λ xs. front ++ xs) none ∙ append-nil front in
@@ -216,7 +216,7 @@ front_few known left room front old waits =
 
 pub added_fault : (known left : Option (List ℕ)) (room : ℕ) (front : List ℕ) (old new : Ahead)
     (cause : ReadCause)
-    → IsAdded (Err cause) old new → Waits known left room front old → IsToldNext cause known left room new
+    → ArePiecesAdded (Err cause) old new → Waits known left room front old → IsToldNext cause known left room new
 added_fault known left room front old new cause added waits =
     added.between waits.bytes (front ++ old.block.waiting) known left room waits.judged waits.few
     waits.between

@@ -11,8 +11,8 @@ use Rattle.certificate.specs.Blocks.{IsPiece, ArePieces, AreCuts}
 use Rattle.certificate.proofs.WindowLemmas.{slice_range-more}
 
 -- a number that is not the bound lies below it
-pub is_below : (n bound : ℕ) (full : Bool) → n ≤ bound → full ≡ (n == bound) → full ≡ false → n < bound
-is_below n bound full low is not_full =
+pub below_bound : (n bound : ℕ) (full : Bool) → n ≤ bound → full ≡ (n == bound) → full ≡ false → n < bound
+below_bound n bound full low is not_full =
     let other : n ≢ bound =
     λ same. (let h : true ≡ false = sym (eq-eqb n bound same) ∙ sym is ∙ not_full in cc) in
     omega arith

@@ -12,7 +12,7 @@ use Rattle.certificate.specs.declared.faults.ReadCause.TheVariants.{TurnsSpent}
 use Rattle.certificate.specs.declared.pieces.Piece.{Piece}
 use Rattle.certificate.specs.Formats.{line_feeds}
 use Rattle.certificate.specs.Keeping.{HaveRoom, IsWhyNot, KeepsFirst}
-use Rattle.certificate.specs.Pieces.{BeginsWithRecords, AreRecordsOf, IsJudged, AreJudged}
+use Rattle.certificate.specs.Pieces.{BeginsWithRecords, AreRecordsOf, IsPieceJudged, AreJudged}
 use Rattle.certificate.specs.ReadingOn.{IsBetweenLines, IsToldWithin, IsJudgedUpTo}
 use Rattle.certificate.proofs.ReadingLemmas.{line_feeds-append}
 use Rattle.certificate.proofs.PieceLemmas.{BeginsWithRecords-split, BeginsWithRecords-length}
@@ -141,7 +141,7 @@ piece_told known n room count old new rs fault (Err cause) bytes more left low k
 
 pub piece_lines : (n count : ℕ) (old new : TraceView) (piece : Piece) (r : Result (Unit {0}) ReadCause)
     → KeepsFirst old piece.records.items count None new → piece.fault ≡ result_err r
-    → OnOk r ((bytes : List ℕ) → IsJudged old.version bytes piece → n + count ≡ n + line_feeds bytes)
+    → OnOk r ((bytes : List ℕ) → IsPieceJudged old.version bytes piece → n + count ≡ n + line_feeds bytes)
 piece_lines n count old new piece (Err cause) keeps same = tt
 piece_lines n count old new piece (Ok u) keeps same = λ bytes judged.
     ap (λ k. n + k)
@@ -172,8 +172,8 @@ pub record Joins (n : ℕ) (kept : TraceView) (bytes : List ℕ) (n' : ℕ) (kep
 pub Joins-piece : (n : ℕ) (kept : TraceView) (bytes : List ℕ) (n' n'' : ℕ) (kept' kept'' : TraceView)
     (piece : Piece) (pieces : List Piece)
     → kept''.version ≡ kept'.version
-    → ((front : List ℕ) → IsJudged kept'.version front piece → n'' ≡ n' + line_feeds front)
-    → ((front more : List ℕ) (known left : Option (List ℕ)) (room : ℕ) → IsJudged kept'.version front piece
+    → ((front : List ℕ) → IsPieceJudged kept'.version front piece → n'' ≡ n' + line_feeds front)
+    → ((front more : List ℕ) (known left : Option (List ℕ)) (room : ℕ) → IsPieceJudged kept'.version front piece
     → length (front ++ more) ≤ room → IsBetweenLines known n' kept' (front ++ more) left
     → IsBetweenLines known n'' kept'' more left)
     → Joins n kept bytes n' kept' (piece ∷ pieces) → Joins n kept bytes n'' kept'' pieces
@@ -205,7 +205,7 @@ pub Joins-next : (n : ℕ) (kept : TraceView) (bytes : List ℕ) (n' : ℕ) (kep
     (pieces : List Piece) (more : List ℕ) (known left : Option (List ℕ)) (room : ℕ)
     → Joins n kept bytes n' kept' (piece ∷ pieces) → length (bytes ++ more) ≤ room
     → IsBetweenLines known n kept (bytes ++ more) left
-    → (front : List ℕ) × (later : List ℕ) × IsJudged kept'.version front piece
+    → (front : List ℕ) × (later : List ℕ) × IsPieceJudged kept'.version front piece
     × (length (front ++ (later ++ more)) ≤ room)
     × IsBetweenLines known n' kept' (front ++ (later ++ more)) left
 Joins-next n kept bytes n' kept' piece pieces more known left room now few before =

@@ -16,10 +16,10 @@ use Rattle.certificate.specs.declared.faults.ReadCause.TheVariants.{LineTooLong,
 use Rattle.certificate.specs.declared.faults.ReadFault.{ReadFault}
 use Rattle.certificate.specs.RecordLines.{line_says, header_says}
 use Rattle.certificate.specs.Formats.{cut, is_long, line_adds, end_adds, from_line, go_on, fault_in}
-use Rattle.certificate.specs.Files.{has_room, no_trace, with_record, with_header, text_adds, traces, fault_of}
-use Rattle.certificate.specs.Files.{file_says_to, trace_said, records_of, version_of, cause_in, trace_of}
+use Rattle.certificate.specs.Files.{has_room, no_trace, with_record, with_header, text_adds, traces, line_fault}
+use Rattle.certificate.specs.Files.{file_says_to, trace_said, records_said, version_of, cause_in, trace_of}
 use Rattle.certificate.specs.Files.{StandsFor, IsFaultlessBefore, IsFirstFault}
-use Rattle.certificate.specs.Reading.{IsReached}
+use Rattle.certificate.specs.Reading.{IsLineReached}
 use Rattle.certificate.proofs.RecordLemmas.{ok_not_err}
 use Rattle.certificate.proofs.FileLemmas.{line_feeds-lines}
 use Rattle.certificate.proofs.ReadingLemmas.{IsReached-within, IsReached-later}
@@ -98,7 +98,7 @@ records_of-more newest done before after line is h =
     ] h
   where
     one_more : TraceView → TraceView
-    one_more b = record { version = b.version; records = b.records ++ records_of b.version (line ∷ []) }
+    one_more b = record { version = b.version; records = b.records ++ records_said b.version (line ∷ []) }
 
     by_record : (before : TraceView) (o : Result Record ReadCause) → with_record before o ≡ Ok after
         → after
@@ -150,8 +150,8 @@ walk newest all rest [] done before whole is = by_end (end_adds (length done + 1
 
     at : cause_in newest all rest (length done) ≡ result_err (end_adds (length done + 1) before rest)
     at =
-        ap (λ (t : TraceView). fault_of newest t (length done) rest (slice_get all (length done))) front
-        ∙ ap (λ (o : Option (List ℕ)). fault_of newest before (length done) rest o)
+        ap (λ (t : TraceView). line_fault newest t (length done) rest (slice_get all (length done))) front
+        ∙ ap (λ (o : Option (List ℕ)). line_fault newest before (length done) rest o)
         (slice_get_past all (length done) (omega (arith, ap length same)))
 
     by_end : (r : Result TraceView ReadCause) → end_adds (length done + 1) before rest ≡ r
@@ -180,8 +180,8 @@ walk newest all rest (line ∷ lines) done before whole is =
     at : cause_in newest all rest (length done)
         ≡ result_err (line_adds (traces newest) (length done + 1) before line)
     at =
-        ap (λ (t : TraceView). fault_of newest t (length done) rest (slice_get all (length done))) front
-        ∙ ap (λ (o : Option (List ℕ)). fault_of newest before (length done) rest o)
+        ap (λ (t : TraceView). line_fault newest t (length done) rest (slice_get all (length done))) front
+        ∙ ap (λ (o : Option (List ℕ)). line_fault newest before (length done) rest o)
         (ap (λ ls. slice_get ls (length done)) whole ∙ slice_get-seam done line lines)
 
     one_more : length (done ++ (line ∷ [])) ≡ length done + 1
@@ -305,7 +305,7 @@ said_of_first newest bytes f fault = first_said newest bytes f fault
 
 -- ---- lines that were read before have no fault
 
-pub faultless-before : (newest n : ℕ) (bytes : List ℕ) → IsReached (traces newest) n bytes
+pub faultless-before : (newest n : ℕ) (bytes : List ℕ) → IsLineReached (traces newest) n bytes
     → IsFaultlessBefore newest n bytes
 faultless-before newest n bytes reached = by_said (trace_said newest bytes) refl
   where

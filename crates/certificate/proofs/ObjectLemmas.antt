@@ -17,9 +17,9 @@ IsBelowEach k no_members = ⊤
 IsBelowEach k (member l e ms) = (slice_cmp nat_cmp k l ≡ Less) × IsBelowEach k ms
 
 -- each name is below those after it
-abbrev pub IsRising : Members → Type 0
-IsRising no_members = ⊤
-IsRising (member k d ms) = IsBelowEach k ms × IsRising ms
+abbrev pub AreNamesRising : Members → Type 0
+AreNamesRising no_members = ⊤
+AreNamesRising (member k d ms) = IsBelowEach k ms × AreNamesRising ms
 
 IsBelowEach-less : (k l : List ℕ) (ms : Members) → slice_cmp nat_cmp k l ≡ Less → IsBelowEach l ms
     → IsBelowEach k ms
@@ -41,14 +41,14 @@ IsBelowEach-put l k d (member j e ms) less below =
     by_order first rest here more Equal = (first, rest)
     by_order first rest here more Greater = (first, more)
 
-IsRising-put : (k : List ℕ) (d : Data) (ms : Members) → IsRising ms → IsRising (put k d ms)
+IsRising-put : (k : List ℕ) (d : Data) (ms : Members) → AreNamesRising ms → AreNamesRising (put k d ms)
 IsRising-put k d no_members rising = (tt, tt)
 IsRising-put k d (member l e ms) rising =
     by_order rising.0 rising.1 (IsRising-put k d ms rising.1) (slice_cmp nat_cmp k l) refl
   where
-    by_order : IsBelowEach l ms → IsRising ms → IsRising (put k d ms) → (o : Ordering)
+    by_order : IsBelowEach l ms → AreNamesRising ms → AreNamesRising (put k d ms) → (o : Ordering)
         → slice_cmp nat_cmp k l ≡ o
-        → IsRising (match_ordering o (member k d (member l e ms)) (member l d ms) (member l e (put k d ms)))
+        → AreNamesRising (match_ordering o (member k d (member l e ms)) (member l d ms) (member l e (put k d ms)))
     by_order below rest more Less is = ((is, IsBelowEach-less k l ms is below), (below, rest))
     by_order below rest more Equal is = (below, rest)
     by_order below rest more Greater is =
@@ -74,7 +74,7 @@ below_middle first no_members k d more below = below.0
 below_middle first (member l e ms) k d more below = below_middle first ms k d more below.1
 
 put_last : (done : Members) (k : List ℕ) (d : Data) (more : Members)
-    → IsRising (followed done (member k d more)) → put k d done ≡ followed done (member k d no_members)
+    → AreNamesRising (followed done (member k d more)) → put k d done ≡ followed done (member k d no_members)
 put_last no_members k d more rising = refl
 put_last (member first e done) k d more rising =
     let above : slice_cmp nat_cmp k first ≡ Greater =
@@ -82,14 +82,14 @@ put_last (member first e done) k d more rising =
     ∙ ap ordering_reverse (below_middle first done k d more rising.0) in
     rw above (ap (member first e) (put_last done k d more rising.1))
 
-puts-followed : (ms done : Members) → IsRising (followed done ms) → puts ms done ≡ followed done ms
+puts-followed : (ms done : Members) → AreNamesRising (followed done ms) → puts ms done ≡ followed done ms
 puts-followed no_members done rising = sym (followed-none done)
 puts-followed (member k d ms) done rising =
     ap (puts ms) (put_last done k d ms rising)
     ∙ puts-followed ms (followed done (member k d no_members)) (rw (followed-more done k d ms) rising)
     ∙ followed-more done k d ms
 
-pub puts-IsRising : (ms : Members) → IsRising ms → puts ms no_members ≡ ms
+pub puts-IsRising : (ms : Members) → AreNamesRising ms → puts ms no_members ≡ ms
 puts-IsRising ms rising = puts-followed ms no_members rising
 
 -- ---- what one more member does
@@ -134,8 +134,8 @@ added_size [] = 0
 added_size (m ∷ more) = length m.0 + 4 + size m.1 + added_size more
 
 with_members-plain : (added : List (List ℕ × Data)) (ms : Members) (n : ℕ)
-    → AllByRecursion (IsPlainMember n) added → IsRising ms → MembersArePlain ms n
-    → IsRising (with_members added ms) × MembersArePlain (with_members added ms) n
+    → AllByRecursion (IsPlainMember n) added → AreNamesRising ms → MembersArePlain ms n
+    → AreNamesRising (with_members added ms) × MembersArePlain (with_members added ms) n
 unfolding with_member
 with_members-plain [] ms n each rising all = (rising, all)
 with_members-plain (m ∷ added) ms n each rising all =

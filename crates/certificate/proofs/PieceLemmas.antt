@@ -21,7 +21,7 @@ use Rattle.certificate.specs.Files.{has_room, text_adds, traces, with_header, wi
 use Rattle.certificate.specs.Reading.{IsFromLine, IsTextCause}
 use Rattle.certificate.specs.Keeping.{HaveRoom}
 use Rattle.certificate.specs.Pieces.{BeginsWith, BeginsWithRecord, BeginsWithRecords, BeginsTooLong}
-use Rattle.certificate.specs.Pieces.{BeginsWithFault, IsFaultOf, IsJudged, AreJudged}
+use Rattle.certificate.specs.Pieces.{BeginsWithFault, IsFaultOf, IsPieceJudged, AreJudged}
 use Rattle.certificate.specs.declared.pieces.Piece.{Piece}
 use Rattle.certificate.specs.Blocks.{ArePieces, AreCuts}
 use Rattle.certificate.specs.Windows.{LineFeedAt}
@@ -90,14 +90,14 @@ IsBetween-record known n kept r later bytes more left other begins room now =
     IsBetween-text known n kept after begins.line later bytes more left begins.begins adds now
 
 -- the line has a fault of its text
-fault_line : (known : Option (List ℕ)) (n : ℕ) (kept : TraceView) (cause : ReadCause)
+line_faulty : (known : Option (List ℕ)) (n : ℕ) (kept : TraceView) (cause : ReadCause)
     (line later bytes more : List ℕ) (left : Option (List ℕ))
     → BeginsWith line later bytes → text_adds newest_version n kept line ≡ Err cause
     → IsBetweenLines known n kept (bytes ++ more) left
     → IfSome known (λ all. said (traces newest_version) all ≡ Err (fault_in n cause))
-fault_line None n kept cause line later bytes more left begins adds now = tt
-fault_line (Some all) n kept cause line later bytes more None begins adds now = absurd now
-fault_line (Some all) n kept cause line later bytes more (Some l) begins adds now =
+line_faulty None n kept cause line later bytes more left begins adds now = tt
+line_faulty (Some all) n kept cause line later bytes more None begins adds now = absurd now
+line_faulty (Some all) n kept cause line later bytes more (Some l) begins adds now =
     now.0 ∙ says_line n kept line later bytes more l begins
     ∙ ap
     (λ r. go_on n r (λ after. rest_says (traces newest_version) (n + 1) after ((later ++ more) ++ l)))
@@ -110,7 +110,7 @@ pub no_room_line : (known : Option (List ℕ)) (n : ℕ) (kept : TraceView) (r :
     → IsBetweenLines known n kept (bytes ++ more) left
     → IfSome known (λ all. said (traces newest_version) all ≡ Err (fault_in n Limit))
 no_room_line known n kept r later bytes more left other begins full now =
-    fault_line known n kept Limit begins.line later bytes more left begins.begins
+    line_faulty known n kept Limit begins.line later bytes more left begins.begins
     (adds_record n kept begins.line other ∙ ap (with_record kept) begins.says ∙ rw full refl) now
 
 -- the line stands for no record
@@ -120,7 +120,7 @@ pub faulty_line : (known : Option (List ℕ)) (n : ℕ) (kept : TraceView) (caus
     → IsBetweenLines known n kept (bytes ++ more) left
     → IfSome known (λ all. said (traces newest_version) all ≡ Err (fault_in n cause))
 faulty_line known n kept cause bytes more left other begins now =
-    fault_line known n kept cause begins.line begins.later bytes more left begins.begins
+    line_faulty known n kept cause begins.line begins.later bytes more left begins.begins
     (adds_record n kept begins.line other ∙ ap (with_record kept) begins.says) now
 
 -- the line is too long
@@ -354,7 +354,7 @@ tasks_more rs r = sum_by_push (λ (x : Record). cond (is_some (made x.body)) 1 0
 pub AreJudged-from : (version : ℕ) (bytes : List ℕ) (start : ℕ) (cuts : List ℕ) (pieces : List Piece)
     → ArePieces bytes start cuts (length bytes) → length pieces ≡ length cuts
     → ((i : ℕ) (d : Piece) → i < length cuts
-    → IsJudged version (slice_range bytes (get_or (start ∷ cuts) i 0) (get_or cuts i 0))
+    → IsPieceJudged version (slice_range bytes (get_or (start ∷ cuts) i 0) (get_or cuts i 0))
     (get_or pieces i d))
     → AreJudged version pieces (drop start bytes)
 AreJudged-from version bytes start [] [] cut same each = drop_all start bytes (omega arith)
@@ -375,14 +375,14 @@ AreJudged-from version bytes start (c ∷ cuts) (p ∷ pieces) cut same each =
 pub AreJudged-cuts : (version : ℕ) (bytes cuts : List ℕ) (pieces : List Piece) → AreCuts bytes cuts
     → length pieces ≡ length cuts - 1
     → ((i : ℕ) (d : Piece) → i < length cuts - 1
-    → IsJudged version (slice_range bytes (get_or cuts i 0) (get_or cuts (i + 1) 0))
+    → IsPieceJudged version (slice_range bytes (get_or cuts i 0) (get_or cuts (i + 1) 0))
     (get_or pieces i d))
     → AreJudged version pieces bytes
 AreJudged-cuts version bytes [] pieces cut same each = absurd cut
 AreJudged-cuts version bytes (start ∷ cuts) pieces cut same each =
     let begin : start ≡ 0 = cut.0 in
     let each_one : (i : ℕ) (d : Piece) → i < length cuts
-    → IsJudged version (slice_range bytes (get_or (start ∷ cuts) i 0) (get_or cuts i 0))
+    → IsPieceJudged version (slice_range bytes (get_or (start ∷ cuts) i 0) (get_or cuts i 0))
     (get_or pieces i d) =
     λ i d h. (rw add-one at (each i d (omega arith))) in
     let all : AreJudged version pieces (drop start bytes) =
@@ -439,7 +439,7 @@ header_fault known n room kept cause text more len left first at short few says 
         adds_header n kept (take len text) first ∙ sym says_so in
         told_text known n room cause left
         (traces-text_causes newest_version n kept (take len text) cause (sym adds))
-        (fault_line known n kept cause (take len text) (drop (len + 1) text) text more left
+        (line_faulty known n kept cause (take len text) (drop (len + 1) text) text more left
         (begins_line text len at short) adds now)
 
     by : (e : ReadCause) → cause ≡ e → IfSome known (λ all. IsToldWithin room cause n all left)

@@ -16,7 +16,7 @@ use Rattle.certificate.specs.Limits.{max_line}
 use Rattle.certificate.specs.Windows.{LineFeedAt, ShowsFault, ShowsLine}
 use Rattle.certificate.specs.Formats.{Format, cut, said, rest_says, go_on, fault_in, is_long, line_feeds}
 use Rattle.certificate.specs.Counts.{breaks_told}
-use Rattle.certificate.specs.Reading.{IsLineAfterGiven, IsFromLine, IsLineBeingRead, IsReached, IsToldIn}
+use Rattle.certificate.specs.Reading.{IsLineAfterGiven, IsFromLine, IsLineBeingRead, IsLineReached, IsToldIn}
 use Rattle.certificate.specs.Reading.{IsAnswerIn, IsBetween, IsTextCause, IsOfText, HasTextCauses}
 use Rattle.certificate.proofs.FileLemmas.{IsUnbroken, unbroken-before, unbroken-all, unbroken-front}
 use Rattle.certificate.proofs.FileLemmas.{window-parts, rest_says-line, rest_says-end, rest_says-long}
@@ -69,12 +69,12 @@ from_feeds n bytes rest from =
     omega (arith, ap line_feeds from.parts, line_feeds-append from.before rest, from.lines.count)
 
 -- a line that is reached is one of the file, and no line before it has a fault
-pub IsReached-within : {X : Type 0} (format : Format X) (n : ℕ) (bytes : List ℕ) → IsReached format n bytes
+pub IsReached-within : {X : Type 0} (format : Format X) (n : ℕ) (bytes : List ℕ) → IsLineReached format n bytes
     → n ≤ line_feeds bytes + 1
 IsReached-within format n bytes reached = omega (arith, from_feeds n bytes reached.rest reached.begins)
 
 pub IsReached-later : {X : Type 0} (format : Format X) (n : ℕ) (bytes : List ℕ) (f : ReadFault)
-    → IsReached format n bytes → said format bytes ≡ Err f → n ≤ f.line
+    → IsLineReached format n bytes → said format bytes ≡ Err f → n ≤ f.line
 IsReached-later format n bytes f reached e =
     said_later format n reached.before (cut reached.rest).lines (cut reached.rest).rest f
     (sym reached.says ∙ e)
@@ -154,7 +154,7 @@ IsAfter-text format text (Some bytes) n kept w len (Some l) e at short fault now
 pub IsAfter-memory : {X : Type 0} (format : Format X) (known : Option (List ℕ)) (n : ℕ) (kept : X)
     (w : List ℕ) (len : ℕ) (left : Option (List ℕ))
     → LineFeedAt w (Some len) → length w ≤ 2 * (max_line + 1) → IsBetween format known n kept w left
-    → IfSome known (λ bytes. IsLineBeingRead n bytes left × IsReached format n bytes)
+    → IfSome known (λ bytes. IsLineBeingRead n bytes left × IsLineReached format n bytes)
 IsAfter-memory format None n kept w len left at few now = tt
 IsAfter-memory format (Some bytes) n kept w len None at few now = absurd now
 IsAfter-memory format (Some bytes) n kept w len (Some l) at few now =
@@ -177,7 +177,7 @@ IsAnswerIn-no_window format (Some bytes) = (
 pub IsAfter-device : {X : Type 0} (format : Format X) (known : Option (List ℕ)) (n : ℕ) (kept : X)
     (w : List ℕ) (left : Option (List ℕ))
     → LineFeedAt w None → IsBetween format known n kept w left
-    → IfSome known (λ bytes. IsLineAfterGiven n bytes left × IsReached format n bytes)
+    → IfSome known (λ bytes. IsLineAfterGiven n bytes left × IsLineReached format n bytes)
 IsAfter-device format None n kept w left none now = tt
 IsAfter-device format (Some bytes) n kept w None none now = absurd now
 IsAfter-device format (Some bytes) n kept w (Some l) none now =

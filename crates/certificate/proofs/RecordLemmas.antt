@@ -120,7 +120,7 @@ record-read version d thread seq seen t q s b is_thread is_seq is_seen is_body f
 -- ---- callbacks
 
 -- what was looked up before the claim
-pub record IsSchedule (version : ℕ) (d : Data) (st : Status) (prior : ℕ) (nx : Option ℕ) (told : Option Turns)
+pub record IsScheduleRead (version : ℕ) (d : Data) (st : Status) (prior : ℕ) (nx : Option ℕ) (told : Option Turns)
     : Type 0 where
   pub is_status : Ok st ≡ ok_or (status member.status d) Field
   pub is_prior : Ok prior ≡ ok_or (whole member.prior d) Field
@@ -128,7 +128,7 @@ pub record IsSchedule (version : ℕ) (d : Data) (st : Status) (prior : ℕ) (nx
   pub is_turns : Ok told ≡ ok_or (turns (tells_turns version st) d) Field
 
 task_schedule-share : (version : ℕ) (d : Data) (st : Status) (prior : ℕ) (nx : Option ℕ) (told : Option Turns)
-    → IsSchedule version d st prior nx told
+    → IsScheduleRead version d st prior nx told
     → task_schedule version d
     ≡ option_and_then (λ sh. Some (TaskSchedule st told prior nx sh)) (share (is_some (status_part st)) d)
 unfolding task_schedule
@@ -164,7 +164,7 @@ schedule-no_turns version d st prior nx e s p n err =
 -- so does the claim, or it does not
 pub schedule-err : (version : ℕ) (d : Data) (st : Status) (prior : ℕ) (nx : Option ℕ) (told : Option Turns)
     (e : ReadCause)
-    → IsSchedule version d st prior nx told
+    → IsScheduleRead version d st prior nx told
     → Err e ≡ bounded share_fits (share (is_some (status_part st)) d)
     → Err e ≡ bounded body_fits (task_schedule version d)
 schedule-err version d st prior nx told e is err =
@@ -175,7 +175,7 @@ schedule-err version d st prior nx told e is err =
 -- turns past their bounds end it then
 pub schedule-past : (version : ℕ) (d : Data) (st : Status) (prior : ℕ) (nx : Option ℕ) (told : Option Turns)
     (sh : Option Claim) (e : ReadCause)
-    → IsSchedule version d st prior nx told
+    → IsScheduleRead version d st prior nx told
     → Ok sh ≡ bounded share_fits (share (is_some (status_part st)) d) → Err e ≡ bounded turns_fit (Some told)
     → Err e ≡ bounded body_fits (task_schedule version d)
 schedule-past version d st prior nx told sh e is read past =
@@ -191,7 +191,7 @@ schedule-past version d st prior nx told sh e is read past =
 
 pub schedule-ok : (version : ℕ) (d : Data) (st : Status) (prior : ℕ) (nx : Option ℕ)
     (told short : Option Turns) (sh : Option Claim)
-    → IsSchedule version d st prior nx told
+    → IsScheduleRead version d st prior nx told
     → Ok sh ≡ bounded share_fits (share (is_some (status_part st)) d)
     → Ok short ≡ bounded turns_fit (Some told)
     → Ok (TaskSchedule st short prior nx sh) ≡ bounded body_fits (task_schedule version d)

@@ -12,7 +12,7 @@ use Rattle.ompt_events.specs.Limits.{max_records, max_tasks}
 use Rattle.ompt_events.specs.Traces.{TraceView, IsSoundIn, HasItsTurns, IsInRange, IsSound, tasks_in}
 use Rattle.certificate.specs.declared.faults.ReadCause.TheVariants.{Limit}
 use Rattle.certificate.specs.Files.{has_room, with_record}
-use Rattle.certificate.specs.Keeping.{IsKept, HaveRoom}
+use Rattle.certificate.specs.Keeping.{IsTraceKept, HaveRoom}
 use Rattle.certificate.proofs.RecordLemmas.{ok_not_err, both-first}
 
 -- one record more, where all are few enough
@@ -71,10 +71,10 @@ with_record-ok before after r h = by (has_room before.records r) refl h
     by false is e = absurd (ok_not_err after Limit e)
 
 -- many records more at a time
-pub IsKept-append : (version : ℕ) (before rs : List Record) (tasks more : ℕ) → IsKept version before tasks
+pub IsKept-append : (version : ℕ) (before rs : List Record) (tasks more : ℕ) → IsTraceKept version before tasks
     → All (λ r. IsSoundIn version r.body) rs → All IsInRange rs → more ≡ tasks_in rs
     → length before + length rs ≤ max_records → tasks + more ≤ max_tasks
-    → IsKept version (before ++ rs) (tasks + more)
+    → IsTraceKept version (before ++ rs) (tasks + more)
 IsKept-append version before rs tasks more kept sound in_range counted few few_tasks =
     let both : tasks_in (before ++ rs) ≡ tasks_in before + tasks_in rs =
     sum_by-append (λ (x : Record). cond (is_some (made x.body)) 1 0) before rs in

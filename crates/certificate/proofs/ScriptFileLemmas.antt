@@ -9,7 +9,7 @@ use Rattle.serde_json.specs.Data.{Data}
 use Rattle.scripts.specs.declared.script.Step.{Step}
 use Rattle.scripts.specs.declared.fault.ScriptFault.{ScriptFault}
 use Rattle.scripts.specs.declared.fault.ScriptFault.TheVariants as fault
-use Rattle.scripts.specs.Scripts.{may_follow, is_full, step_of, fault_of}
+use Rattle.scripts.specs.Scripts.{may_follow, is_full, step_of, step_fault}
 use Rattle.certificate.specs.declared.faults.ReadCause.{ReadCause}
 use Rattle.certificate.specs.declared.faults.ReadCause.TheVariants.{Memory, Header, NotJson, Field, Limit}
 use Rattle.certificate.specs.declared.step_lines.SaidStep.{SaidStep}
@@ -63,10 +63,10 @@ no_steps-empty : (after : List Step) (o : Result ℕ ReadCause) → Ok after ≡
 no_steps-empty after (Err e) h = absurd (ok_not_err _ e h)
 no_steps-empty after (Ok version) h = let is : after ≡ [] = cc in ap length is
 
-has_room : (steps : List Step) (body : Body) (past : Bool) → (past || is_full steps body) ≡ false
+steps_room : (steps : List Step) (body : Body) (past : Bool) → (past || is_full steps body) ≡ false
     → length steps < max_records
-has_room steps body true e = absurd (let no : true ≡ false = e in cc)
-has_room steps body false e =
+steps_room steps body true e = absurd (let no : true ≡ false = e in cc)
+steps_room steps body false e =
     leb-false max_records (length steps) (left (nat_le max_records (length steps)) _ e)
   where
     left : (a b : Bool) → (a || b) ≡ false → a ≡ false
@@ -93,7 +93,7 @@ with_step-grows before after (Ok s) h =
             | false ↦ λ room same.
                 let is : after ≡ more = cc in (
                   ap length is ∙ length-append before (one ∷ []),
-                  has_room before s.loose.body (not (is_within s)) room,
+                  steps_room before s.loose.body (not (is_within s)) room,
                 )
           ] refl
       | false ↦ λ no. absurd (ok_not_err _ Field no)
@@ -122,7 +122,7 @@ Grows-script n before after line h =
 -- ---- one step more, or none
 
 pub add-refused : (before : List Step) (s : SaidStep) (refused : ScriptFault) → is_within s ≡ true
-    → refused ≡ fault_of before s.after s.loose.body
+    → refused ≡ step_fault before s.after s.loose.body
     → ◌≢◌ {A = Result (List Step) ReadCause} (Err (cause_of refused)) (Err Memory)
     → ◌≡◌ {A = Result (List Step) ReadCause} (Err (cause_of refused)) (with_step before (Ok s))
 add-refused before s refused within is other =

@@ -208,8 +208,8 @@ pub tells-turns : (version : ℕ) (st : Status) (told : Option Turns) (nx : Opti
 tells-turns version st told nx follows tells = ap (λ b. (version == 2) && b) (sym follows) ∙ sym tells
 
 -- where no task runs next, no turns are told in any version
-no_turns : (version : ℕ) → false ≡ ((version == 2) && false)
-no_turns version = elim (version == 2) as (λ b. false ≡ (b && false)) [
+none_told : (version : ℕ) → false ≡ ((version == 2) && false)
+none_told version = elim (version == 2) as (λ b. false ≡ (b && false)) [
   | true ↦ refl
   | false ↦ refl
 ]
@@ -231,7 +231,7 @@ thread_begin-sound version d b e =
         few_dependences = tt;
         next = tt;
       },
-      no_turns version,
+      none_told version,
     ))
 
 thread_end-sound : (version : ℕ) (d : Data) (b : Body) → thread_end d ≡ Some b → IsSoundIn version b
@@ -248,7 +248,7 @@ thread_end-sound version d b same =
         few_dependences = tt;
         next = tt;
       },
-      no_turns version,
+      none_told version,
     )
 
 parallel_begin-sound : (version : ℕ) (d : Data) (b : Body) → parallel_begin d ≡ Some b → IsSoundIn version b
@@ -269,7 +269,7 @@ parallel_begin-sound version d b e =
         few_dependences = tt;
         next = tt;
       },
-      no_turns version,
+      none_told version,
     ))))
 
 parallel_end-sound : (version : ℕ) (d : Data) (b : Body) → parallel_end d ≡ Some b → IsSoundIn version b
@@ -288,7 +288,7 @@ parallel_end-sound version d b e =
         few_dependences = tt;
         next = tt;
       },
-      no_turns version,
+      none_told version,
     )))
 
 implicit_task-sound : (version : ℕ) (d : Data) (b : Body) → implicit_task d ≡ Some b → IsSoundIn version b
@@ -307,7 +307,7 @@ implicit_task-sound version d b e =
       by_endpoint at actual index bits parallel task
           (begin_or_end-sound member.endpoint d at actual index bits parallel task one)
           (task_flags-named member.flags d bits named),
-      no_turns version,
+      none_told version,
     )))))))
   where
     by_endpoint : (at : Endpoint) (actual index bits parallel task : ℕ)
@@ -342,7 +342,7 @@ task_create-sound version d b e =
         few_dependences = tt;
         next = tt;
       },
-      no_turns version,
+      none_told version,
     )))))
 
 dependences-sound : (version : ℕ) (d : Data) (b : Body) → dependences d ≡ Some b → body_fits b ≡ true
@@ -363,7 +363,7 @@ dependences-sound version d b e fits =
         few_dependences = few;
         next = tt;
       },
-      no_turns version,
+      none_told version,
     )))
 
 task_schedule-sound : (version : ℕ) (d : Data) (b : Body) → task_schedule version d ≡ Some b
@@ -412,7 +412,7 @@ sync_region-sound version d b e =
         few_dependences = tt;
         next = tt;
       },
-      no_turns version,
+      none_told version,
     )))))
 
 cancel-sound : (version : ℕ) (d : Data) (b : Body) → cancel d ≡ Some b → body_fits b ≡ true
@@ -429,7 +429,7 @@ cancel-sound version d b e fits =
     subst (λ (x : Body). IsSoundIn version x) is (
       discard-sound bits task sh (share-sound (has_flag bits table.discarded_task) d sh shared)
           (cancel_flags-named member.flags d bits named) (ap body_fits is ∙ fits),
-      no_turns version,
+      none_told version,
     ))))
 
 chosen : {X P : Type 0} (test : Bool) (x y : Option X) (z : X) → cond test x y ≡ Some z → (x ≡ Some z → P)

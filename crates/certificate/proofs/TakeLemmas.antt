@@ -142,7 +142,7 @@ Takes-digits rest len n taken =
 -- ---- items that are read one after another
 
 -- what was taken are these items, whatever comes behind them
-pub record IsTaken {X : Type 0} (f : X → Data) (xs : List X) (later : Bool) (start rest text : List ℕ) : Type
+pub record AreItemsTaken {X : Type 0} (f : X → Data) (xs : List X) (later : Bool) (start rest text : List ℕ) : Type
     0 where
   pub done : List ℕ
   pub takes : Takes start done rest
@@ -151,7 +151,7 @@ pub record IsTaken {X : Type 0} (f : X → Data) (xs : List X) (later : Bool) (s
       ≡ text ++ (91 ∷ items_text false (items_of (map f (xs ++ tail))))
 
 pub IsTaken-none : {X : Type 0} (f : X → Data) (start rest text : List ℕ)
-    → Takes start (text ++ (91 ∷ [])) rest → IsTaken f [] false start rest text
+    → Takes start (text ++ (91 ∷ [])) rest → AreItemsTaken f [] false start rest text
 IsTaken-none f start rest text takes = record {
   done = text ++ (91 ∷ []);
   takes = takes;
@@ -160,8 +160,8 @@ IsTaken-none f start rest text takes = record {
 
 pub IsTaken-more : {X : Type 0} (f : X → Data) (xs : List X) (x : X) (later : Bool)
     (start rest behind text : List ℕ)
-    → IsTaken f xs later start rest text → Takes rest (comma_if later ++ compact_text (f x)) behind
-    → IsTaken f (xs ++ x ∷ []) true start behind text
+    → AreItemsTaken f xs later start rest text → Takes rest (comma_if later ++ compact_text (f x)) behind
+    → AreItemsTaken f (xs ++ x ∷ []) true start behind text
 IsTaken-more f xs x later start rest behind text before takes = record {
   done = before.done ++ (comma_if later ++ compact_text (f x));
   takes = Takes-both start rest behind before.done (comma_if later ++ compact_text (f x)) before.takes takes;
@@ -173,7 +173,7 @@ IsTaken-more f xs x later start rest behind text before takes = record {
 }
 
 pub Takes-items : {X : Type 0} (f : X → Data) (xs : List X) (later : Bool) (start rest behind text : List ℕ)
-    → IsTaken f xs later start rest text → Takes rest (93 ∷ []) behind
+    → AreItemsTaken f xs later start rest text → Takes rest (93 ∷ []) behind
     → Takes start (text ++ (91 ∷ items_text false (items_of (map f xs)))) behind
 Takes-items f xs later start rest behind text all takes =
     Takes-same start behind (all.done ++ (93 ∷ [])) _

@@ -26,7 +26,7 @@ use Rattle.certificate.specs.declared.task_turns.TaskTurns.{TaskTurns}
 use Rattle.ompt_events.specs.Upgrades.{Moves, turn_counted, telling}
 use Rattle.ompt_events.proofs.PlaceLemmas.{at_get, thread_get, is_the_task, the_task}
 use Rattle.certificate.specs.TaskTurns.{no_turns, first_turn, noted, with_begin, with_start, with_turn}
-use Rattle.certificate.specs.TaskTurns.{one_later, turn_ended, IsElsewhere, IsAtHome, AreHomes, AreTurns}
+use Rattle.certificate.specs.TaskTurns.{one_later, turn_ended, IsElsewhere, IsAtHome, AreHomesNoted, AreTurnsNoted}
 use Rattle.certificate.specs.TaskTurns.{AreEnded, turns_told, told_by}
 
 -- ---- single records
@@ -92,9 +92,9 @@ or_first false false n is = is
 
 -- one more record, at which no task moves
 pub homes_more : (rs : List Record) (i : ℕ) (r : Record) (old mid new : BTreeMap ℕ TaskTurns)
-    → slice_get rs i ≡ Some r → AreHomes rs i old
+    → slice_get rs i ≡ Some r → AreHomesNoted rs i old
     → ((task : ℕ) → noted mid task ≡ with_begin task r (noted old task)) → IsAtHome mid r
-    → ((task : ℕ) → noted new task ≡ with_start task r (noted mid task)) → AreHomes rs (i + 1) new
+    → ((task : ℕ) → noted new task ≡ with_start task r (noted mid task)) → AreHomesNoted rs (i + 1) new
 homes_more rs i r old mid new stands are begins stays starts = record {
   at_home = λ task k below ran. elim (cases_Bool (is_task task (started r.body))) [
     | inl is ↦ elim (cases_eq k i) [
@@ -161,7 +161,7 @@ homes_more rs i r old mid new stands are begins stays starts = record {
 
 -- the task that is noted to run on another thread moves
 pub moves : (rs : List Record) (i : ℕ) (r : Record) (old mid : BTreeMap ℕ TaskTurns) → slice_get rs i ≡ Some r
-    → AreHomes rs i old → ((task : ℕ) → noted mid task ≡ with_begin task r (noted old task))
+    → AreHomesNoted rs i old → ((task : ℕ) → noted mid task ≡ with_begin task r (noted old task))
     → IsElsewhere mid r → Moves rs i
 moves rs i r old mid stands are begins elsewhere =
     let task = elsewhere.task in
@@ -183,7 +183,7 @@ moves rs i r old mid stands are begins elsewhere =
 
 -- and one that is noted to run on this thread, or on none, does not
 pub stays_home : (rs : List Record) (i : ℕ) (r : Record) (old mid : BTreeMap ℕ TaskTurns)
-    → slice_get rs i ≡ Some r → AreHomes rs i old
+    → slice_get rs i ≡ Some r → AreHomesNoted rs i old
     → ((task : ℕ) → noted mid task ≡ with_begin task r (noted old task)) → IsAtHome mid r → Moves rs i → ⊥
 stays_home rs i r old mid stands are begins stays move =
     let task = move.task in
@@ -250,8 +250,8 @@ turn_next task r t = by (is_task task (started r.body))
 
 -- one more record
 pub turns_more : (rs : List Record) (i : ℕ) (r : Record) (old new : BTreeMap ℕ TaskTurns)
-    → slice_get rs i ≡ Some r → AreTurns rs i old
-    → ((task : ℕ) → noted new task ≡ with_turn task r (noted old task)) → AreTurns rs (i + 1) new
+    → slice_get rs i ≡ Some r → AreTurnsNoted rs i old
+    → ((task : ℕ) → noted new task ≡ with_turn task r (noted old task)) → AreTurnsNoted rs (i + 1) new
 turns_more rs i r old new stands are begins = record {
   at_home =
       λ task k ran.
@@ -267,7 +267,7 @@ turns_more rs i r old new stands are begins = record {
 
 -- a task that runs next is noted
 pub is_noted : (rs : List Record) (i : ℕ) (r : Record) (table : BTreeMap ℕ TaskTurns)
-    → slice_get rs i ≡ Some r → AreTurns rs i table → (task : ℕ) → started r.body ≡ Some task
+    → slice_get rs i ≡ Some r → AreTurnsNoted rs i table → (task : ℕ) → started r.body ≡ Some task
     → IsSome (get nat_cmp table task)
 is_noted rs i r table stands are task runs = by (get nat_cmp table task) refl
   where
@@ -345,7 +345,7 @@ end_at t thread home lives =
 
 -- the turn in which the task is after the record at n, on a thread
 ended_by : (rs : List Record) (n : ℕ) (r : Record) (old new : BTreeMap ℕ TaskTurns) → slice_get rs n ≡ Some r
-    → AreTurns rs n old → ((task : ℕ) → noted new task ≡ with_turn task r (noted old task))
+    → AreTurnsNoted rs n old → ((task : ℕ) → noted new task ≡ with_turn task r (noted old task))
     → (task thread : ℕ) (b : Bool) → (r.thread == thread) ≡ b
     → fold (turn_after task) (turn_ended (noted old task) thread) (cond b (told_by old r ∷ []) [])
     ≡ turn_ended (noted new task) thread
@@ -422,7 +422,7 @@ ended_by rs n r old new stands are begins task thread b at_thread = by (started 
 
 -- one more record, with its turns
 pub ended_more : (rs now : List Record) (n : ℕ) (r : Record) (old new : BTreeMap ℕ TaskTurns)
-    → slice_get rs n ≡ Some r → n < length now → AreTurns rs n old → AreEnded now n old
+    → slice_get rs n ≡ Some r → n < length now → AreTurnsNoted rs n old → AreEnded now n old
     → ((task : ℕ) → noted new task ≡ with_turn task r (noted old task))
     → AreEnded (slice_set now n (told_by old r)) (n + 1) new
 ended_more rs now n r old new stands within are ended begins = λ task thread.

@@ -14,7 +14,7 @@ use Rattle.serde_json.specs.Data.{Data, number, unsigned}
 use Rattle.serde_json.specs.Read.{max_depth}
 use Rattle.serde_json.specs.View.{items_of}
 use Rattle.serde_json.specs.Written.{compact_text}
-use Rattle.certificate.specs.Texts.{ended, whole_number}
+use Rattle.certificate.specs.Texts.{ended_lines, whole_number}
 use Rattle.certificate.specs.Limits.{max_line}
 use Rattle.certificate.specs.Members.{each, whole_of}
 use Rattle.certificate.specs.RecordLines.{line_says, header_says, said_of}
@@ -25,11 +25,11 @@ use Rattle.certificate.proofs.JsonLemmas.{IsPlain, ArePlain, size, items_size, v
 use Rattle.certificate.proofs.JsonLemmas.{unbroken-compact_text, length-compact_text}
 
 pub cut-ended : (lines : List (List ℕ)) → AllByRecursion IsUnbroken lines
-    → cut (ended lines) ≡ record { lines = lines; rest = [] }
+    → cut (ended_lines lines) ≡ record { lines = lines; rest = [] }
 unfolding cut
 cut-ended [] all = refl
 cut-ended (line ∷ lines) all =
-    ap cut (append_assoc line (10 ∷ []) (ended lines)) ∙ cut-line line (ended lines) all.0
+    ap cut (append_assoc line (10 ∷ []) (ended_lines lines)) ∙ cut-line line (ended_lines lines) all.0
     ∙ ap (λ (c : Cut). let later : Cut = record { lines = line ∷ c.lines; rest = c.rest } in later)
     (cut-ended lines all.1)
 
@@ -96,7 +96,7 @@ trace_said-ended : (newest version : ℕ) (header : List ℕ) (line : Record →
     → header_says newest header ≡ Ok version → length header ≤ max_line → IsUnbroken header
     → AllByRecursion (λ r. IsLineOf version (line r) r) rs
     → length rs ≤ max_records → tasks_in rs ≤ max_tasks
-    → trace_said newest (ended (header ∷ map line rs)) ≡ Ok (trace_at version rs)
+    → trace_said newest (ended_lines (header ∷ map line rs)) ≡ Ok (trace_at version rs)
 unfolding from_line
 trace_said-ended newest version header line rs says short unbroken all few tasks =
     ap (λ (c : Cut). from_line (traces newest) 1 no_trace c.lines c.rest)
@@ -119,7 +119,7 @@ AllByRecursion-from P (x ∷ xs) all =
 pub trace_said-trace : (newest version : ℕ) (header : List ℕ) (line : Record → List ℕ) (rs : List Record)
     → header_says newest header ≡ Ok version → length header ≤ max_line → IsUnbroken header
     → All (λ r. IsLineOf version (line r) r) rs → IsTrace rs
-    → trace_said newest (ended (header ∷ map line rs)) ≡ Ok (record { version = version; records = rs })
+    → trace_said newest (ended_lines (header ∷ map line rs)) ≡ Ok (record { version = version; records = rs })
 trace_said-trace newest version header line rs says short unbroken all trace =
     trace_said-ended newest version header line rs says short unbroken (AllByRecursion-from _ rs all)
     trace.few_records trace.few_tasks

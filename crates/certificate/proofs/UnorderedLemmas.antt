@@ -37,7 +37,7 @@ use Rattle.certificate.specs.CallbackNames as callback
 use Rattle.certificate.specs.PlainData.{puts, IsPlain, MembersArePlain}
 use Rattle.certificate.specs.Texts.{Takes, is_plain_text, whole_number, number_or_null, names, flag_names}
 use Rattle.certificate.specs.Texts.{dep_data}
-use Rattle.certificate.specs.Unordered.{callback_name, rows, with_row, AreRows, IsMember, IsFound, Makes}
+use Rattle.certificate.specs.Unordered.{callback_name, rows, with_row, HaveValues, IsMemberInFront, IsObjectOf, SaysRecord}
 use Rattle.certificate.proofs.FlagLemmas.{task_flags-read}
 use Rattle.certificate.proofs.JsonLemmas.{value_of-members}
 use Rattle.certificate.proofs.LineLemmas.{fits}
@@ -51,8 +51,8 @@ use Rattle.certificate.proofs.TextLemmas.{wholes-items_of}
 
 -- ---- one more member
 
-AreRows-put : (k : List ℕ) (d : Data) (ms : Members) (rs : List (List ℕ × Option Data)) → AreRows ms rs
-    → AreRows (put k d ms) (with_row k d rs)
+AreRows-put : (k : List ℕ) (d : Data) (ms : Members) (rs : List (List ℕ × Option Data)) → HaveValues ms rs
+    → HaveValues (put k d ms) (with_row k d rs)
 AreRows-put k d ms [] all = tt
 AreRows-put k d ms (row ∷ rs) all = (
   get_member-put_either row.0 k d ms ∙ ap (cond (bytes_eq k row.0) (Some d)) all.0,
@@ -70,17 +70,17 @@ plain-more no_members k d n all name plain = (name, plain, tt)
 plain-more (member l e ms) k d n all name plain = (all.0, all.1, plain-more ms k d n all.2 name plain)
 
 -- what was taken are these members, whatever comes behind them, and they have these rows
-pub record IsMet (rs : List (List ℕ × Option Data)) (later : Bool) (start rest : List ℕ) : Type 0 where
+pub record AreMembersMet (rs : List (List ℕ × Option Data)) (later : Bool) (start rest : List ℕ) : Type 0 where
   pub members : Members
   pub done : List ℕ
   pub takes : Takes start done rest
   pub whole : (tail : Members)
       → done ++ members_text later tail ≡ 123 ∷ members_text false (followed members tail)
   pub plain : MembersArePlain members 2
-  pub are : AreRows (puts members no_members) rs
+  pub are : HaveValues (puts members no_members) rs
 
 pub IsMet-none : (rs : List (List ℕ × Option Data)) (start rest : List ℕ) → Takes start (123 ∷ []) rest
-    → AreRows no_members rs → IsMet rs false start rest
+    → HaveValues no_members rs → AreMembersMet rs false start rest
 IsMet-none rs start rest takes are = record {
   members = no_members;
   done = 123 ∷ [];
@@ -99,12 +99,12 @@ member-more comma name text done tail =
 
 pub IsMet-more : (before after : List (List ℕ × Option Data)) (later : Bool)
     (start rest front behind : List ℕ)
-    → IsMet before later start rest → Takes rest (comma_if later) front → IsMember before after front behind
-    → IsMet after true start behind
+    → AreMembersMet before later start rest → Takes rest (comma_if later) front → IsMemberInFront before after front behind
+    → AreMembersMet after true start behind
 IsMet-more before after later start rest front behind met comma one =
     let ms = met.members in
     let text = quoted one.name ++ 58 ∷ compact_text one.value in
-    let grown : AreRows (put one.name one.value (puts ms no_members)) after =
+    let grown : HaveValues (put one.name one.value (puts ms no_members)) after =
     (rw one.added (AreRows-put one.name one.value (puts ms no_members) before met.are)) in
     record {
       members = followed ms (member one.name one.value no_members);
@@ -123,7 +123,7 @@ IsMet-more before after later start rest front behind met comma one =
 
 -- the line ends
 pub IsFound-end : (rs : List (List ℕ × Option Data)) (later : Bool) (line rest : List ℕ)
-    → IsMet rs later line rest → Takes rest (125 ∷ []) [] → IsFound line rs
+    → AreMembersMet rs later line rest → Takes rest (125 ∷ []) [] → IsObjectOf line rs
 IsFound-end rs later line rest met last =
     let text : line ≡ compact_text (object met.members) =
     met.takes.is ∙ ap (λ bytes. met.done ++ bytes) last.is ∙ met.whole no_members
@@ -137,7 +137,7 @@ IsFound-end rs later line rest met last =
 -- ---- what was found says the record
 
 pub line_says-found : (version : ℕ) (line : List ℕ) (rs : List (List ℕ × Option Data)) (r : Record)
-    → IsFound line rs → Makes version rs r → IsInRange r → IsSoundIn version r.body
+    → IsObjectOf line rs → SaysRecord version rs r → IsInRange r → IsSoundIn version r.body
     → line_says version line ≡ Ok r
 line_says-found version line rs r found makes range sound =
     ap (said_of version) found.value ∙ ap (bounded record_fits) (makes found.members found.are sound)
@@ -147,7 +147,7 @@ pub makes-task_create : (version : ℕ) (f : Found) (thread : ℕ) (seq : ℕ) (
     (flags : TaskFlags) (task : ℕ)
     → f.callback ≡ Some TaskCreate → f.thread ≡ Some thread → f.seq ≡ Some seq → f.seen ≡ Some seen
     → f.child ≡ Some child → f.deps ≡ Some deps → f.flags ≡ Some flags → f.task ≡ Some task
-    → Makes version (rows f) (record {
+    → SaysRecord version (rows f) (record {
       thread = thread;
       seq = seq;
       seen = seen;
@@ -188,14 +188,14 @@ makes-task_create version f thread seq seen child deps flags task is_callback is
     refl
 
 -- the turns, where some are told, were found
-abbrev pub IsTold : Found → Option Turns → Type 0
-IsTold f told = IfSome told (λ (t : Turns). (f.prior_turn ≡ Some t.prior) × (f.next_turn ≡ Some t.next))
+abbrev pub AreTurnsFound : Found → Option Turns → Type 0
+AreTurnsFound f told = IfSome told (λ (t : Turns). (f.prior_turn ≡ Some t.prior) × (f.next_turn ≡ Some t.next))
 
 pub makes-switching : (version : ℕ) (f : Found) (thread : ℕ) (seq : ℕ) (seen : ℕ) (status : Status)
     (told : Option Turns) (prior : ℕ) (next : Option ℕ)
     → f.callback ≡ Some TaskSchedule → f.thread ≡ Some thread → f.seq ≡ Some seq → f.seen ≡ Some seen
-    → f.status ≡ Some status → f.prior ≡ Some prior → f.next ≡ Some next → IsTold f told
-    → Makes version (rows f) (record {
+    → f.status ≡ Some status → f.prior ≡ Some prior → f.next ≡ Some next → AreTurnsFound f told
+    → SaysRecord version (rows f) (record {
       thread = thread;
       seq = seq;
       seen = seen;
@@ -277,8 +277,8 @@ pub makes-finishing : (version : ℕ) (f : Found) (thread : ℕ) (seq : ℕ) (se
     (told : Option Turns) (prior : ℕ) (next : Option ℕ) (kept : ℕ) (root : ℕ) (path : List ℕ)
     → f.callback ≡ Some TaskSchedule → f.thread ≡ Some thread → f.seq ≡ Some seq → f.seen ≡ Some seen
     → f.status ≡ Some status → f.prior ≡ Some prior → f.next ≡ Some next → f.kept ≡ Some kept
-    → f.root ≡ Some root → f.path ≡ Some path → IsTold f told
-    → Makes version (rows f) (record {
+    → f.root ≡ Some root → f.path ≡ Some path → AreTurnsFound f told
+    → SaysRecord version (rows f) (record {
       thread = thread;
       seq = seq;
       seen = seen;
@@ -383,7 +383,7 @@ pub makes-sync_region : (version : ℕ) (f : Found) (thread : ℕ) (seq : ℕ) (
     (endpoint : Endpoint) (parallel : Option ℕ) (task : ℕ)
     → f.callback ≡ Some SyncRegion → f.thread ≡ Some thread → f.seq ≡ Some seq → f.seen ≡ Some seen
     → f.kind ≡ Some kind → f.endpoint ≡ Some endpoint → f.parallel ≡ Some parallel → f.task ≡ Some task
-    → Makes version (rows f) (record {
+    → SaysRecord version (rows f) (record {
       thread = thread;
       seq = seq;
       seen = seen;
@@ -436,7 +436,7 @@ pub makes-parallel_begin : (version : ℕ) (f : Found) (thread : ℕ) (seq : ℕ
     (task : ℕ) (parallel : ℕ)
     → f.callback ≡ Some ParallelBegin → f.thread ≡ Some thread → f.seq ≡ Some seq → f.seen ≡ Some seen
     → f.requested ≡ Some requested → f.task ≡ Some task → f.parallel ≡ Some (Some parallel)
-    → Makes version (rows f) (record {
+    → SaysRecord version (rows f) (record {
       thread = thread;
       seq = seq;
       seen = seen;
@@ -465,7 +465,7 @@ makes-parallel_begin version f thread seq seen requested task parallel is_callba
 pub makes-parallel_end : (version : ℕ) (f : Found) (thread : ℕ) (seq : ℕ) (seen : ℕ) (task : ℕ) (parallel : ℕ)
     → f.callback ≡ Some ParallelEnd → f.thread ≡ Some thread → f.seq ≡ Some seq → f.seen ≡ Some seen
     → f.task ≡ Some task → f.parallel ≡ Some (Some parallel)
-    → Makes version (rows f) (record {
+    → SaysRecord version (rows f) (record {
       thread = thread;
       seq = seq;
       seen = seen;
@@ -494,7 +494,7 @@ pub makes-implicit_task : (version : ℕ) (f : Found) (thread : ℕ) (seq : ℕ)
     → f.callback ≡ Some ImplicitTask → f.thread ≡ Some thread → f.seq ≡ Some seq → f.seen ≡ Some seen
     → f.endpoint ≡ Some endpoint → f.actual ≡ Some actual → f.index ≡ Some index → f.flags ≡ Some flags
     → f.parallel ≡ Some (Some parallel) → f.task ≡ Some task
-    → Makes version (rows f) (record {
+    → SaysRecord version (rows f) (record {
       thread = thread;
       seq = seq;
       seen = seen;
@@ -547,7 +547,7 @@ pub makes-dependences : (version : ℕ) (f : Found) (thread : ℕ) (seq : ℕ) (
     (list : List Dep)
     → f.callback ≡ Some Dependences → f.thread ≡ Some thread → f.seq ≡ Some seq → f.seen ≡ Some seen
     → f.task ≡ Some task → f.list ≡ Some list
-    → Makes version (rows f) (record {
+    → SaysRecord version (rows f) (record {
       thread = thread;
       seq = seq;
       seen = seen;

@@ -20,7 +20,7 @@ use Rattle.ompt_events.specs.Traces.{IsSound, IsInRange, BodyInRange, IsTraceOf,
 use Rattle.ompt_events.specs.Turns.{turn_in, turn_at}
 use Rattle.ompt_events.specs.Upgrades.{IsUpgrade, turn_counted, telling, body_upgraded}
 use Rattle.certificate.specs.declared.task_turns.TaskTurns.{TaskTurns}
-use Rattle.certificate.specs.TaskTurns.{noted, turns_told, told_by, turn_ended, AreTurns, AreEnded}
+use Rattle.certificate.specs.TaskTurns.{noted, turns_told, told_by, turn_ended, AreTurnsNoted, AreEnded}
 use Rattle.certificate.specs.TaskTurns.{IsUpgradedUpTo}
 use Rattle.certificate.proofs.TaskTurnLemmas.{turn_few}
 
@@ -86,7 +86,7 @@ with_body r body = record { thread = r.thread; seq = r.seq; seen = r.seen; body 
 
 -- what is told is what the upgrade says
 told_is : (old now : List Record) (n : ℕ) (r : Record) (table : BTreeMap ℕ TaskTurns) → n < length now
-    → AreTurns old n table → AreEnded now n table → IsSound r.body
+    → AreTurnsNoted old n table → AreEnded now n table → IsSound r.body
     → told_by table r ≡ with_body r (body_upgraded old (slice_set now n (told_by table r)) n r.body)
 told_is old now n r table within are ended sound = by r.body refl
   where
@@ -144,7 +144,7 @@ ended_few t thread = by (option_map_or (λ home. home == thread) t.home false)
 
 -- each number of it is within the range of its type
 told_in_range : (old : List Record) (n : ℕ) (r : Record) (table : BTreeMap ℕ TaskTurns) → n ≤ length old
-    → length old ≤ max_records → AreTurns old n table → IsInRange r → IsInRange (told_by table r)
+    → length old ≤ max_records → AreTurnsNoted old n table → IsInRange r → IsInRange (told_by table r)
 told_in_range old n r table short few are in_range = by r.body refl
   where
     small : (task : ℕ) → (noted table task).next < 2 ^ 32
@@ -174,7 +174,7 @@ told_in_range old n r table short few are in_range = by r.body refl
 -- ---- the records so far
 
 pub upgraded_more : (old now : List Record) (n : ℕ) (r : Record) (table : BTreeMap ℕ TaskTurns)
-    → slice_get old n ≡ Some r → length old ≤ max_records → IsSound r.body → AreTurns old n table
+    → slice_get old n ≡ Some r → length old ≤ max_records → IsSound r.body → AreTurnsNoted old n table
     → AreEnded now n table → IsUpgradedUpTo old n now
     → IsUpgradedUpTo old (n + 1) (slice_set now n (told_by table r))
 upgraded_more old now n r table stands few sound are ended before =

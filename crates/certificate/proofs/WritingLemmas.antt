@@ -7,7 +7,7 @@ use Rattle.std.proofs.lemmas.List.{map-append, take_more, take_all, take-append-
 use Rattle.std.specs.Prelude.{OnErr}
 use Rattle.std.specs.Io.KnownBytes.{Appends}
 use Rattle.ompt_events.specs.declared.records.Record.{Record}
-use Rattle.certificate.specs.Texts.{ended, header_line, line_of}
+use Rattle.certificate.specs.Texts.{ended_lines, header_line, line_of}
 use Rattle.std.proofs.Math.Seq.{take-add, take-append_seam}
 
 pub Appends-none : (a : Option (List ℕ)) → Appends a a []
@@ -37,52 +37,52 @@ Appends-both (Some old) (Some bs) (Some cs) xs ys first next =
 
 -- one more line waits
 pub text-more : (version : ℕ) (sent block more : List ℕ) (rs : List Record) (i : ℕ) (r : Record)
-    → sent ++ block ≡ ended (header_line version ∷ map line_of (take i rs)) → i < length rs
+    → sent ++ block ≡ ended_lines (header_line version ∷ map line_of (take i rs)) → i < length rs
     → r ≡ get_or rs i r → more ≡ block ++ (line_of r ++ 10 ∷ [])
-    → sent ++ more ≡ ended (header_line version ∷ map line_of (take (i + 1) rs))
+    → sent ++ more ≡ ended_lines (header_line version ∷ map line_of (take (i + 1) rs))
 text-more version sent block more rs i r text within read is =
     ap (λ l. sent ++ l) is ∙ sym (append_assoc sent block (line_of r ++ 10 ∷ []))
     ∙ ap (λ l. l ++ (line_of r ++ 10 ∷ [])) text
-    ∙ ap (λ l. ended (header_line version ∷ map line_of (take i rs)) ++ l)
+    ∙ ap (λ l. ended_lines (header_line version ∷ map line_of (take i rs)) ++ l)
     (sym (append-nil (line_of r ++ 10 ∷ [])))
     ∙ sym
     (flat_map-append (λ line. line ++ 10 ∷ []) (header_line version ∷ map line_of (take i rs))
     (line_of r ∷ []))
-    ∙ ap (λ lines. ended (header_line version ∷ lines))
+    ∙ ap (λ lines. ended_lines (header_line version ∷ lines))
     (sym (map-append line_of (take i rs) (r ∷ []))
     ∙ ap (map line_of) (sym (take_more rs i r within ∙ ap (λ q. take i rs ++ q ∷ []) (sym read))))
 
 -- what went out and a part of what waits is a part of the whole
 text-prefix : (version : ℕ) (sent block : List ℕ) (rs : List Record) (i n : ℕ)
-    → sent ++ block ≡ ended (header_line version ∷ map line_of (take i rs))
+    → sent ++ block ≡ ended_lines (header_line version ∷ map line_of (take i rs))
     → sent ++ take n block
-    ≡ take (length (sent ++ take n block)) (ended (header_line version ∷ map line_of rs))
+    ≡ take (length (sent ++ take n block)) (ended_lines (header_line version ∷ map line_of rs))
 text-prefix version sent block rs i n text =
     sym
     (ap (take (length (sent ++ take n block))) whole
     ∙ take-append_seam (sent ++ take n block) (drop n block ++ rest))
   where
     rest : List ℕ
-    rest = ended (map line_of (drop i rs))
+    rest = ended_lines (map line_of (drop i rs))
 
     cut_in_two : sent ++ block ≡ (sent ++ take n block) ++ drop n block
     cut_in_two =
         ap (λ l. sent ++ l) (sym (take-append-drop n block))
         ∙ sym (append_assoc sent (take n block) (drop n block))
 
-    whole : ended (header_line version ∷ map line_of rs) ≡ (sent ++ take n block) ++ (drop n block ++ rest)
+    whole : ended_lines (header_line version ∷ map line_of rs) ≡ (sent ++ take n block) ++ (drop n block ++ rest)
     whole =
-        ap (λ list. ended (header_line version ∷ map line_of list)) (sym (take-append-drop i rs))
-        ∙ ap (λ lines. ended (header_line version ∷ lines)) (map-append line_of (take i rs) (drop i rs))
+        ap (λ list. ended_lines (header_line version ∷ map line_of list)) (sym (take-append-drop i rs))
+        ∙ ap (λ lines. ended_lines (header_line version ∷ lines)) (map-append line_of (take i rs) (drop i rs))
         ∙ flat_map-append (λ line. line ++ 10 ∷ []) (header_line version ∷ map line_of (take i rs))
         (map line_of (drop i rs))
         ∙ ap (λ l. l ++ rest) (sym text ∙ cut_in_two)
         ∙ append_assoc (sent ++ take n block) (drop n block) rest
 
 pub part-out : (version : ℕ) (a b c : Option (List ℕ)) (sent block : List ℕ) (rs : List Record) (i n : ℕ)
-    → sent ++ block ≡ ended (header_line version ∷ map line_of (take i rs)) → Appends a b sent
+    → sent ++ block ≡ ended_lines (header_line version ∷ map line_of (take i rs)) → Appends a b sent
     → Appends b c (take n block)
-    → (m : ℕ) × Appends a c (take m (ended (header_line version ∷ map line_of rs)))
+    → (m : ℕ) × Appends a c (take m (ended_lines (header_line version ∷ map line_of rs)))
 part-out version a b c sent block rs i n text first next = (
   length (sent ++ take n block),
   (let P : List ℕ → Type 0 = λ bytes. Appends a c bytes in
@@ -91,18 +91,18 @@ part-out version a b c sent block rs i n text first next = (
 )
 
 pub sent-out : (version : ℕ) (a b : Option (List ℕ)) (sent block : List ℕ) (rs : List Record) (i : ℕ)
-    → sent ++ block ≡ ended (header_line version ∷ map line_of (take i rs)) → Appends a b sent
-    → (m : ℕ) × Appends a b (take m (ended (header_line version ∷ map line_of rs)))
+    → sent ++ block ≡ ended_lines (header_line version ∷ map line_of (take i rs)) → Appends a b sent
+    → (m : ℕ) × Appends a b (take m (ended_lines (header_line version ∷ map line_of rs)))
 sent-out version a b sent block rs i text first =
     part-out version a b b sent block rs i 0 text first (Appends-none b)
 
 -- all the lines are the text
 pub whole-out : (version : ℕ) (a b c : Option (List ℕ)) (sent block : List ℕ) (rs : List Record) (i : ℕ)
-    → sent ++ block ≡ ended (header_line version ∷ map line_of (take i rs)) → length rs ≤ i → Appends a b sent
-    → Appends b c block → Appends a c (ended (header_line version ∷ map line_of rs))
+    → sent ++ block ≡ ended_lines (header_line version ∷ map line_of (take i rs)) → length rs ≤ i → Appends a b sent
+    → Appends b c block → Appends a c (ended_lines (header_line version ∷ map line_of rs))
 whole-out version a b c sent block rs i text all first next =
     let P : List ℕ → Type 0 = λ bytes. Appends a c bytes in
-    subst P (text ∙ ap (λ list. ended (header_line version ∷ map line_of list)) (take_all i rs all))
+    subst P (text ∙ ap (λ list. ended_lines (header_line version ∷ map line_of list)) (take_all i rs all))
     (Appends-both a b c sent block first next)
 
 -- what holds anyway holds where the answer is a fault

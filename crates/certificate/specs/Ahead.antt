@@ -14,7 +14,7 @@ use Rattle.certificate.specs.Files.{no_trace, traces}
 use Rattle.certificate.specs.Pieces.{IsWholeLines, AreJudged}
 use Rattle.certificate.specs.Windows.{LineFeedAt}
 use Rattle.certificate.specs.Blocks.{BlockView, IsFillFault}
-use Rattle.certificate.specs.ReadingOn.{IsBetweenLines, IsToldWithin, IsJudgedUpTo, IsCounted, IsLineFault}
+use Rattle.certificate.specs.ReadingOn.{IsBetweenLines, IsToldWithin, IsJudgedUpTo, IsLineCounted, IsLineFault}
 
 -- nothing was read, and so many bytes may wait
 pub record IsFirst (room : ℕ) (ahead : Ahead) : Type 0 where
@@ -41,7 +41,7 @@ pub record AreJudgedOf (version : ℕ) (pieces : List Piece) (bytes : List ℕ) 
 pub record IsInHand (ahead : Ahead) : Type 0 where
   pub low : 2 ≤ ahead.line
   pub high : ahead.line ≤ max_records + 2
-  pub counted : IsCounted ahead.line ahead.kept
+  pub counted : IsLineCounted ahead.line ahead.kept
   pub version : ahead.kept.version ≤ newest_version
   pub pending : ArePending ahead.kept.version ahead.pieces.items
   pub met : IfErr ahead.filled IsFillFault
@@ -52,7 +52,7 @@ CanAsk ahead = ahead.asks ≡ true → (ahead.filled ≡ Ok true) × (ahead.turn
 
 -- between two rounds: whole lines stand in front, and no line feed follows them. Where the source may give
 -- more and is not asked, the line that waits is too long
-pub record IsReady (front : BlockView) (ahead : Ahead) : Type 0 where
+pub record IsRoundReady (front : BlockView) (ahead : Ahead) : Type 0 where
   pub in_hand : IsInHand ahead
   pub can_ask : CanAsk ahead
   pub whole : IsWholeLines front.waiting
@@ -114,7 +114,7 @@ pub record SameLines (old new : Ahead) : Type 0 where
   pub pieces : new.pieces ≡ old.pieces
 
 -- the pieces were added, up to the first fault
-pub record IsAdded (result : Result (Unit {0}) ReadCause) (old new : Ahead) : Type 0 where
+pub record ArePiecesAdded (result : Result (Unit {0}) ReadCause) (old new : Ahead) : Type 0 where
   pub between : (bytes more : List ℕ) (known left : Option (List ℕ)) (room : ℕ)
       → AreJudged old.kept.version old.pieces.items bytes → length (bytes ++ more) ≤ room
       → IsBetweenLines known old.line old.kept (bytes ++ more) left
@@ -123,7 +123,7 @@ pub record IsAdded (result : Result (Unit {0}) ReadCause) (old new : Ahead) : Ty
       → new.line ≡ old.line + line_feeds bytes)
   pub later : old.line ≤ new.line
   pub last : new.line ≤ max_records + 2
-  pub counted : OnOk result (IsCounted new.line new.kept)
+  pub counted : OnOk result (IsLineCounted new.line new.kept)
   pub version : OnOk result (new.kept.version ≡ old.kept.version)
   pub fault : IfErr result IsLineFault
 
@@ -145,9 +145,9 @@ pub record IsRefilled (old new : Ahead) (left left' : Option (List ℕ)) : Type 
 abbrev pub WorkedBeside : Result (Unit {0}) ReadCause → Ahead → Ahead → Option (List ℕ) → Option (List ℕ)
     → Type 0
 WorkedBeside (Ok u) old new left left' =
-    (middle : Ahead) × IsAdded (Ok u) old middle × SameSource old middle × IsRefilled middle new left left'
+    (middle : Ahead) × ArePiecesAdded (Ok u) old middle × SameSource old middle × IsRefilled middle new left left'
 WorkedBeside (Err cause) old new left left' =
-    IsAdded (Err cause) old new × SameSource old new × (left' ≡ left)
+    ArePiecesAdded (Err cause) old new × SameSource old new × (left' ≡ left)
 
 -- what was met at the source, since it was asked first
 pub record HasMet (ahead : Ahead) (turns agains breaks agains' breaks' : ℕ) : Type 0 where
@@ -160,7 +160,7 @@ MeetsMore old new agains agains' breaks breaks' =
     → HasMet new turns first_agains first_breaks agains' breaks'
 
 -- what was in front was judged, and the block that was filled is in front
-pub record IsTurned (front : BlockView) (old : Ahead) (front' : BlockView) (new : Ahead) : Type 0 where
+pub record AreBlocksTurned (front : BlockView) (old : Ahead) (front' : BlockView) (new : Ahead) : Type 0 where
   pub in_hand : IsInHand new
   pub waiting : new.block.waiting ≡ []
   pub limit : (front'.limit ≡ front.limit) × (new.block.limit ≡ front.limit)

@@ -67,14 +67,14 @@ version_of newest [] = no_trace.version
 version_of newest (line ∷ lines) = result_unwrap_or (header_says newest line) no_trace.version
 
 -- the records of the lines that stand for one in a file of this version
-abbrev pub records_of : ℕ → List (List ℕ) → List Record
-records_of version lines = filter_map (λ line. result_ok (line_says version line)) lines
+abbrev pub records_said : ℕ → List (List ℕ) → List Record
+records_said version lines = filter_map (λ line. result_ok (line_says version line)) lines
 
 -- a header, and records in the lines after it
 abbrev pub trace_of : ℕ → List (List ℕ) → TraceView
 trace_of newest lines = record {
   version = version_of newest lines;
-  records = records_of (version_of newest lines) (drop 1 lines);
+  records = records_said (version_of newest lines) (drop 1 lines);
 }
 
 -- the trace of the lines before the one at place k, counted from 0
@@ -83,12 +83,12 @@ trace_before newest lines k = trace_of newest (take k lines)
 
 -- the cause of the fault at place k: of the line there, or past the last line of the bytes that no line
 -- feed ends
-abbrev pub fault_of : ℕ → TraceView → ℕ → List ℕ → Option (List ℕ) → Option ReadCause
-fault_of newest before k rest (Some line) = result_err (line_adds (traces newest) (k + 1) before line)
-fault_of newest before k rest None = result_err (end_adds (k + 1) before rest)
+abbrev pub line_fault : ℕ → TraceView → ℕ → List ℕ → Option (List ℕ) → Option ReadCause
+line_fault newest before k rest (Some line) = result_err (line_adds (traces newest) (k + 1) before line)
+line_fault newest before k rest None = result_err (end_adds (k + 1) before rest)
 
 abbrev pub cause_in : ℕ → List (List ℕ) → List ℕ → ℕ → Option ReadCause
-cause_in newest lines rest k = fault_of newest (trace_before newest lines k) k rest (slice_get lines k)
+cause_in newest lines rest k = line_fault newest (trace_before newest lines k) k rest (slice_get lines k)
 
 -- no line has a fault; the first names the version, and those after it stand for the records of the trace
 pub record StandsFor (newest : ℕ) (bytes : List ℕ) (trace : TraceView) : Type 0 where

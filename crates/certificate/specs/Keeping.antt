@@ -7,7 +7,7 @@ use Rattle.certificate.specs.declared.faults.ReadCause.TheVariants.{Memory, Limi
 use Rattle.certificate.specs.Files.{has_room}
 
 -- a trace of this version, with the number of tasks that it makes
-pub record IsKept (version : ℕ) (rs : List Record) (tasks : ℕ) : Type 0 where
+pub record IsTraceKept (version : ℕ) (rs : List Record) (tasks : ℕ) : Type 0 where
   pub trace : IsTraceOf version rs
   pub counted : tasks ≡ tasks_in rs
 

@@ -67,7 +67,7 @@ AreRecordsOf version bytes rs (Some cause) =
     (rest : List ℕ) × BeginsWithRecords version rs rest bytes × IsFaultOf version cause rest
 
 -- a piece that was judged
-pub record IsJudged (version : ℕ) (bytes : List ℕ) (piece : Piece) : Type 0 where
+pub record IsPieceJudged (version : ℕ) (bytes : List ℕ) (piece : Piece) : Type 0 where
   pub read : AreRecordsOf version bytes piece.records.items piece.fault
   pub counted : piece.tasks ≡ tasks_in piece.records.items
   pub in_range : All IsInRange piece.records.items
@@ -80,7 +80,7 @@ pub record WithRecord (r : Record) (old new : Piece) : Type 0 where
   pub fault : new.fault ≡ old.fault
 
 -- the same records in both
-pub record SameRecords (old new : Piece) : Type 0 where
+pub record SamePiece (old new : Piece) : Type 0 where
   pub records : new.records.items ≡ old.records.items
   pub tasks : new.tasks ≡ old.tasks
   pub fault : new.fault ≡ old.fault
@@ -89,18 +89,18 @@ pub record SameRecords (old new : Piece) : Type 0 where
 abbrev pub TakesText : ℕ → List ℕ → Piece → Result (Unit {0}) ReadCause → Piece → Type 0
 TakesText version text old (Ok _) new = (r : Record) × (line_says version text ≡ Ok r) × WithRecord r old new
 TakesText version text old (Err cause) new =
-    (cause ≢ Memory → line_says version text ≡ Err cause) × SameRecords old new
+    (cause ≢ Memory → line_says version text ≡ Err cause) × SamePiece old new
 
 -- after the first line of the bytes was judged, which has this length with its line feed
 abbrev pub TakesLine : ℕ → List ℕ → Piece → Result ℕ ReadCause → Piece → Type 0
 TakesLine version bytes old (Ok len) new =
     (r : Record) × BeginsWithRecord version r (drop len bytes) bytes × WithRecord r old new × (0 < len)
     × (len ≤ length bytes)
-TakesLine version bytes old (Err cause) new = IsFaultOf version cause bytes × SameRecords old new
+TakesLine version bytes old (Err cause) new = IsFaultOf version cause bytes × SamePiece old new
 
 -- the bytes are those of these pieces, one behind another
 abbrev pub AreJudged : ℕ → List Piece → List ℕ → Type 0
 AreJudged version [] bytes = bytes ≡ []
 AreJudged version (piece ∷ pieces) bytes =
-    (front : List ℕ) × (later : List ℕ) × (bytes ≡ front ++ later) × IsJudged version front piece
+    (front : List ℕ) × (later : List ℕ) × (bytes ≡ front ++ later) × IsPieceJudged version front piece
     × AreJudged version pieces later

@@ -45,7 +45,7 @@ IsLineBeingRead n bytes (Some left) = IsBeingRead n bytes left
 
 -- no line before the one of number n has a fault: the file stands for what its bytes from that line on stand
 -- for, behind what the lines before it stand for
-pub record IsReached {X : Type 0} (format : Format X) (n : ℕ) (bytes : List ℕ) : Type 0 where
+pub record IsLineReached {X : Type 0} (format : Format X) (n : ℕ) (bytes : List ℕ) : Type 0 where
   pub before : X
   pub rest : List ℕ
   pub begins : IsFromLine n bytes rest
@@ -54,9 +54,9 @@ pub record IsReached {X : Type 0} (format : Format X) (n : ℕ) (bytes : List �
 -- a fault that is told in the line of number n is that of the file, or one of the device or of memory while
 -- that line was read, and then no line before it has a fault
 abbrev pub IsToldIn : {X : Type 0} → Format X → ReadCause → ℕ → List ℕ → Option (List ℕ) → Type 0
-IsToldIn format Device n bytes left = IsLineAfterGiven n bytes left × IsReached format n bytes
-IsToldIn format TurnsSpent n bytes left = IsLineAfterGiven n bytes left × IsReached format n bytes
-IsToldIn format Memory n bytes left = IsLineBeingRead n bytes left × IsReached format n bytes
+IsToldIn format Device n bytes left = IsLineAfterGiven n bytes left × IsLineReached format n bytes
+IsToldIn format TurnsSpent n bytes left = IsLineAfterGiven n bytes left × IsLineReached format n bytes
+IsToldIn format Memory n bytes left = IsLineBeingRead n bytes left × IsLineReached format n bytes
 IsToldIn format cause n bytes left = said format bytes ≡ Err (fault_in n cause)
 
 -- the answer is what the bytes stand for, or a fault that is told rightly
@@ -122,8 +122,8 @@ IsAnswerTo newest (Err fault) bytes left = IsToldRightlyTo newest fault.cause fa
 abbrev pub IsToldRightly : ReadCause → ℕ → List ℕ → Option (List ℕ) → Type 0
 IsToldRightly cause n bytes left = IsToldRightlyTo newest_version cause n bytes left
 
-abbrev pub IsAnswer : Result TraceView ReadFault → List ℕ → Option (List ℕ) → Type 0
-IsAnswer answer bytes left = IsAnswerTo newest_version answer bytes left
+abbrev pub IsReadAnswer : Result TraceView ReadFault → List ℕ → Option (List ℕ) → Type 0
+IsReadAnswer answer bytes left = IsAnswerTo newest_version answer bytes left
 
 -- how the line of number n adds to the records or steps, where it has no fault
 pub record Grows {X : Type 0} (n : ℕ) (old new : List X) : Type 0 where

@@ -9,7 +9,7 @@ use Rattle.certificate.specs.Limits.{max_line, newest_version}
 use Rattle.certificate.specs.Counts.{TakesTurns, breaks_told}
 use Rattle.certificate.specs.Formats.{said}
 use Rattle.certificate.specs.Files.{IsFaultlessBefore, traces}
-use Rattle.certificate.specs.Reading.{IsFromLine, IsReached, IsToldIn, IsToldRightly, IsAnswer, IsBetween}
+use Rattle.certificate.specs.Reading.{IsFromLine, IsLineReached, IsToldIn, IsToldRightly, IsReadAnswer, IsBetween}
 
 -- the bytes of a block that `read_on` takes
 abbrev pub block_size : ℕ
@@ -40,7 +40,7 @@ IsToldInRoom room cause n bytes left = IsToldRightly cause n bytes left
 
 -- the answer is the trace that the bytes stand for, or a fault that is told rightly
 abbrev pub IsAnswerInRoom : ℕ → Result TraceView ReadFault → List ℕ → Option (List ℕ) → Type 0
-IsAnswerInRoom room (Ok trace) bytes left = IsAnswer (Ok trace) bytes left
+IsAnswerInRoom room (Ok trace) bytes left = IsReadAnswer (Ok trace) bytes left
 IsAnswerInRoom room (Err fault) bytes left = IsToldInRoom room fault.cause fault.line bytes left
 
 -- the same with so many workers and with blocks of this size, or of the size that `read_on` takes
@@ -73,7 +73,7 @@ pub record ReadsAhead (told : Option ReadCause) (turns turns' agains agains' bre
 -- the same as `IsToldIn` of a trace file, but for the bytes that may wait where no memory was found
 abbrev pub IsToldWithin : ℕ → ReadCause → ℕ → List ℕ → Option (List ℕ) → Type 0
 IsToldWithin room Memory n bytes left =
-    IsLineBeingReadIn room n bytes left × IsReached (traces newest_version) n bytes
+    IsLineBeingReadIn room n bytes left × IsLineReached (traces newest_version) n bytes
 IsToldWithin room cause n bytes left = IsToldIn (traces newest_version) cause n bytes left
 
 -- what the lines before number n stand for is kept, and what they leave waits in these bytes and the source
@@ -88,14 +88,14 @@ IsJudgedUpTo (Err cause) known n kept waiting room left =
     IfSome known (λ bytes. IsToldWithin room cause n bytes left)
 
 -- one record is kept for each line before number n, but for the header
-abbrev pub IsCounted : ℕ → TraceView → Type 0
-IsCounted n kept = length kept.records ≡ n - 2
+abbrev pub IsLineCounted : ℕ → TraceView → Type 0
+IsLineCounted n kept = length kept.records ≡ n - 2
 
 -- at the end of what is read: all lines are kept, or the line of number n has a fault
-abbrev pub IsEnded : Result (Unit {0}) ReadCause → Option (List ℕ) → ℕ → TraceView → ℕ → Option (List ℕ)
+abbrev pub IsReadToEnd : Result (Unit {0}) ReadCause → Option (List ℕ) → ℕ → TraceView → ℕ → Option (List ℕ)
     → Type 0
-IsEnded (Ok _) known n kept room left = IfSome known (λ bytes. said (traces newest_version) bytes ≡ Ok kept)
-IsEnded (Err cause) known n kept room left = IfSome known (λ bytes. IsToldWithin room cause n bytes left)
+IsReadToEnd (Ok _) known n kept room left = IfSome known (λ bytes. said (traces newest_version) bytes ≡ Ok kept)
+IsReadToEnd (Err cause) known n kept room left = IfSome known (λ bytes. IsToldWithin room cause n bytes left)
 
 -- a fault that the lines have which a source gave, or that no memory was found for them
 abbrev pub IsLineFault : ReadCause → Type 0

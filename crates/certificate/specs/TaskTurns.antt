@@ -52,7 +52,7 @@ IsAtHome table r = (task : ℕ) → started r.body ≡ Some task
     → ((noted table task).home ≡ None) ⊎ ((noted table task).home ≡ Some r.thread)
 
 -- of the first n records: the thread of each task that ran, and its first turn
-pub record AreHomes (rs : List Record) (n : ℕ) (table : BTreeMap ℕ TaskTurns) : Type 0 where
+pub record AreHomesNoted (rs : List Record) (n : ℕ) (table : BTreeMap ℕ TaskTurns) : Type 0 where
   pub at_home : (task k : ℕ) → k < n → at started rs k ≡ Some task → thread_at rs k ≡ (noted table task).home
   pub ran : (task home : ℕ) → (noted table task).home ≡ Some home
       → (k : ℕ) × (k < n) × (at started rs k ≡ Some task) × (thread_at rs k ≡ Some home)
@@ -60,7 +60,7 @@ pub record AreHomes (rs : List Record) (n : ℕ) (table : BTreeMap ℕ TaskTurns
 
 -- of all records: the thread of each task that ran; and the turn that it begins where it runs next at the
 -- record at n
-pub record AreTurns (rs : List Record) (n : ℕ) (table : BTreeMap ℕ TaskTurns) : Type 0 where
+pub record AreTurnsNoted (rs : List Record) (n : ℕ) (table : BTreeMap ℕ TaskTurns) : Type 0 where
   pub at_home : (task k : ℕ) → at started rs k ≡ Some task → thread_at rs k ≡ (noted table task).home
   pub next : (task : ℕ) → (noted table task).next ≡ turn_counted rs n task
 

@@ -126,12 +126,12 @@ abbrev pub header_line : ℕ → List ℕ
 header_line version = compact_text (header_data version)
 
 -- the lines, each ended by a line feed
-abbrev pub ended : List (List ℕ) → List ℕ
-ended lines = flat_map (λ line. line ++ 10 ∷ []) lines
+abbrev pub ended_lines : List (List ℕ) → List ℕ
+ended_lines lines = flat_map (λ line. line ++ 10 ∷ []) lines
 
 -- the text of a trace
 abbrev pub trace_text : TraceView → List ℕ
-trace_text trace = ended (header_line trace.version ∷ map line_of trace.records)
+trace_text trace = ended_lines (header_line trace.version ∷ map line_of trace.records)
 
 -- ---- the last members of a line, which several callbacks share
 

@@ -65,11 +65,11 @@ with_row name d [] = []
 with_row name d (row ∷ more) = (row.0, if bytes_eq name row.0 then Some d else row.1) ∷ with_row name d more
 
 -- the members have just these values at these names
-abbrev pub AreRows : Members → List (List ℕ × Option Data) → Type 0
-AreRows ms rs = AllByRecursion (λ row. get row.0 (object ms) ≡ row.1) rs
+abbrev pub HaveValues : Members → List (List ℕ × Option Data) → Type 0
+HaveValues ms rs = AllByRecursion (λ row. get row.0 (object ms) ≡ row.1) rs
 
 -- a member in front: its value stands at its name from now on
-pub record IsMember (before after : List (List ℕ × Option Data)) (rest behind : List ℕ) : Type 0 where
+pub record IsMemberInFront (before after : List (List ℕ × Option Data)) (rest behind : List ℕ) : Type 0 where
   pub name : List ℕ
   pub value : Data
   pub plain_name : is_plain_text name ≡ true
@@ -78,12 +78,12 @@ pub record IsMember (before after : List (List ℕ × Option Data)) (rest behind
   pub added : after ≡ with_row name value before
 
 -- the line is an object with these rows
-pub record IsFound (line : List ℕ) (rs : List (List ℕ × Option Data)) : Type 0 where
+pub record IsObjectOf (line : List ℕ) (rs : List (List ℕ × Option Data)) : Type 0 where
   pub members : Members
   pub value : value_of line ≡ Some (object members)
-  pub are : AreRows members rs
+  pub are : HaveValues members rs
 
 -- in a file of this version an object with these rows says the record, if that is sound there
-abbrev pub Makes : ℕ → List (List ℕ × Option Data) → Record → Type 0
-Makes version rs r =
-    (ms : Members) → AreRows ms rs → IsSoundIn version r.body → unbounded version (object ms) ≡ Some r
+abbrev pub SaysRecord : ℕ → List (List ℕ × Option Data) → Record → Type 0
+SaysRecord version rs r =
+    (ms : Members) → HaveValues ms rs → IsSoundIn version r.body → unbounded version (object ms) ≡ Some r

@@ -3,11 +3,11 @@
 ghost use Rattle.std.specs.Prelude.{◌≡◌, ◌≤◌, ◌<◌, ◌+◌, ℕ, List, Option, Ok, None, true, false, [], ◌++◌, length, IfOk, IfErr, OnOk};
 ghost use Rattle.std.specs.Result.{result_err};
 ghost use Rattle.certificate.specs.Formats.{line_feeds};
-ghost use Rattle.certificate.specs.Pieces.{IsWholeLines, IsJudged, AreJudged};
+ghost use Rattle.certificate.specs.Pieces.{IsWholeLines, IsPieceJudged, AreJudged};
 ghost use Rattle.certificate.specs.Windows.{LineFeedAt};
 ghost use Rattle.certificate.specs.Blocks.{IsFillFault};
-ghost use Rattle.certificate.specs.ReadingOn.{IsBetweenLines, IsJudgedUpTo, IsCounted, IsLineFault};
-ghost use Rattle.certificate.specs.Ahead.{IsFirst, IsInHand, CanAsk, IsAdded, IsRefilled, WorkedBeside, MeetsMore, SameSource, SameLines};
+ghost use Rattle.certificate.specs.ReadingOn.{IsBetweenLines, IsJudgedUpTo, IsLineCounted, IsLineFault};
+ghost use Rattle.certificate.specs.Ahead.{IsFirst, IsInHand, CanAsk, ArePiecesAdded, IsRefilled, WorkedBeside, MeetsMore, SameSource, SameLines};
 
 use crate::blocks::{Block, fill};
 use crate::device::Source;
@@ -102,7 +102,7 @@ impl Ahead {
     /// Adds the pieces, up to the first fault.
     pub(crate) fn add_pieces(&mut self, alloc: Global) -> Result<(), ReadCause>
         requires { IsInHand self.old }
-        ensures added { IsAdded result self.old self.new }
+        ensures added { ArePiecesAdded result self.old self.new }
         ensures source { SameSource self.old self.new }
     {
         let pieces = replace(&mut self.pieces, Vec::new(alloc));
@@ -140,7 +140,7 @@ fn may_ask(filled: Result<bool, ReadCause>, len: usize) -> bool
 fn join(pieces: Vec<Piece>, line: &mut u32, kept: &mut Kept) -> Result<(), ReadCause>
     requires judged { (bytes : List ℕ) × AreJudged kept.old.version pieces.items bytes }
     requires line { (2 ≤ line.old) × (line.old ≤ LAST_LINE) }
-    requires counted { IsCounted line.old kept.old }
+    requires counted { IsLineCounted line.old kept.old }
     ensures judged { (bytes more : List ℕ) (known left : Option (List ℕ)) (room : ℕ) →
         AreJudged kept.old.version pieces.items bytes → length (bytes ++ more) ≤ room
         → IsBetweenLines known line.old kept.old (bytes ++ more) left
@@ -148,7 +148,7 @@ fn join(pieces: Vec<Piece>, line: &mut u32, kept: &mut Kept) -> Result<(), ReadC
     ensures lines { OnOk result ((bytes : List ℕ) → AreJudged kept.old.version pieces.items bytes
         → line.new ≡ line.old + line_feeds bytes) }
     ensures line { (line.old ≤ line.new) × (line.new ≤ LAST_LINE) }
-    ensures counted { OnOk result (IsCounted line.new kept.new) }
+    ensures counted { OnOk result (IsLineCounted line.new kept.new) }
     ensures version { OnOk result (kept.new.version ≡ kept.old.version) }
     ensures fault { IfErr result IsLineFault }
 {
@@ -161,17 +161,17 @@ fn join(pieces: Vec<Piece>, line: &mut u32, kept: &mut Kept) -> Result<(), ReadC
 
 /// Adds what a piece stands for, up to its fault. A record for which there is no room comes first.
 fn add(piece: Piece, line: &mut u32, kept: &mut Kept) -> Result<(), ReadCause>
-    requires judged { (bytes : List ℕ) × IsJudged kept.old.version bytes piece }
+    requires judged { (bytes : List ℕ) × IsPieceJudged kept.old.version bytes piece }
     requires line { (2 ≤ line.old) × (line.old ≤ LAST_LINE) }
-    requires counted { IsCounted line.old kept.old }
+    requires counted { IsLineCounted line.old kept.old }
     ensures judged { (bytes more : List ℕ) (known left : Option (List ℕ)) (room : ℕ) →
-        IsJudged kept.old.version bytes piece → length (bytes ++ more) ≤ room
+        IsPieceJudged kept.old.version bytes piece → length (bytes ++ more) ≤ room
         → IsBetweenLines known line.old kept.old (bytes ++ more) left
         → IsJudgedUpTo result known line.new kept.new more room left }
-    ensures lines { OnOk result ((bytes : List ℕ) → IsJudged kept.old.version bytes piece
+    ensures lines { OnOk result ((bytes : List ℕ) → IsPieceJudged kept.old.version bytes piece
         → line.new ≡ line.old + line_feeds bytes) }
     ensures line { (line.old ≤ line.new) × (line.new ≤ LAST_LINE) }
-    ensures counted { OnOk result (IsCounted line.new kept.new) }
+    ensures counted { OnOk result (IsLineCounted line.new kept.new) }
     ensures version { OnOk result (kept.new.version ≡ kept.old.version) }
     ensures fault { IfErr result IsLineFault }
 {

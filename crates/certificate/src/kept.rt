@@ -22,13 +22,13 @@ pub(crate) struct Kept {
 
 impl Model for Kept {
     ghost use Rattle.ompt_events.specs.Traces.{TraceView};
-    ghost use Rattle.certificate.specs.Keeping.{IsKept};
+    ghost use Rattle.certificate.specs.Keeping.{IsTraceKept};
 
     ghost Value = { TraceView };
 
     ghost view = { λ kept. record { version = kept.version; records = kept.records.items } };
 
-    ghost invariant = { λ kept. IsKept kept.version kept.records.items kept.tasks };
+    ghost invariant = { λ kept. IsTraceKept kept.version kept.records.items kept.tasks };
 }
 
 impl Kept {

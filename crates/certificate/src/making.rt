@@ -1,13 +1,13 @@
 //! The record of what was found of the members of a line.
 ghost use Rattle.std.specs.Prelude.{◌≡◌, IfSome, Some};
-ghost use Rattle.certificate.specs.Unordered.{Makes, rows};
+ghost use Rattle.certificate.specs.Unordered.{SaysRecord, rows};
 
 use crate::unordered::{Callback, Found};
 use ompt_events::{Body, Claim, Record, Turns};
 
 /// The record of what was found in a file of this version.
 pub(crate) fn made(version: u32, found: Found) -> Option<Record>
-    ensures { IfSome result (λ event. Makes version (rows found) event) }
+    ensures { IfSome result (λ event. SaysRecord version (rows found) event) }
 {
     match found.callback {
         Some(Callback::ParallelBegin) => parallel_begin(version, &found),
@@ -45,7 +45,7 @@ fn parallel_of(found: &Found) -> Option<u64>
 /// A task stops running or is fulfilled.
 fn task_schedule(version: u32, found: Found) -> Option<Record>
     requires { found.callback ≡ Some Callback.TaskSchedule }
-    ensures { IfSome result (λ event. Makes version (rows found) event) }
+    ensures { IfSome result (λ event. SaysRecord version (rows found) event) }
 {
     let status = found.status?;
     let turns = turns_in(version, &found);
@@ -83,7 +83,7 @@ fn turns_of(found: &Found) -> Option<Turns>
 /// A task is created.
 fn task_create(version: u32, found: &Found) -> Option<Record>
     requires { found.now.callback ≡ Some Callback.TaskCreate }
-    ensures { IfSome result (λ event. Makes version (rows found.now) event) }
+    ensures { IfSome result (λ event. SaysRecord version (rows found.now) event) }
 {
     let Some((thread, seq, seen)) = numbers(found) else {
         return None;
@@ -118,7 +118,7 @@ fn switching(version: u32, found: &Found, turns: Option<Turns>) -> Option<Record
     requires callback { found.now.callback ≡ Some Callback.TaskSchedule }
     requires turns { IfSome turns (λ told. (found.now.prior_turn ≡ Some told.prior)
         × (found.now.next_turn ≡ Some told.next)) }
-    ensures { IfSome result (λ event. Makes version (rows found.now) event) }
+    ensures { IfSome result (λ event. SaysRecord version (rows found.now) event) }
 {
     let Some((thread, seq, seen)) = numbers(found) else {
         return None;
@@ -151,7 +151,7 @@ fn finishing(version: u32, found: Found, turns: Option<Turns>) -> Option<Record>
     requires callback { found.callback ≡ Some Callback.TaskSchedule }
     requires turns { IfSome turns (λ told. (found.prior_turn ≡ Some told.prior)
         × (found.next_turn ≡ Some told.next)) }
-    ensures { IfSome result (λ event. Makes version (rows found) event) }
+    ensures { IfSome result (λ event. SaysRecord version (rows found) event) }
 {
     let Some((thread, seq, seen)) = numbers(&found) else {
         return None;
@@ -200,7 +200,7 @@ fn finishing(version: u32, found: Found, turns: Option<Turns>) -> Option<Record>
 /// A region of synchronisation begins or ends.
 fn sync_region(version: u32, found: &Found) -> Option<Record>
     requires { found.now.callback ≡ Some Callback.SyncRegion }
-    ensures { IfSome result (λ event. Makes version (rows found.now) event) }
+    ensures { IfSome result (λ event. SaysRecord version (rows found.now) event) }
 {
     let Some((thread, seq, seen)) = numbers(found) else {
         return None;
@@ -233,7 +233,7 @@ fn sync_region(version: u32, found: &Found) -> Option<Record>
 /// A task begins a parallel region.
 fn parallel_begin(version: u32, found: &Found) -> Option<Record>
     requires { found.now.callback ≡ Some Callback.ParallelBegin }
-    ensures { IfSome result (λ event. Makes version (rows found.now) event) }
+    ensures { IfSome result (λ event. SaysRecord version (rows found.now) event) }
 {
     let Some((thread, seq, seen)) = numbers(found) else {
         return None;
@@ -262,7 +262,7 @@ fn parallel_begin(version: u32, found: &Found) -> Option<Record>
 /// A task ends a parallel region.
 fn parallel_end(version: u32, found: &Found) -> Option<Record>
     requires { found.now.callback ≡ Some Callback.ParallelEnd }
-    ensures { IfSome result (λ event. Makes version (rows found.now) event) }
+    ensures { IfSome result (λ event. SaysRecord version (rows found.now) event) }
 {
     let Some((thread, seq, seen)) = numbers(found) else {
         return None;
@@ -284,7 +284,7 @@ fn parallel_end(version: u32, found: &Found) -> Option<Record>
 /// An initial or implicit task begins or ends.
 fn implicit_task(version: u32, found: &Found) -> Option<Record>
     requires { found.now.callback ≡ Some Callback.ImplicitTask }
-    ensures { IfSome result (λ event. Makes version (rows found.now) event) }
+    ensures { IfSome result (λ event. SaysRecord version (rows found.now) event) }
 {
     let Some((thread, seq, seen)) = numbers(found) else {
         return None;
@@ -325,7 +325,7 @@ fn implicit_task(version: u32, found: &Found) -> Option<Record>
 /// What a task depends on.
 fn dependences(version: u32, found: Found) -> Option<Record>
     requires { found.callback ≡ Some Callback.Dependences }
-    ensures { IfSome result (λ event. Makes version (rows found) event) }
+    ensures { IfSome result (λ event. SaysRecord version (rows found) event) }
 {
     let Some((thread, seq, seen)) = numbers(&found) else {
         return None;

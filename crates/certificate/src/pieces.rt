@@ -1,7 +1,7 @@
 //! How a piece of a trace file is judged: whole lines behind the header, with no count of what stands before
 //! them.
 ghost use Rattle.std.specs.Prelude.{◌≡◌, ◌≤◌, ◌<◌, ◌+◌, ◌-◌, ◌^◌, [], length, drop, slice_range, slice_index, IfOk, OnOk, OnErr, IfErr};
-ghost use Rattle.certificate.specs.Pieces.{IsWholeLines, IsJudged, AreJudged, TakesLine, TakesText, WithRecord, SameRecords};
+ghost use Rattle.certificate.specs.Pieces.{IsWholeLines, IsPieceJudged, AreJudged, TakesLine, TakesText, WithRecord, SamePiece};
 ghost use Rattle.certificate.specs.Blocks.{AreCuts, IsPiece};
 
 use crate::faults::ReadCause;
@@ -32,7 +32,7 @@ impl Piece {
     fn add(&mut self, event: Record) -> Result<(), ReadCause>
         requires { self.old.tasks + 1 < 2 ^ 64 }
         ensures ok { OnOk result (WithRecord event self.old self.new) }
-        ensures err { IfErr result (λ cause. (cause ≡ ReadCause.Memory) × SameRecords self.old self.new) }
+        ensures err { IfErr result (λ cause. (cause ≡ ReadCause.Memory) × SamePiece self.old self.new) }
     {
         event.read_numbers();
         let makes = event.body.made().is_some();
@@ -61,7 +61,7 @@ pub(crate) fn judge_all<R: Threads + Sync>(
         cuts.len() - 1,
         &|i: usize| -> Piece
             requires { AreCuts text.now cuts.now × (i + 1 < length cuts.now) }
-            ensures { IsJudged version
+            ensures { IsPieceJudged version
                 (slice_range text.entry.now (slice_index cuts.entry.now i) (slice_index cuts.entry.now (i + 1)))
                 result }
         { judge_piece(alloc, version, text, cuts, i) },
@@ -73,7 +73,7 @@ pub(crate) fn judge_all<R: Threads + Sync>(
 fn judge_piece(alloc: Global, version: u32, text: &[u8], cuts: &[usize], number: usize) -> Piece
     requires cuts { AreCuts text.now cuts.now }
     requires number { number + 1 < length cuts.now }
-    ensures { IsJudged version
+    ensures { IsPieceJudged version
         (slice_range text.now (slice_index cuts.now number) (slice_index cuts.now (number + 1))) result }
 {
     judge(
@@ -94,7 +94,7 @@ fn piece_of(text: &[u8], start: usize, end: usize) -> &[u8]
 /// Judges the lines of a piece of a file of this version, up to the first faulty one.
 fn judge(alloc: Global, version: u32, text: &[u8]) -> Piece
     requires { IsWholeLines text.now }
-    ensures { IsJudged version text.now result }
+    ensures { IsPieceJudged version text.now result }
 {
     let mut scratch = Scratch::new(alloc);
     let mut piece = Piece {

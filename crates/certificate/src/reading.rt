@@ -5,7 +5,7 @@ ghost use Rattle.certificate.specs.Files.{text_adds, traces, with_header, with_r
 ghost use Rattle.certificate.specs.RecordLines.{IsSaid, header_says, line_says};
 ghost use Rattle.std.specs.Io.KnownBytes.{Keeps, IsAtEnd, prepend_known};
 ghost use Rattle.certificate.specs.Counts.{TakesTurns, breaks_told, cause_told};
-ghost use Rattle.certificate.specs.Reading.{IsAnswer, IsAnswerTo, IsBetween, IsAfter, Grows};
+ghost use Rattle.certificate.specs.Reading.{IsReadAnswer, IsAnswerTo, IsBetween, IsAfter, Grows};
 ghost use Rattle.certificate.specs.Windows.{ShowsLine, ShowsFault, IsDeviceFault};
 
 use crate::device::{DeviceFault, MAX_TURNS, Source};
@@ -29,7 +29,7 @@ pub const NEWEST_VERSION: u32 = 2;
 pub fn read<S: Source>(alloc: Global, source: &mut S) -> Result<Trace, ReadFault>
     // The trace that the bytes stand for, their first fault, or a fault of the device or of memory.
     ensures file { IfSome (S.remaining source.old)
-        (λ bytes. IsAnswer result bytes (S.remaining source.new)) }
+        (λ bytes. IsReadAnswer result bytes (S.remaining source.new)) }
 
     // Each answer `Again` is a turn, and the 10,001st ends the call.
     ensures turns { (turns : ℕ) × TakesTurns (cause_told result) 0 turns (S.agains source.old)

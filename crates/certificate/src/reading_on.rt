@@ -10,8 +10,8 @@ ghost use Rattle.certificate.specs.Counts.{cause_told};
 ghost use Rattle.certificate.specs.Pieces.{IsWholeLines};
 ghost use Rattle.certificate.specs.Windows.{LineFeedAt};
 ghost use Rattle.certificate.specs.Blocks.{IsFillFault};
-ghost use Rattle.certificate.specs.ReadingOn.{IsAnswerOn, IsAnswerInBlocks, ReadsAhead, IsToldAfter, IsBetweenLines, IsEnded, IsLineFault, room_of};
-ghost use Rattle.certificate.specs.Ahead.{AreJudgedOf, SameSource, IsFirst, IsInHand, CanAsk, IsReady, Waits, IsAfterStep, IsAfterRound, IsTurned, WorkedBeside, HasMet, MeetsMore, rounds_left};
+ghost use Rattle.certificate.specs.ReadingOn.{IsAnswerOn, IsAnswerInBlocks, ReadsAhead, IsToldAfter, IsBetweenLines, IsReadToEnd, IsLineFault, room_of};
+ghost use Rattle.certificate.specs.Ahead.{AreJudgedOf, SameSource, IsFirst, IsInHand, CanAsk, IsRoundReady, Waits, IsAfterStep, IsAfterRound, AreBlocksTurned, WorkedBeside, HasMet, MeetsMore, rounds_left};
 
 use crate::ahead::Ahead;
 use crate::blocks::{Block, fill};
@@ -148,7 +148,7 @@ fn start<S: Source>(
     ensures after { (room : ℕ) → front.old.limit + front.old.limit ≤ room
         → IsAfterStep result (S.remaining source.old) (S.remaining source.new) room front.new.waiting
         ahead.new }
-    ensures ready { OnOk result (IsReady front.new ahead.new) }
+    ensures ready { OnOk result (IsRoundReady front.new ahead.new) }
     ensures limit { front.new.limit ≡ front.old.limit }
     ensures line { OnErr result (ahead.new.line ≡ 1) }
     ensures met { HasMet ahead.new 0 (S.agains source.old) (S.breaks source.old) (S.agains source.new)
@@ -176,7 +176,7 @@ fn begin(alloc: Global, front: &mut Block, ahead: &mut Ahead) -> Result<(), Read
     ensures after { (known left : Option (List ℕ)) (room : ℕ)
         → Waits known left room front.old.waiting ahead.old
         → IsAfterStep result known left room front.new.waiting ahead.new }
-    ensures ready { OnOk result (IsReady front.new ahead.new) }
+    ensures ready { OnOk result (IsRoundReady front.new ahead.new) }
     ensures limit { front.new.limit ≡ front.old.limit }
     ensures line { OnErr result (ahead.new.line ≡ 1) }
     ensures source { SameSource ahead.old ahead.new }
@@ -210,11 +210,11 @@ fn round<R: Threads + Sync, S: Source>(
     ahead: &mut Ahead,
     source: &mut S,
 ) -> Result<bool, ReadCause>
-    requires ready { IsReady front.old ahead.old }
+    requires ready { IsRoundReady front.old ahead.old }
     ensures after { (known : Option (List ℕ)) (room : ℕ) → front.old.limit + front.old.limit ≤ room
         → Waits known (S.remaining source.old) room front.old.waiting ahead.old
         → IsAfterRound result known (S.remaining source.new) room front.new.waiting ahead.new }
-    ensures ready { result ≡ Ok true → IsReady front.new ahead.new }
+    ensures ready { result ≡ Ok true → IsRoundReady front.new ahead.new }
     ensures limit { front.new.limit ≡ front.old.limit }
     ensures fewer { result ≡ Ok true
         → rounds_left front.new.waiting ahead.new < rounds_left front.old.waiting ahead.old }
@@ -244,11 +244,11 @@ fn advance<R: Threads + Sync, S: Source>(
     ahead: &mut Ahead,
     source: &mut S,
 ) -> Result<(), ReadCause>
-    requires ready { IsReady front.old ahead.old }
+    requires ready { IsRoundReady front.old ahead.old }
     ensures after { (known : Option (List ℕ)) (room : ℕ) → front.old.limit + front.old.limit ≤ room
         → Waits known (S.remaining source.old) room front.old.waiting ahead.old
         → IsAfterStep result known (S.remaining source.new) room front.new.waiting ahead.new }
-    ensures turned { OnOk result (IsTurned front.old ahead.old front.new ahead.new) }
+    ensures turned { OnOk result (AreBlocksTurned front.old ahead.old front.new ahead.new) }
     ensures limit { front.new.limit ≡ front.old.limit }
     ensures line { (1 ≤ ahead.new.line) × (ahead.new.line ≤ LAST_LINE) }
     ensures met { MeetsMore ahead.old ahead.new (S.agains source.old) (S.agains source.new)
@@ -342,7 +342,7 @@ fn finish(alloc: Global, front: &Block, ahead: &mut Ahead) -> Result<(), ReadCau
     requires rests { ahead.old.filled ≡ Ok true → MAX_LINE < length front.now.waiting }
     ensures after { (known left : Option (List ℕ)) (room : ℕ)
         → Waits known left room front.now.waiting ahead.old
-        → IsEnded result known ahead.new.line ahead.new.kept room left }
+        → IsReadToEnd result known ahead.new.line ahead.new.kept room left }
     ensures line { (1 ≤ ahead.new.line) × (ahead.new.line ≤ LAST_LINE) }
     ensures version { OnOk result (ahead.new.kept.version ≤ NEWEST_VERSION) }
     ensures source { SameSource ahead.old ahead.new }
@@ -360,7 +360,7 @@ fn end(filled: Result<bool, ReadCause>, len: usize, line: u32) -> Result<(), Rea
     ensures after { (known : Option (List ℕ)) (kept : TraceView) (waiting : List ℕ) (room : ℕ)
         (left : Option (List ℕ)) → IsBetweenLines known line kept waiting left → length waiting ≡ len
         → LineFeedAt waiting None → length waiting ≤ room → (filled ≡ Ok false → IsAtEnd left)
-        → IsEnded result known line kept room left }
+        → IsReadToEnd result known line kept room left }
     ensures later { OnOk result (line ≢ 1) }
     ensures told { IsToldAfter (result_err filled) (result_err result) }
 {

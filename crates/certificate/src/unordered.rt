@@ -5,7 +5,7 @@ ghost use Rattle.json.specs.Print.{quoted};
 ghost use Rattle.serde_json.specs.Data.{no_members};
 ghost use Rattle.certificate.specs.RecordLines as spec;
 ghost use Rattle.certificate.specs.Texts.{Takes};
-ghost use Rattle.certificate.specs.Unordered.{AreRows, IsFound, IsMember, callback_name, rows};
+ghost use Rattle.certificate.specs.Unordered.{HaveValues, IsObjectOf, IsMemberInFront, callback_name, rows};
 
 use crate::making::made;
 use crate::parts::{
@@ -75,7 +75,7 @@ pub(crate) fn unordered(alloc: Global, version: u32, line: &[u8]) -> Option<Reco
 
 /// The members of a line.
 fn members(alloc: Global, line: &[u8]) -> Option<Found>
-    ensures { IfSome result (λ found. IsFound line.now (rows found)) }
+    ensures { IfSome result (λ found. IsObjectOf line.now (rows found)) }
 {
     let mut found = none();
     let mut rest = after(line, "{")?;
@@ -98,7 +98,7 @@ fn members(alloc: Global, line: &[u8]) -> Option<Found>
 
 /// Nothing was found yet.
 fn none() -> Found
-    ensures { AreRows no_members (rows result) }
+    ensures { HaveValues no_members (rows result) }
 {
     Found {
         callback: None,
@@ -129,7 +129,7 @@ fn none() -> Found
 
 /// The member in front, by letters of its name.
 fn member<'l>(alloc: Global, rest: &'l [u8], found: &mut Found) -> Option<&'l [u8]>
-    ensures { IfSome result (λ behind. IsMember (rows found.old) (rows found.new) rest.now behind.now) }
+    ensures { IfSome result (λ behind. IsMemberInFront (rows found.old) (rows found.new) rest.now behind.now) }
 {
     match rest.get(1) {
         Some(b's') => member_s(rest, found),
@@ -151,7 +151,7 @@ fn member<'l>(alloc: Global, rest: &'l [u8], found: &mut Found) -> Option<&'l [u
 
 /// A member whose name begins with `s`.
 fn member_s<'l>(rest: &'l [u8], found: &mut Found) -> Option<&'l [u8]>
-    ensures { IfSome result (λ behind. IsMember (rows found.old) (rows found.new) rest.now behind.now) }
+    ensures { IfSome result (λ behind. IsMemberInFront (rows found.old) (rows found.new) rest.now behind.now) }
 {
     match rest.get(3) {
         Some(b'e') => seen_member(rest, found),
@@ -162,7 +162,7 @@ fn member_s<'l>(rest: &'l [u8], found: &mut Found) -> Option<&'l [u8]>
 
 /// A member whose name begins with `t`.
 fn member_t<'l>(rest: &'l [u8], found: &mut Found) -> Option<&'l [u8]>
-    ensures { IfSome result (λ behind. IsMember (rows found.old) (rows found.new) rest.now behind.now) }
+    ensures { IfSome result (λ behind. IsMemberInFront (rows found.old) (rows found.new) rest.now behind.now) }
 {
     match rest.get(2) {
         Some(b'h') => thread_member(rest, found),
@@ -172,7 +172,7 @@ fn member_t<'l>(rest: &'l [u8], found: &mut Found) -> Option<&'l [u8]>
 
 /// A member whose name begins with `p`.
 fn member_p<'l>(alloc: Global, rest: &'l [u8], found: &mut Found) -> Option<&'l [u8]>
-    ensures { IfSome result (λ behind. IsMember (rows found.old) (rows found.new) rest.now behind.now) }
+    ensures { IfSome result (λ behind. IsMemberInFront (rows found.old) (rows found.new) rest.now behind.now) }
 {
     match rest.get(3) {
         Some(b'i') => member_prior(rest, found),
@@ -183,7 +183,7 @@ fn member_p<'l>(alloc: Global, rest: &'l [u8], found: &mut Found) -> Option<&'l 
 
 /// A member whose name begins with `prior`.
 fn member_prior<'l>(rest: &'l [u8], found: &mut Found) -> Option<&'l [u8]>
-    ensures { IfSome result (λ behind. IsMember (rows found.old) (rows found.new) rest.now behind.now) }
+    ensures { IfSome result (λ behind. IsMemberInFront (rows found.old) (rows found.new) rest.now behind.now) }
 {
     match rest.get(6) {
         Some(b'_') => prior_turn_member(rest, found),
@@ -193,7 +193,7 @@ fn member_prior<'l>(rest: &'l [u8], found: &mut Found) -> Option<&'l [u8]>
 
 /// A member whose name begins with `n`.
 fn member_n<'l>(rest: &'l [u8], found: &mut Found) -> Option<&'l [u8]>
-    ensures { IfSome result (λ behind. IsMember (rows found.old) (rows found.new) rest.now behind.now) }
+    ensures { IfSome result (λ behind. IsMemberInFront (rows found.old) (rows found.new) rest.now behind.now) }
 {
     match rest.get(5) {
         Some(b'_') => next_turn_member(rest, found),
@@ -203,7 +203,7 @@ fn member_n<'l>(rest: &'l [u8], found: &mut Found) -> Option<&'l [u8]>
 
 /// A member whose name begins with `c`.
 fn member_c<'l>(rest: &'l [u8], found: &mut Found) -> Option<&'l [u8]>
-    ensures { IfSome result (λ behind. IsMember (rows found.old) (rows found.new) rest.now behind.now) }
+    ensures { IfSome result (λ behind. IsMemberInFront (rows found.old) (rows found.new) rest.now behind.now) }
 {
     match rest.get(2) {
         Some(b'b') => callback_member(rest, found),
@@ -213,7 +213,7 @@ fn member_c<'l>(rest: &'l [u8], found: &mut Found) -> Option<&'l [u8]>
 
 /// A member whose name begins with `k`.
 fn member_k<'l>(rest: &'l [u8], found: &mut Found) -> Option<&'l [u8]>
-    ensures { IfSome result (λ behind. IsMember (rows found.old) (rows found.new) rest.now behind.now) }
+    ensures { IfSome result (λ behind. IsMemberInFront (rows found.old) (rows found.new) rest.now behind.now) }
 {
     match rest.get(2) {
         Some(b'e') => kept_member(rest, found),
@@ -223,7 +223,7 @@ fn member_k<'l>(rest: &'l [u8], found: &mut Found) -> Option<&'l [u8]>
 
 /// A member whose name begins with `r`.
 fn member_r<'l>(rest: &'l [u8], found: &mut Found) -> Option<&'l [u8]>
-    ensures { IfSome result (λ behind. IsMember (rows found.old) (rows found.new) rest.now behind.now) }
+    ensures { IfSome result (λ behind. IsMemberInFront (rows found.old) (rows found.new) rest.now behind.now) }
 {
     match rest.get(2) {
         Some(b'o') => root_member(rest, found),
@@ -233,7 +233,7 @@ fn member_r<'l>(rest: &'l [u8], found: &mut Found) -> Option<&'l [u8]>
 
 /// The name of the callback.
 fn callback_member<'l>(rest: &'l [u8], found: &mut Found) -> Option<&'l [u8]>
-    ensures { IfSome result (λ behind. IsMember (rows found.old) (rows found.new) rest.now behind.now) }
+    ensures { IfSome result (λ behind. IsMemberInFront (rows found.old) (rows found.new) rest.now behind.now) }
 {
     let (callback, behind) = callback_named(rest, "\"cb\":")?;
     found.callback = Some(callback);
@@ -242,7 +242,7 @@ fn callback_member<'l>(rest: &'l [u8], found: &mut Found) -> Option<&'l [u8]>
 
 /// The member `thread`.
 fn thread_member<'l>(rest: &'l [u8], found: &mut Found) -> Option<&'l [u8]>
-    ensures { IfSome result (λ behind. IsMember (rows found.old) (rows found.new) rest.now behind.now) }
+    ensures { IfSome result (λ behind. IsMemberInFront (rows found.old) (rows found.new) rest.now behind.now) }
 {
     let (thread, behind) = byte(rest, "\"thread\":")?;
     found.thread = Some(thread);
@@ -251,7 +251,7 @@ fn thread_member<'l>(rest: &'l [u8], found: &mut Found) -> Option<&'l [u8]>
 
 /// The member `seq`.
 fn seq_member<'l>(rest: &'l [u8], found: &mut Found) -> Option<&'l [u8]>
-    ensures { IfSome result (λ behind. IsMember (rows found.old) (rows found.new) rest.now behind.now) }
+    ensures { IfSome result (λ behind. IsMemberInFront (rows found.old) (rows found.new) rest.now behind.now) }
 {
     let (seq, behind) = short(rest, "\"seq\":")?;
     found.seq = Some(seq);
@@ -260,7 +260,7 @@ fn seq_member<'l>(rest: &'l [u8], found: &mut Found) -> Option<&'l [u8]>
 
 /// The member `seen`.
 fn seen_member<'l>(rest: &'l [u8], found: &mut Found) -> Option<&'l [u8]>
-    ensures { IfSome result (λ behind. IsMember (rows found.old) (rows found.new) rest.now behind.now) }
+    ensures { IfSome result (λ behind. IsMemberInFront (rows found.old) (rows found.new) rest.now behind.now) }
 {
     let (seen, behind) = short(rest, "\"seen\":")?;
     found.seen = Some(seen);
@@ -269,7 +269,7 @@ fn seen_member<'l>(rest: &'l [u8], found: &mut Found) -> Option<&'l [u8]>
 
 /// The member `task`.
 fn task_member<'l>(rest: &'l [u8], found: &mut Found) -> Option<&'l [u8]>
-    ensures { IfSome result (λ behind. IsMember (rows found.old) (rows found.new) rest.now behind.now) }
+    ensures { IfSome result (λ behind. IsMemberInFront (rows found.old) (rows found.new) rest.now behind.now) }
 {
     let (task, behind) = id(rest, "\"task\":")?;
     found.task = Some(task);
@@ -278,7 +278,7 @@ fn task_member<'l>(rest: &'l [u8], found: &mut Found) -> Option<&'l [u8]>
 
 /// The member `child`.
 fn child_member<'l>(rest: &'l [u8], found: &mut Found) -> Option<&'l [u8]>
-    ensures { IfSome result (λ behind. IsMember (rows found.old) (rows found.new) rest.now behind.now) }
+    ensures { IfSome result (λ behind. IsMemberInFront (rows found.old) (rows found.new) rest.now behind.now) }
 {
     let (child, behind) = id(rest, "\"child\":")?;
     found.child = Some(child);
@@ -287,7 +287,7 @@ fn child_member<'l>(rest: &'l [u8], found: &mut Found) -> Option<&'l [u8]>
 
 /// The member `deps`.
 fn deps_member<'l>(rest: &'l [u8], found: &mut Found) -> Option<&'l [u8]>
-    ensures { IfSome result (λ behind. IsMember (rows found.old) (rows found.new) rest.now behind.now) }
+    ensures { IfSome result (λ behind. IsMemberInFront (rows found.old) (rows found.new) rest.now behind.now) }
 {
     let (deps, behind) = truth(rest, "\"deps\":")?;
     found.deps = Some(deps);
@@ -296,7 +296,7 @@ fn deps_member<'l>(rest: &'l [u8], found: &mut Found) -> Option<&'l [u8]>
 
 /// The member `flags`.
 fn flags_member<'l>(rest: &'l [u8], found: &mut Found) -> Option<&'l [u8]>
-    ensures { IfSome result (λ behind. IsMember (rows found.old) (rows found.new) rest.now behind.now) }
+    ensures { IfSome result (λ behind. IsMemberInFront (rows found.old) (rows found.new) rest.now behind.now) }
 {
     let (flags, behind) = task_flags(rest, "\"flags\":")?;
     found.flags = Some(flags);
@@ -305,7 +305,7 @@ fn flags_member<'l>(rest: &'l [u8], found: &mut Found) -> Option<&'l [u8]>
 
 /// The member `status`.
 fn status_member<'l>(rest: &'l [u8], found: &mut Found) -> Option<&'l [u8]>
-    ensures { IfSome result (λ behind. IsMember (rows found.old) (rows found.new) rest.now behind.now) }
+    ensures { IfSome result (λ behind. IsMemberInFront (rows found.old) (rows found.new) rest.now behind.now) }
 {
     let (status, behind) = status(rest, "\"status\":")?;
     found.status = Some(status);
@@ -314,7 +314,7 @@ fn status_member<'l>(rest: &'l [u8], found: &mut Found) -> Option<&'l [u8]>
 
 /// The member `prior`.
 fn prior_member<'l>(rest: &'l [u8], found: &mut Found) -> Option<&'l [u8]>
-    ensures { IfSome result (λ behind. IsMember (rows found.old) (rows found.new) rest.now behind.now) }
+    ensures { IfSome result (λ behind. IsMemberInFront (rows found.old) (rows found.new) rest.now behind.now) }
 {
     let (prior, behind) = id(rest, "\"prior\":")?;
     found.prior = Some(prior);
@@ -323,7 +323,7 @@ fn prior_member<'l>(rest: &'l [u8], found: &mut Found) -> Option<&'l [u8]>
 
 /// The member `next`.
 fn next_member<'l>(rest: &'l [u8], found: &mut Found) -> Option<&'l [u8]>
-    ensures { IfSome result (λ behind. IsMember (rows found.old) (rows found.new) rest.now behind.now) }
+    ensures { IfSome result (λ behind. IsMemberInFront (rows found.old) (rows found.new) rest.now behind.now) }
 {
     let (next, behind) = id_or_null(rest, "\"next\":")?;
     found.next = Some(next);
@@ -332,7 +332,7 @@ fn next_member<'l>(rest: &'l [u8], found: &mut Found) -> Option<&'l [u8]>
 
 /// The member `prior_turn`.
 fn prior_turn_member<'l>(rest: &'l [u8], found: &mut Found) -> Option<&'l [u8]>
-    ensures { IfSome result (λ behind. IsMember (rows found.old) (rows found.new) rest.now behind.now) }
+    ensures { IfSome result (λ behind. IsMemberInFront (rows found.old) (rows found.new) rest.now behind.now) }
 {
     let (turn, behind) = short(rest, "\"prior_turn\":")?;
     found.prior_turn = Some(turn);
@@ -341,7 +341,7 @@ fn prior_turn_member<'l>(rest: &'l [u8], found: &mut Found) -> Option<&'l [u8]>
 
 /// The member `next_turn`.
 fn next_turn_member<'l>(rest: &'l [u8], found: &mut Found) -> Option<&'l [u8]>
-    ensures { IfSome result (λ behind. IsMember (rows found.old) (rows found.new) rest.now behind.now) }
+    ensures { IfSome result (λ behind. IsMemberInFront (rows found.old) (rows found.new) rest.now behind.now) }
 {
     let (turn, behind) = short(rest, "\"next_turn\":")?;
     found.next_turn = Some(turn);
@@ -350,7 +350,7 @@ fn next_turn_member<'l>(rest: &'l [u8], found: &mut Found) -> Option<&'l [u8]>
 
 /// The member `kept`.
 fn kept_member<'l>(rest: &'l [u8], found: &mut Found) -> Option<&'l [u8]>
-    ensures { IfSome result (λ behind. IsMember (rows found.old) (rows found.new) rest.now behind.now) }
+    ensures { IfSome result (λ behind. IsMemberInFront (rows found.old) (rows found.new) rest.now behind.now) }
 {
     let (kept, behind) = short(rest, "\"kept\":")?;
     found.kept = Some(kept);
@@ -359,7 +359,7 @@ fn kept_member<'l>(rest: &'l [u8], found: &mut Found) -> Option<&'l [u8]>
 
 /// The member `root`.
 fn root_member<'l>(rest: &'l [u8], found: &mut Found) -> Option<&'l [u8]>
-    ensures { IfSome result (λ behind. IsMember (rows found.old) (rows found.new) rest.now behind.now) }
+    ensures { IfSome result (λ behind. IsMemberInFront (rows found.old) (rows found.new) rest.now behind.now) }
 {
     let (root, behind) = id(rest, "\"root\":")?;
     found.root = Some(root);
@@ -368,7 +368,7 @@ fn root_member<'l>(rest: &'l [u8], found: &mut Found) -> Option<&'l [u8]>
 
 /// The member `path`.
 fn path_member<'l>(alloc: Global, rest: &'l [u8], found: &mut Found) -> Option<&'l [u8]>
-    ensures { IfSome result (λ behind. IsMember (rows found.old) (rows found.new) rest.now behind.now) }
+    ensures { IfSome result (λ behind. IsMemberInFront (rows found.old) (rows found.new) rest.now behind.now) }
 {
     let (path, behind) = path(alloc, rest, "\"path\":")?;
     // Tells that each number is in range. Compiled, it is nothing.
@@ -379,7 +379,7 @@ fn path_member<'l>(alloc: Global, rest: &'l [u8], found: &mut Found) -> Option<&
 
 /// The member `kind`.
 fn kind_member<'l>(rest: &'l [u8], found: &mut Found) -> Option<&'l [u8]>
-    ensures { IfSome result (λ behind. IsMember (rows found.old) (rows found.new) rest.now behind.now) }
+    ensures { IfSome result (λ behind. IsMemberInFront (rows found.old) (rows found.new) rest.now behind.now) }
 {
     let (kind, behind) = sync_kind(rest, "\"kind\":")?;
     found.kind = Some(kind);
@@ -388,7 +388,7 @@ fn kind_member<'l>(rest: &'l [u8], found: &mut Found) -> Option<&'l [u8]>
 
 /// The member `endpoint`.
 fn endpoint_member<'l>(rest: &'l [u8], found: &mut Found) -> Option<&'l [u8]>
-    ensures { IfSome result (λ behind. IsMember (rows found.old) (rows found.new) rest.now behind.now) }
+    ensures { IfSome result (λ behind. IsMemberInFront (rows found.old) (rows found.new) rest.now behind.now) }
 {
     let (endpoint, behind) = endpoint(rest, "\"endpoint\":")?;
     found.endpoint = Some(endpoint);
@@ -397,7 +397,7 @@ fn endpoint_member<'l>(rest: &'l [u8], found: &mut Found) -> Option<&'l [u8]>
 
 /// The member `parallel`.
 fn parallel_member<'l>(rest: &'l [u8], found: &mut Found) -> Option<&'l [u8]>
-    ensures { IfSome result (λ behind. IsMember (rows found.old) (rows found.new) rest.now behind.now) }
+    ensures { IfSome result (λ behind. IsMemberInFront (rows found.old) (rows found.new) rest.now behind.now) }
 {
     let (parallel, behind) = id_or_null(rest, "\"parallel\":")?;
     found.parallel = Some(parallel);
@@ -406,7 +406,7 @@ fn parallel_member<'l>(rest: &'l [u8], found: &mut Found) -> Option<&'l [u8]>
 
 /// The member `requested`.
 fn requested_member<'l>(rest: &'l [u8], found: &mut Found) -> Option<&'l [u8]>
-    ensures { IfSome result (λ behind. IsMember (rows found.old) (rows found.new) rest.now behind.now) }
+    ensures { IfSome result (λ behind. IsMemberInFront (rows found.old) (rows found.new) rest.now behind.now) }
 {
     let (requested, behind) = short(rest, "\"requested\":")?;
     found.requested = Some(requested);
@@ -415,7 +415,7 @@ fn requested_member<'l>(rest: &'l [u8], found: &mut Found) -> Option<&'l [u8]>
 
 /// The member `actual`.
 fn actual_member<'l>(rest: &'l [u8], found: &mut Found) -> Option<&'l [u8]>
-    ensures { IfSome result (λ behind. IsMember (rows found.old) (rows found.new) rest.now behind.now) }
+    ensures { IfSome result (λ behind. IsMemberInFront (rows found.old) (rows found.new) rest.now behind.now) }
 {
     let (actual, behind) = short(rest, "\"actual\":")?;
     found.actual = Some(actual);
@@ -424,7 +424,7 @@ fn actual_member<'l>(rest: &'l [u8], found: &mut Found) -> Option<&'l [u8]>
 
 /// The member `index`.
 fn index_member<'l>(rest: &'l [u8], found: &mut Found) -> Option<&'l [u8]>
-    ensures { IfSome result (λ behind. IsMember (rows found.old) (rows found.new) rest.now behind.now) }
+    ensures { IfSome result (λ behind. IsMemberInFront (rows found.old) (rows found.new) rest.now behind.now) }
 {
     let (index, behind) = short(rest, "\"index\":")?;
     found.index = Some(index);
@@ -433,7 +433,7 @@ fn index_member<'l>(rest: &'l [u8], found: &mut Found) -> Option<&'l [u8]>
 
 /// The member `list`.
 fn list_member<'l>(alloc: Global, rest: &'l [u8], found: &mut Found) -> Option<&'l [u8]>
-    ensures { IfSome result (λ behind. IsMember (rows found.old) (rows found.new) rest.now behind.now) }
+    ensures { IfSome result (λ behind. IsMemberInFront (rows found.old) (rows found.new) rest.now behind.now) }
 {
     let (list, behind) = deps(alloc, rest, "\"list\":")?;
     // Tells that each location is in range. Compiled, it is nothing.

@@ -7,7 +7,7 @@ ghost use Rattle.ompt_events.specs.Records.{started};
 ghost use Rattle.ompt_events.specs.Traces.{IsTraceOf};
 ghost use Rattle.ompt_events.specs.Upgrades.{MovesNowhere, IsUpgrade, telling};
 ghost use Rattle.certificate.specs.Upgrading.{IsUpgraded, IsRefusal};
-ghost use Rattle.certificate.specs.TaskTurns.{noted, with_turn, turns_told, told_by, AreHomes};
+ghost use Rattle.certificate.specs.TaskTurns.{noted, with_turn, turns_told, told_by, AreHomesNoted};
 
 use crate::faults::UpgradeFault;
 use crate::task_turns::{TaskTurns, begin_turn, note_begin, note_start, turn_ended};
@@ -35,7 +35,7 @@ pub fn upgrade(alloc: Global, trace: Trace) -> Result<Trace, (Trace, UpgradeFaul
 /// On which thread each task runs, and its first turn.
 fn find_homes(alloc: Global, records: &[Record]) -> Result<BTreeMap<u64, TaskTurns>, UpgradeFault>
     ensures stay { IfOk result (λ table. MovesNowhere records.now) }
-    ensures homes { IfOk result (AreHomes records.now (length records.now)) }
+    ensures homes { IfOk result (AreHomesNoted records.now (length records.now)) }
     ensures refused { IfErr result (IsRefusal records.now) }
 {
     let mut table = BTreeMap::new(alloc);
@@ -57,7 +57,7 @@ fn find_homes(alloc: Global, records: &[Record]) -> Result<BTreeMap<u64, TaskTur
 /// The trace of version 2 of these records, each told its turns.
 fn tell_all(mut records: Vec<Record>, mut table: BTreeMap<u64, TaskTurns>) -> Trace
     requires trace { IsTraceOf 1 records.items }
-    requires homes { AreHomes records.items (length records.items) table }
+    requires homes { AreHomesNoted records.items (length records.items) table }
     ensures version { result.version ≡ 2 }
     ensures upgrade { IsUpgrade records.items result.records }
 {

@@ -35,7 +35,7 @@ use Rattle.task_tree.proofs.SuspendedLemmas.{begun_told, Suspended, suspended_pa
 use Rattle.task_tree.proofs.SuspendedLemmas.{after_roots}
 use Rattle.task_tree.specs.Runs.{RunView}
 use Rattle.task_tree.proofs.RisingPassLemmas.{turn_here}
-use Rattle.checker.specs.Search.{IsSound as IsSoundRun}
+use Rattle.checker.specs.Search.{IsSoundRun}
 use Rattle.checker.specs.Schedule.{IsEarlierOnThread, EachAwaitsOne}
 use Rattle.checker.proofs.ScheduleLemmas.{begun_root_or_explicit}
 
@@ -137,8 +137,8 @@ untold_awaits_one rs trace untold still = record {
 -- ---- in a trace of version 2: where a root runs
 
 -- the record begins the root on the thread
-abbrev BeginsOn : List Record → ℕ → ℕ → Type 0
-BeginsOn rs thread task = (k : ℕ) × (thread_at rs k ≡ Some thread) × (at begun_root rs k ≡ Some task)
+abbrev BeginsOnThread : List Record → ℕ → ℕ → Type 0
+BeginsOnThread rs thread task = (k : ℕ) × (thread_at rs k ≡ Some thread) × (at begun_root rs k ≡ Some task)
 
 after_current : (P : ℕ → Type 0) (walk : Walk) (b : Body) → ((task : ℕ) → begun_root b ≡ Some task → P task)
     → ((task : ℕ) → started b ≡ Some task → P task)
@@ -164,8 +164,8 @@ after_current P walk b begins starts roots runs task is = runs task is
 
 -- what holds of a walk: its open roots began on the thread, and so did the task that runs, if it is a root
 record AreOnThread (rs : List Record) (thread : ℕ) (walk : Walk) : Type 0 where
-  roots : Every (BeginsOn rs thread) walk.roots
-  runs : (task : ℕ) → walk.current ≡ Some task → IsRoot rs task → BeginsOn rs thread task
+  roots : Every (BeginsOnThread rs thread) walk.roots
+  runs : (task : ℕ) → walk.current ≡ Some task → IsRoot rs task → BeginsOnThread rs thread task
 
 -- a root that a record starts is the innermost open one
 start_on : (rs : List Record) (i task : ℕ) (r : Record) → IsFreeOf rs NotCurrent → slice_get rs i ≡ Some r
@@ -194,28 +194,28 @@ walks_on rs thread current n =
         let walk : Walk = walk_of thread (take m rs) in
         let on : thread_at rs m ≡ Some thread =
         ap (option_map (λ (q : Record). q.thread)) stands ∙ ap Some same in
-        let begins : (task : ℕ) → begun_root r.body ≡ Some task → BeginsOn rs thread task =
+        let begins : (task : ℕ) → begun_root r.body ≡ Some task → BeginsOnThread rs thread task =
         λ task is. (m, on, ap (option_and_then (λ (q : Record). begun_root q.body)) stands ∙ is) in
         subst (AreOnThread rs thread) (sym (fold-append after_record at_start (part_of rs thread m) (r ∷ [])))
         (record {
-          roots = after_roots (BeginsOn rs thread) walk r.body begins before.roots;
-          runs = after_current (λ task. IsRoot rs task → BeginsOn rs thread task) walk r.body
+          roots = after_roots (BeginsOnThread rs thread) walk r.body begins before.roots;
+          runs = after_current (λ task. IsRoot rs task → BeginsOnThread rs thread task) walk r.body
               (λ task is root. begins task is)
-              (λ task is root. every_get (BeginsOn rs thread) walk.roots 0 task before.roots
+              (λ task is root. every_get (BeginsOnThread rs thread) walk.roots 0 task before.roots
               (subst (λ t. slice_get (walk_of t (take m rs)).roots 0 ≡ Some task) same
               (start_on rs m task r current stands is root)))
               (every_weaker_root walk.roots before.roots)
               before.runs;
         })
       where
-        every_weaker_root : (l : List ℕ) → Every (BeginsOn rs thread) l
-            → Every (λ task. IsRoot rs task → BeginsOn rs thread task) l
+        every_weaker_root : (l : List ℕ) → Every (BeginsOnThread rs thread) l
+            → Every (λ task. IsRoot rs task → BeginsOnThread rs thread task) l
         every_weaker_root [] each = tt
         every_weaker_root (x ∷ xs) each = ((λ root. each.0), every_weaker_root xs each.1)
 
 -- the thread on which a root begins is one
-begins_once : (rs : List Record) (task one other : ℕ) → IsFreeOf rs CreatedTwice → BeginsOn rs one task
-    → BeginsOn rs other task → Some one ≡ Some other
+begins_once : (rs : List Record) (task one other : ℕ) → IsFreeOf rs CreatedTwice → BeginsOnThread rs one task
+    → BeginsOnThread rs other task → Some one ≡ Some other
 begins_once rs task one other once (k, on, begins) (j, on', begins') =
     let same =
     made_once rs task k j once (begun_at_made task rs k begins) (begun_at_made task rs j begins') in
@@ -323,13 +323,13 @@ root_runs_on rs a b trace once current gap again root =
         let turned : HasItsTurns 2 r.body =
         all_get (λ (x : Record). HasItsTurns 2 x.body) rs a r trace.turns e in
         let parts : Suspended r.body task turn = suspended_parts r.body task turn fits.next turned suspends in
-        let ran : BeginsOn rs r.thread task =
+        let ran : BeginsOnThread rs r.thread task =
         (walks_on rs r.thread current a).runs task (runs_there rs a task r current e parts.runs) root in
         let starts : started q.body ≡ Some task =
         sym (ap (option_and_then (λ (x : Record). started x.body)) f)
         ∙ begun_started rs b task (turn + 1) again.resumes in
-        let runs : BeginsOn rs q.thread task =
-        every_get (BeginsOn rs q.thread) (walk_of q.thread (take b rs)).roots 0 task
+        let runs : BeginsOnThread rs q.thread task =
+        every_get (BeginsOnThread rs q.thread) (walk_of q.thread (take b rs)).roots 0 task
         (walks_on rs q.thread current b).roots (start_on rs b task q current f starts root) in
         let threads : Some r.thread ≡ Some q.thread = begins_once rs task r.thread q.thread once ran runs in
         let on : thread_at rs a ≡ Some r.thread = ap (option_map (λ (x : Record). x.thread)) e in

@@ -17,7 +17,7 @@ use Rattle.ompt_events.specs.Linearization.{IsLinearization}
 use Rattle.ompt_events.specs.Causes.{IsFreeOf}
 use Rattle.ompt_events.proofs.PlaceLemmas.{contains_place}
 use Rattle.ompt_events.proofs.HappensBeforeLemmas.{before_from, finishing_within}
-use Rattle.checker.specs.Entries.{AreMakers}
+use Rattle.checker.specs.Entries.{AreEntryPlaces}
 use Rattle.checker.specs.Schedule.{Awaits, EachAwaitsOne}
 use Rattle.checker.specs.Counter.{OrderedView, IsOrdered, AreBounds, HaveAllThreads, IsBelow, AreAllBefore}
 use Rattle.checker.specs.Counter.{AreEarlierInThread, MakesBelow, AreRaisedTo}
@@ -163,7 +163,7 @@ before_raised rs has i old new each are before a is = elim (are.only a is) [
 -- ---- to the makers of entries
 
 -- the maker of one entry more
-makes_more : (rs : List Record) (n c : ℕ) (makers : List ℕ) → AreMakers rs (length rs) makers
+makes_more : (rs : List Record) (n c : ℕ) (makers : List ℕ) → AreEntryPlaces rs (length rs) makers
     → n < length makers → MakesBelow rs (n + 1) c → MakesBelow rs n c ⊎ (c ≡ slice_index makers n)
 makes_more rs n c makers are inside (finishes, low) = elim (cases_eq (seen_at rs c) n) [
   | inl here ↦
@@ -180,7 +180,7 @@ pub makers_start : (rs : List Record) (bounds : List ℕ) → AreRaisedTo rs (Ma
 makers_start rs bounds =
     raised_none rs (MakesBelow rs 0) bounds (λ c (finishes, low). absurd (omega (arith, low)))
 
-pub makers_more : (rs : List Record) (n : ℕ) (makers old mid new : List ℕ) → AreMakers rs (length rs) makers
+pub makers_more : (rs : List Record) (n : ℕ) (makers old mid new : List ℕ) → AreEntryPlaces rs (length rs) makers
     → n < length makers → slice_index makers n < length rs → AreRaisedTo rs (MakesBelow rs n) old mid
     → AreRaisedTo rs (λ c. c ≡ slice_index makers n) mid new → AreRaisedTo rs (MakesBelow rs (n + 1)) old new
 makers_more rs n makers old mid new are inside within one two =
@@ -193,7 +193,7 @@ makers_more rs n makers old mid new are inside within one two =
     subst P (sym is) (makes.0, (let entry_is = makes.1 in omega (arith, entry_is))))
     one two
 
-pub makers_none : (rs : List Record) (n : ℕ) (makers old new : List ℕ) → AreMakers rs (length rs) makers
+pub makers_none : (rs : List Record) (n : ℕ) (makers old new : List ℕ) → AreEntryPlaces rs (length rs) makers
     → n < length makers → length rs ≤ slice_index makers n → AreRaisedTo rs (MakesBelow rs n) old new
     → AreRaisedTo rs (MakesBelow rs (n + 1)) old new
 makers_none rs n makers old new are inside past one =

@@ -85,11 +85,11 @@ number_within view own i clear same within =
     subst P (sym same) (omega (arith, long, within))
 
 -- what a search by the lengths finds at a place, where the credit is held from them on
-abbrev Finds : DoneView → (OwnView → Type 0) → Type 0
-Finds done IsThat = HasRightEntries (records_of done) → AreCreditLengths done → IsThat (own_of done.teams)
+abbrev FindsByLengths : DoneView → (OwnView → Type 0) → Type 0
+FindsByLengths done IsThat = HasRightEntries (records_of done) → AreCreditLengths done → IsThat (own_of done.teams)
 
 found_there : (view : ClearView) (done : DoneView) (IsThat : OwnView → Type 0) → IsClearView view
-    → own_of done.teams ≡ view.own → AreCreditLengths done → Finds done IsThat → IsThat view.own
+    → own_of done.teams ≡ view.own → AreCreditLengths done → FindsByLengths done IsThat → IsThat view.own
 found_there view done IsThat clear same credit finds =
     let Right : OwnView → Type 0 = λ own. HasRightEntries own.run.records in
     subst IsThat same (finds (subst Right (sym same) (clear_entries view clear)) credit)
@@ -102,7 +102,7 @@ stands_there view own number place same stands =
 
 pub open_decided : (view : ClearView) (own : OwnView) (done : DoneView) (number place task : ℕ)
     → IsClearView view → own ≡ view.own → own_of done.teams ≡ view.own → AreCreditLengths done
-    → slice_get own.places number ≡ Some place → Finds done (λ o. IsFirstOpen o number task)
+    → slice_get own.places number ≡ Some place → FindsByLengths done (λ o. IsFirstOpen o number task)
     → IsViolationAt (by_task view.run.records) place (Unfinished task)
 open_decided view own done number place task clear same teams credit stands finds =
     violation_by_open view.run.records view.own number place task clear.one.of_file clear.one.is_own
@@ -111,7 +111,7 @@ open_decided view own done number place task clear same teams credit stands find
 
 pub covered_decided : (view : ClearView) (own : OwnView) (done : DoneView) (number place : ℕ)
     → IsClearView view → own ≡ view.own → own_of done.teams ≡ view.own → AreCreditLengths done
-    → slice_get own.places number ≡ Some place → Finds done (λ o. IsCoverComplete o.run.records number)
+    → slice_get own.places number ≡ Some place → FindsByLengths done (λ o. IsCoverComplete o.run.records number)
     → IsCompleteShown view.run.records place
 covered_decided view own done number place clear same teams credit stands finds =
     all_shown view.run.records view.own number place clear.one.of_file clear.one.is_own

@@ -16,22 +16,22 @@ use Rattle.ompt_events.specs.Causes.{ledger_length, length_ahead, IsFreeOf, IsFi
 use Rattle.ompt_events.proofs.PlaceLemmas.{seen_within}
 use Rattle.ompt_events.proofs.HappensBeforeLemmas.{finishing_within}
 use Rattle.checker.specs.declared.makers.Named.{Named}
-use Rattle.checker.specs.Makers.{is_named, IsMadeBelow, AreNamed, IsNaming}
+use Rattle.checker.specs.Makers.{is_named, IsMadeBelow, AreEntriesNamed, IsNaming}
 use Rattle.checker.proofs.MakerLemmas.{makers_more}
 
 -- ---- one record more
 
-later : (rs : List Record) (n e : ℕ) → IsMadeBelow rs n e → IsMadeBelow rs (n + 1) e
-later rs n e (k, below, finishes, seen) = (k, omega (arith, below), finishes, seen)
+made_later : (rs : List Record) (n e : ℕ) → IsMadeBelow rs n e → IsMadeBelow rs (n + 1) e
+made_later rs n e (k, below, finishes, seen) = (k, omega (arith, below), finishes, seen)
 
 -- one that does names its own
 pub named_more : (rs : List Record) (n own : ℕ) (old new : Named) → IsFinishing rs n → seen_at rs n ≡ own
-    → ((e : ℕ) → is_named (length rs) new e ≡ ((e == own) || is_named (length rs) old e)) → AreNamed rs n old
-    → AreNamed rs (n + 1) new
+    → ((e : ℕ) → is_named (length rs) new e ≡ ((e == own) || is_named (length rs) old e)) → AreEntriesNamed rs n old
+    → AreEntriesNamed rs (n + 1) new
 named_more rs n own old new finishes seen more are e = (
   λ is. elim (or_cases (e == own) (is_named (length rs) old e) (sym (more e) ∙ is)) [
     | inl here ↦ (n, omega arith, finishes, seen ∙ sym (eqb-true e own here))
-    | inr before ↦ later rs n e ((are e).0 before)
+    | inr before ↦ made_later rs n e ((are e).0 before)
   ],
   λ (k, below, ends, is). elim (cases_eq k n) [
     | inl same ↦

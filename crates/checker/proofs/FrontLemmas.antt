@@ -14,15 +14,15 @@ use Rattle.ompt_events.specs.Places.{thread_at, seen_at}
 use Rattle.ompt_events.proofs.ListLemmas.{contains_first}
 use Rattle.checker.specs.declared.suspensions.Suspensions.{Suspensions}
 use Rattle.checker.specs.Schedule.{Awaits}
-use Rattle.checker.specs.Merge.{AreStanding, Stands, IsUnplaced, MayFollow, AreHeads, IsFront, IsReadyHead}
-use Rattle.checker.specs.Merge.{AreOffered, AreMore, IsTaken, length_of}
+use Rattle.checker.specs.Merge.{ArePlaced, Stands, IsUnplaced, MayStandNext, AreHeads, IsFront, IsReadyHead}
+use Rattle.checker.specs.Merge.{AreOffered, AreMore, IsPlaceTaken, named_length}
 use Rattle.task_tree.specs.Family.{FamilyView}
 use Rattle.task_tree.specs.Runs.{RunView}
 use Rattle.task_tree.proofs.GapFreeLemmas.{thread_there}
 use Rattle.checker.specs.Entries.{MakersView, IsLedger}
 use Rattle.checker.proofs.MakerLemmas.{low_reached}
 use Rattle.checker.proofs.ScheduleLemmas.{awaits_or_not}
-use Rattle.checker.proofs.MergeLemmas.{may_follow, ready_head, is_head}
+use Rattle.checker.proofs.MergeLemmas.{head_may_stand, ready_head, is_head}
 use Rattle.checker.proofs.MergingLemmas.{standing_closed, stands_here, stands_still, stands_cases}
 
 -- ---- the test
@@ -30,14 +30,14 @@ use Rattle.checker.proofs.MergingLemmas.{standing_closed, stands_here, stands_st
 pub follows : (rs : List Record) (family : FamilyView) (known : Suspensions) (placed : List Bool)
     (heads : List ℕ) (low thread i : ℕ)
     → IsFront rs family known placed heads low → thread_at rs i ≡ Some thread → slice_index heads thread ≡ i
-    → IsReadyHead rs placed low i → MayFollow rs placed i
+    → IsReadyHead rs placed low i → MayStandNext rs placed i
 follows rs family known placed heads low thread i front runs is ready =
-    may_follow rs front.suspended.facts placed heads low thread i front.are_heads front.is_low
+    head_may_stand rs front.suspended.facts placed heads low thread i front.are_heads front.is_low
     (front.are_heads.all i thread runs) is ready
 
 pub passes : (rs : List Record) (family : FamilyView) (known : Suspensions) (placed : List Bool)
     (heads : List ℕ) (low i : ℕ)
-    → IsFront rs family known placed heads low → MayFollow rs placed i → IsReadyHead rs placed low i
+    → IsFront rs family known placed heads low → MayStandNext rs placed i → IsReadyHead rs placed low i
 passes rs family known placed heads low i front may =
     ready_head rs placed low i front.suspended.facts front.closed front.is_low may
 
@@ -69,7 +69,7 @@ more_then rs placed old mid new first second = record {
 }
 
 pub more_put : (rs : List Record) (placed : List Bool) (place : ℕ) (old new : List ℕ)
-    → IsPermutation (place ∷ old) new → MayFollow rs placed place → AreMore rs placed old new
+    → IsPermutation (place ∷ old) new → MayStandNext rs placed place → AreMore rs placed old new
 more_put rs placed place old new moved may = record {
   kept = λ i c. Contains-permutation (place ∷ old) new i moved (contains_behind i place old c);
   only =
@@ -109,7 +109,7 @@ ready_less rs placed place old new moved stands ready = record {
 -- one that does not stand is taken out, the least
 pub ready_taken : (rs : List Record) (placed : List Bool) (place : ℕ) (old new : List ℕ)
     → IsPermutation old (place ∷ new) → (Stands placed place → ⊥) → ((i : ℕ) → Contains old i → place ≤ i)
-    → AreOffered rs placed old → IsTaken rs placed place new
+    → AreOffered rs placed old → IsPlaceTaken rs placed place new
 ready_taken rs placed place old new moved missing least ready = record {
   next =
       elim
@@ -135,17 +135,17 @@ ready_taken rs placed place old new moved missing least ready = record {
 
 -- each record that may stand next is the head of its thread
 pub head_of : (rs : List Record) (placed : List Bool) (heads : List ℕ) (i : ℕ) → AreHeads rs placed heads
-    → MayFollow rs placed i → (thread : ℕ) × (thread < length heads) × (slice_index heads thread ≡ i)
+    → MayStandNext rs placed i → (thread : ℕ) × (thread < length heads) × (slice_index heads thread ≡ i)
 head_of rs placed heads i are may =
     let thread = thread_there rs i may.within in
     (thread.0, are.all i thread.0 thread.1, is_head rs placed heads i thread.0 are thread.1 may)
 
 -- ---- one record more
 
-length_named : (rs : List Record) (i : ℕ) → i < length rs → length_of rs i ≡ Some (seen_at rs i)
+length_named : (rs : List Record) (i : ℕ) → i < length rs → named_length rs i ≡ Some (seen_at rs i)
 length_named rs i within = named (slice_get rs i) refl
   where
-    named : (o : Option Record) → slice_get rs i ≡ o → length_of rs i ≡ Some (seen_at rs i)
+    named : (o : Option Record) → slice_get rs i ≡ o → named_length rs i ≡ Some (seen_at rs i)
     named None e =
         absurd
         (none-some (thread_there rs i within).0
@@ -161,10 +161,10 @@ let_stand : (rs : List Record) (family : FamilyView) (known : Suspensions) (plac
     → IsFront rs family known placed heads low
     → IsFront rs family known (set placed place true) (set heads thread next) now_low
     → thread_at rs place ≡ Some thread → slice_index (set heads thread next) thread ≡ next
-    → place < length placed → MayFollow rs (set placed place true) i
+    → place < length placed → MayStandNext rs (set placed place true) i
     → (i ≡ next)
     ⊎ ((Awaits rs i place)
-    ⊎ (((k : ℕ) × (low < k) × (k ≤ now_low) × (length_of rs i ≡ Some k)) ⊎ MayFollow rs placed i))
+    ⊎ (((k : ℕ) × (low < k) × (k ≤ now_low) × (named_length rs i ≡ Some k)) ⊎ MayStandNext rs placed i))
 let_stand rs family known placed heads low now_low place thread next i before after runs is_next inside may =
     elim (cases_eq own.0 thread) [
       | inl same ↦ inl (sym head_is ∙ ap (slice_index (set heads thread next)) same ∙ is_next)
@@ -189,8 +189,8 @@ let_stand rs family known placed heads low now_low place thread next i before af
     of_another : own.0 ≢ thread
         → (i ≡ next)
         ⊎ ((Awaits rs i place)
-        ⊎ (((k : ℕ) × (low < k) × (k ≤ now_low) × (length_of rs i ≡ Some k))
-        ⊎ MayFollow rs placed i))
+        ⊎ (((k : ℕ) × (low < k) × (k ≤ now_low) × (named_length rs i ≡ Some k))
+        ⊎ MayStandNext rs placed i))
     of_another apart = elim (awaits_or_not rs family i place before.suspended.facts before.family_of) [
       | inl awaits ↦ inr (inl awaits)
       | inr other ↦ elim (cases_lt low (seen_at rs i)) [
@@ -211,11 +211,11 @@ pub ready_more : (rs : List Record) (family : FamilyView) (known : Suspensions) 
     → IsFront rs family known placed heads low
     → IsFront rs family known (set placed place true) (set heads thread next) now_low
     → thread_at rs place ≡ Some thread → slice_index (set heads thread next) thread ≡ next
-    → place < length placed → IsTaken rs placed place rest → AreMore rs (set placed place true) rest ready
-    → (MayFollow rs (set placed place true) next → Contains ready next)
-    → ((i : ℕ) → Awaits rs i place → MayFollow rs (set placed place true) i → Contains ready i)
-    → ((i k : ℕ) → low + 1 ≤ k → k < now_low + 1 → length_of rs i ≡ Some k
-    → MayFollow rs (set placed place true) i → Contains ready i)
+    → place < length placed → IsPlaceTaken rs placed place rest → AreMore rs (set placed place true) rest ready
+    → (MayStandNext rs (set placed place true) next → Contains ready next)
+    → ((i : ℕ) → Awaits rs i place → MayStandNext rs (set placed place true) i → Contains ready i)
+    → ((i k : ℕ) → low + 1 ≤ k → k < now_low + 1 → named_length rs i ≡ Some k
+    → MayStandNext rs (set placed place true) i → Contains ready i)
     → AreOffered rs (set placed place true) ready
 ready_more rs family known placed heads low now_low place thread next rest ready before after runs is_next
     inside taken more of_thread of_awaited of_length =
@@ -244,8 +244,8 @@ ready_more rs family known placed heads low now_low place thread next rest ready
       ];
     }
   where
-    still : (i : ℕ) → Stands placed i ⊎ MayFollow rs placed i
-        → Stands (set placed place true) i ⊎ MayFollow rs (set placed place true) i
+    still : (i : ℕ) → Stands placed i ⊎ MayStandNext rs placed i
+        → Stands (set placed place true) i ⊎ MayStandNext rs (set placed place true) i
     still i (inl stands) = inl (stands_still placed place i stands)
     still i (inr may) = elim (cases_eq i place) [
       | inl same ↦ inl (rw same (stands_here placed place inside))
@@ -262,7 +262,7 @@ ready_more rs family known placed heads low now_low place thread next rest ready
 -- where none was ready, just those that may stand next are
 pub ready_first : (rs : List Record) (placed : List Bool) (none ready : List ℕ)
     → ((i : ℕ) → Contains none i → ⊥) → AreMore rs placed none ready
-    → ((i : ℕ) → MayFollow rs placed i → Contains ready i) → AreOffered rs placed ready
+    → ((i : ℕ) → MayStandNext rs placed i → Contains ready i) → AreOffered rs placed ready
 ready_first rs placed none ready empty more all = record {
   all = all;
   only = λ i c. elim (more.only i c) [
@@ -275,7 +275,7 @@ ready_first rs placed none ready empty more all = record {
 pub front_of : (ledger : MakersView) (run : RunView) (makers : List ℕ) (known : Suspensions)
     (placed : List Bool) (heads links order : List ℕ) (low : ℕ)
     → IsLedger ledger → run ≡ ledger.run → makers ≡ ledger.places → known ≡ ledger.suspensions
-    → AreStanding run.records placed heads links order → low ≤ length makers
+    → ArePlaced run.records placed heads links order → low ≤ length makers
     → ((k : ℕ) → k < low → slice_index makers k < length placed → Stands placed (slice_index makers k))
     → (low < length makers → IsUnplaced placed (slice_index makers low))
     → IsFront run.records run.family known placed heads low

@@ -26,7 +26,7 @@ use Rattle.task_tree.specs.Rising.{IsStartOf}
 use Rattle.ompt_events.specs.Tree.{IsExplicit}
 use Rattle.ompt_events.proofs.HappensBeforeLemmas.{finishing_within}
 use Rattle.checker.proofs.ScheduleLemmas.{later_awaits_none}
-use Rattle.checker.specs.InOrder.{entries_before, FitsBehind, AreLast}
+use Rattle.checker.specs.InOrder.{entries_before, FitsBehind, AreLastSuspensions}
 use Rattle.checker.proofs.EntryLemmas.{free_of_repeats, free_of_ahead}
 
 -- ---- how many entries there are before a record
@@ -95,9 +95,9 @@ fit_more rs n entries count fits before i below = elim (cases_eq i n) [
   | inr apart ↦ before i (omega (arith, below, apart))
 ]
 
-pub count_more : (rs : List Record) (n entries after : ℕ) → n < length rs → entries ≡ entries_before rs n
+pub entries_count_more : (rs : List Record) (n entries after : ℕ) → n < length rs → entries ≡ entries_before rs n
     → after ≡ cond (is_some (at finish rs n)) (entries + 1) entries → after ≡ entries_before rs (n + 1)
-count_more rs n entries after within count is = of (is_some (at finish rs n)) refl is
+entries_count_more rs n entries after within count is = of (is_some (at finish rs n)) refl is
   where
     r : Record
     r = any_record rs n within
@@ -182,12 +182,12 @@ fit_entered rs fit a b makes less = elim (cases_lt a b) [
 
 -- ---- what is kept of the tasks
 
-pub no_last : (rs : List Record) (tasks : List ℕ) → AreLast rs tasks []
+pub no_last : (rs : List Record) (tasks : List ℕ) → AreLastSuspensions rs tasks []
 no_last rs tasks index task last indexed kept = absurd (none-some last kept)
 
 pub last_more : (rs : List Record) (tasks : List ℕ) (lasts : List Suspension) (i index turn : ℕ)
-    → IsEndOf rs tasks i index turn → AreLast rs tasks lasts
-    → AreLast rs tasks (set lasts index (record { turn = turn; place = i }))
+    → IsEndOf rs tasks i index turn → AreLastSuspensions rs tasks lasts
+    → AreLastSuspensions rs tasks (set lasts index (record { turn = turn; place = i }))
 last_more rs tasks lasts i index turn end are other task last indexed kept low = elim (cases_eq other index) [
   | inl same ↦
       let new : Suspension = record { turn = turn; place = i } in
@@ -220,7 +220,7 @@ last_more rs tasks lasts i index turn end are other task last indexed kept low =
 -- the end that is kept is the one that is awaited
 pub end_follows : (rs : List Record) (tasks : List ℕ) (lasts : List Suspension) (i index turn : ℕ)
     (last : Suspension)
-    → EachAwaitsOne rs → AreLast rs tasks lasts → IsStartOf rs tasks i index turn → 0 < turn
+    → EachAwaitsOne rs → AreLastSuspensions rs tasks lasts → IsStartOf rs tasks i index turn → 0 < turn
     → slice_get lasts index ≡ Some last → turn ≡ last.turn + 1 → last.place < i → i < length rs
     → seen_at rs last.place ≤ seen_at rs i → (c : ℕ) → Awaits rs i c → (c < i) × (seen_at rs c ≤ seen_at rs i)
 end_follows rs tasks lasts i index turn last facts are begins later kept next before within low c

@@ -30,15 +30,15 @@ use Rattle.task_tree.specs.Families.{IsOwnOf}
 use Rattle.task_tree.specs.Runs.{RunView}
 use Rattle.task_tree.proofs.OwnRunLemmas.{own_predecessor}
 use Rattle.task_tree.proofs.OnceLemmas.{made_once}
-use Rattle.depend_edges.specs.Edges.{ArePredecessors, AreLatest}
-use Rattle.wait_coverage.specs.Done.{AreOwn}
+use Rattle.depend_edges.specs.Edges.{ArePredecessors, ArePredecessorLengths}
+use Rattle.wait_coverage.specs.Done.{AreOwnLengths}
 use Rattle.trace_ledger.specs.Entries.{IsDone}
 use Rattle.checker.specs.declared.starts.Late.{Late}
 use Rattle.checker.specs.declared.starts.Dependent.{Dependent}
 use Rattle.checker.specs.Readings.{by_task, IsPrecededBy}
 use Rattle.checker.specs.Starts.{IsLate, AreReady, IsFirstLateAt, IsDependentAt, IsPrecededByNone, IsBound}
 use Rattle.checker.specs.Starts.{AreNoLengths, AreStarts, StartsAt, StartsNoneAt, PrecedenceView}
-use Rattle.checker.specs.Starts.{IsPrecedence, IsBehind, AreDoneBefore, IsFirstBehind, IsAmongFirst}
+use Rattle.checker.specs.Starts.{IsPrecedence, IsUnfinishedPredecessor, AreDoneBefore, IsFirstBehind, IsAmongFirst}
 use Rattle.checker.specs.Starts.{IsBehindAt, IsFirstOf, IsEarlierOf, the_only, the_first, the_other}
 use Rattle.wait_coverage.proofs.ShownLemmas.{own_done}
 use Rattle.checker.proofs.StartLemmas.{done_from, bound_still, complete_from_start}
@@ -177,7 +177,7 @@ all_done file own predecessors bound n task past are done predecessor is =
 
 -- the greatest length of the predecessors says so of all
 pub done_by_latest : (rs : List Record) (tasks own latest : List ℕ) (index task bound : ℕ)
-    → AreNoted made rs (length rs) tasks → AreOwn rs tasks own → AreLatest rs tasks own latest
+    → AreNoted made rs (length rs) tasks → AreOwnLengths rs tasks own → ArePredecessorLengths rs tasks own latest
     → slice_get tasks index ≡ Some task → bound < 2 ^ 32 → slice_index latest index ≤ bound
     → AreDoneBefore rs task bound
 done_by_latest rs tasks own latest index task bound noted are_own are is small low predecessor precedes =
@@ -187,8 +187,8 @@ done_by_latest rs tasks own latest index task bound noted are_own are is small l
 
 -- where no task has a predecessor that an entry finishes, none is late
 pub none_late : (file : List Record) (own : OwnView) (lengths latest : List ℕ) (i : ℕ) → IsOwnOf file own
-    → IsOwn own → AreOwn own.run.records own.run.family.tasks lengths
-    → AreLatest own.run.records own.run.family.tasks lengths latest
+    → IsOwn own → AreOwnLengths own.run.records own.run.family.tasks lengths
+    → ArePredecessorLengths own.run.records own.run.family.tasks lengths latest
     → ((index : ℕ) → index < length latest → slice_index latest index ≡ 0) → AreReady file i
 none_late file own lengths latest i of is_own are_own are none predecessor preceded = elim preceded [
   | inl (dependent, explicit, start, is) ↦
@@ -246,7 +246,7 @@ if_ok P Q (Err e) follows is = is
 -- late is what the entries don't finish of the predecessors of what depends on them there
 pub late_if : (rs : List Record) (own : RunView) (i index bound task : ℕ)
     → (is : IsDependentAt rs own i index bound)
-    → IsLate rs i task ↔ IsBehind own.records is.dependent bound task
+    → IsLate rs i task ↔ IsUnfinishedPredecessor own.records is.dependent bound task
 late_if rs own i index bound task is = (
   (λ late. ((is.same task).0 late.0, λ done. late.1 ((is.bounds task).1 done))),
   (λ behind. ((is.same task).1 behind.0, λ complete. behind.1 ((is.bounds task).0 complete))),
@@ -255,7 +255,7 @@ late_if rs own i index bound task is = (
 -- what is told of the task, for the task that starts there, or for the taskwait that is complete there
 abbrev pub TellsLate : RunView → ℕ → ℕ → ℕ → Bool → Type 0
 TellsLate own index bound task answer = (dependent : ℕ) → slice_get own.family.tasks index ≡ Some dependent
-    → IsTrue answer ↔ IsBehind own.records dependent bound task
+    → IsTrue answer ↔ IsUnfinishedPredecessor own.records dependent bound task
 
 pub tells_late : (rs : List Record) (own : RunView) (i index bound task : ℕ) (answer : Bool)
     → IsDependentAt rs own i index bound → TellsLate own index bound task answer
@@ -268,12 +268,12 @@ tells_late rs own i index bound task answer is tells =
 pub none_to_tell : (rs : List Record) (i task : ℕ) → IsPrecededByNone rs i → IsTrue false ↔ IsLate rs i task
 none_to_tell rs i task none = ((λ never. absurd (false≢true never)), (λ late. absurd (none task late.0)))
 
-pub found_by : (rs : List Record) (own : RunView) (i index bound : ℕ) (found : Option ℕ)
+pub late_found : (rs : List Record) (own : RunView) (i index bound : ℕ) (found : Option ℕ)
     → IsDependentAt rs own i index bound → FindsLate rs own index bound found
     → MatchOption found (AreReady rs i) (IsFirstLateAt rs i)
-found_by rs own i index bound None is found = λ predecessor preceded.
+late_found rs own i index bound None is found = λ predecessor preceded.
     (is.bounds predecessor).1 (found is.dependent is.there predecessor ((is.same predecessor).0 preceded))
-found_by rs own i index bound (Some predecessor) is found =
+late_found rs own i index bound (Some predecessor) is found =
     let first = found is.dependent is.there in
     record {
       late = (late_if rs own i index bound predecessor is).1 first.behind;
@@ -301,7 +301,7 @@ pub behind_if : (file own : List Record) (tasks predecessors : List ℕ) (depend
     → Contains predecessors task
     → ((index : ℕ) → slice_get tasks index ≡ Some task → IsExplicit own task
     → MatchOption found (IsDone own bound task) (IsBehindAt file own bound task))
-    → IsTrue (is_some found) ↔ IsBehind own dependent bound task
+    → IsTrue (is_some found) ↔ IsUnfinishedPredecessor own dependent bound task
 behind_if file own tasks predecessors dependent bound task found noted are among tells =
     let is = are.only task among in
     let index = predecessor_index own tasks dependent task noted is in
@@ -310,13 +310,13 @@ behind_if file own tasks predecessors dependent bound task found noted are among
   where
     of : (o : Option ℕ) → IsPredecessor own dependent task
         → MatchOption o (IsDone own bound task) (IsBehindAt file own bound task)
-        → IsTrue (is_some o) ↔ IsBehind own dependent bound task
+        → IsTrue (is_some o) ↔ IsUnfinishedPredecessor own dependent bound task
     of None is done = (λ never. absurd (false≢true never), λ behind. absurd (behind.1 done))
     of (Some place) is late = (λ _. (is, late.0), λ _. refl)
 
 pub not_among : (rs : List Record) (predecessors : List ℕ) (dependent bound task : ℕ) (answer : Bool)
     → ArePredecessors rs dependent predecessors → IsTrue answer ↔ Contains predecessors task → answer ≡ false
-    → IsTrue false ↔ IsBehind rs dependent bound task
+    → IsTrue false ↔ IsUnfinishedPredecessor rs dependent bound task
 not_among rs predecessors dependent bound task answer are tells is = (
   (λ never. absurd (false≢true never)),
   (λ behind. absurd (false≢true (sym is ∙ tells.1 (are.all task behind.0)))),

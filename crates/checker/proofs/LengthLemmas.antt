@@ -15,7 +15,7 @@ use Rattle.ompt_events.specs.HappensBefore.{fulfilment}
 use Rattle.ompt_events.specs.Causes.{HasCause, IsBehind, known_after, length_back, IsFreeOf, IsFirstWith}
 use Rattle.ompt_events.proofs.TurnLemmas.{start_starts}
 use Rattle.ompt_events.proofs.PlaceLemmas.{at_within}
-use Rattle.checker.specs.Lengths.{PrecedesAwaited, AreKnown}
+use Rattle.checker.specs.Lengths.{PrecedesAwaited, AreKnownLengths}
 use Rattle.checker.specs.Schedule.{Awaits, EachAwaitsOne}
 use Rattle.checker.proofs.ScheduleLemmas.{program_awaits, awaits_program, known_awaited, awaits_within}
 
@@ -30,7 +30,7 @@ known_least rs i = of (is_some (at finish rs i))
 
 -- ---- what a thread knows
 
-pub known_start : (rs : List Record) → AreKnown rs 0 (replicate 256 0)
+pub known_start : (rs : List Record) → AreKnownLengths rs 0 (replicate 256 0)
 known_start rs = record {
   all = length-replicate {A = ℕ} 256 0;
   most = λ k thread below is. absurd (omega (arith, below));
@@ -51,8 +51,8 @@ known_start rs = record {
     ]
 
 pub known_more : (rs : List Record) (n own after : ℕ) (known : List ℕ) → thread_at rs n ≡ Some own → own < 256
-    → after ≡ known_after rs n → get_or known own 0 ≤ seen_at rs n → AreKnown rs n known
-    → AreKnown rs (n + 1) (set known own after)
+    → after ≡ known_after rs n → get_or known own 0 ≤ seen_at rs n → AreKnownLengths rs n known
+    → AreKnownLengths rs (n + 1) (set known own after)
 known_more rs n own after known runs low is more are = record {
   all = length-set known own after ∙ are.all;
   most = λ k thread below its. most k thread below its (cases_eq thread own);
@@ -106,7 +106,7 @@ behind : (rs : List Record) (i : ℕ) → HasCause rs i LengthBack → IsBehind 
 behind rs i (length_back has) = has
 
 pub behind_known : (rs : List Record) (n thread : ℕ) (known : List ℕ) → n < length rs
-    → thread_at rs n ≡ Some thread → seen_at rs n < get_or known thread 0 → AreKnown rs n known
+    → thread_at rs n ≡ Some thread → seen_at rs n < get_or known thread 0 → AreKnownLengths rs n known
     → IsBehind rs n
 behind_known rs n thread known within own less are =
     let last = are.last thread (omega (arith, less)) in
@@ -131,7 +131,7 @@ behind_awaited rs n facts free (c, awaits, less) = elim (awaits_program rs n c f
 
 pub not_behind : (rs : List Record) (n thread : ℕ) (known : List ℕ) → EachAwaitsOne rs
     → thread_at rs n ≡ Some thread → get_or known thread 0 ≤ seen_at rs n → (PrecedesAwaited rs n → ⊥)
-    → AreKnown rs n known → IsBehind rs n → ⊥
+    → AreKnownLengths rs n known → IsBehind rs n → ⊥
 not_behind rs n thread known facts own more none are (k, is, less) = elim (program_awaits rs k n facts is) [
   | inl earlier ↦
       let most = are.most k thread earlier.earlier (earlier.same ∙ own) in omega (arith, most, more, less)

@@ -10,8 +10,8 @@ use Rattle.ompt_events.specs.declared.records.Record.{Record}
 use Rattle.ompt_events.specs.declared.cause.Cause.TheVariants.{LengthAhead}
 use Rattle.ompt_events.specs.Places.{seen_at}
 use Rattle.ompt_events.specs.Causes.{entries_in, ledger_length, length_ahead, IsFreeOf}
-use Rattle.checker.specs.Merge.{length_of}
-use Rattle.checker.specs.Lists.{AreLists, IsRising}
+use Rattle.checker.specs.Merge.{named_length}
+use Rattle.checker.specs.Lists.{AreLists, LeadsOn}
 
 -- the place ahead of those of its list
 pub lists_more : (key : ℕ → Option ℕ) (n k at : ℕ) (firsts nexts : List ℕ) → length nexts ≡ n → at < n
@@ -48,8 +48,8 @@ lists_more key n k at firsts nexts all within low is lists = record {
   ];
 }
 
-pub rising_more : (n at next : ℕ) (nexts : List ℕ) → at < next → IsRising n nexts
-    → IsRising n (set nexts at next)
+pub rising_more : (n at next : ℕ) (nexts : List ℕ) → at < next → LeadsOn n nexts
+    → LeadsOn n (set nexts at next)
 rising_more n at next nexts behind rising = record {
   all = length-set nexts at next ∙ rising.all;
   later = λ i low. elim (cases_eq i at) [
@@ -81,7 +81,7 @@ lists_other key n at firsts nexts none lists = record {
 
 -- ---- the keys
 
-seen_is : (rs : List Record) (i k : ℕ) → length_of rs i ≡ Some k → seen_at rs i ≡ k
+seen_is : (rs : List Record) (i k : ℕ) → named_length rs i ≡ Some k → seen_at rs i ≡ k
 seen_is rs i k names = is (slice_get rs i) refl
   where
     is : (o : Option Record) → slice_get rs i ≡ o → seen_at rs i ≡ k
@@ -91,7 +91,7 @@ seen_is rs i k names = is (slice_get rs i) refl
         ∙ same_Some r.seen k (sym (ap (option_map (λ (q : Record). q.seen)) e) ∙ names)
 
 -- no record names a greater length than there are entries
-pub length_within : (rs : List Record) (i k : ℕ) → IsFreeOf rs LengthAhead → length_of rs i ≡ Some k
+pub length_within : (rs : List Record) (i k : ℕ) → IsFreeOf rs LengthAhead → named_length rs i ≡ Some k
     → k ≤ entries_in rs
 length_within rs i k reached names = elim (cases_lt (entries_in rs) (seen_at rs i)) [
   | inl past ↦ absurd (reached i (length_ahead (ledger_length past)))
@@ -104,7 +104,7 @@ no_some (Some k) none = absurd (none k refl)
 
 -- the length that the record at a place names
 pub names_length : (rs : List Record) (i seen : ℕ) → i < length rs → seen ≡ seen_at rs i
-    → length_of rs i ≡ Some seen
+    → named_length rs i ≡ Some seen
 names_length rs i seen within is = elim (slice_get_cases rs i).1 [
   | inl (r, inside, stands, same) ↦
       ap (option_map (λ (q : Record). q.seen)) stands

@@ -10,14 +10,14 @@ use Rattle.ompt_events.specs.Places.{at, seen_at}
 use Rattle.ompt_events.specs.HappensBefore.{IsFinishing}
 use Rattle.ompt_events.specs.Causes.{entries_in, ledger_length, length_ahead, IsFreeOf}
 use Rattle.ompt_events.proofs.HappensBeforeLemmas.{finishing_within}
-use Rattle.checker.specs.Entries.{AreMakers}
+use Rattle.checker.specs.Entries.{AreEntryPlaces}
 use Rattle.checker.specs.Merge.{Stands, IsUnplaced, IsLow}
 use Rattle.checker.proofs.MergeLemmas.{stands_same}
 
 -- a finishing record whose entry was not named before
-pub makers_more : (rs : List Record) (n seen : ℕ) (old new : List ℕ) → AreMakers rs n old → n < length rs
+pub makers_more : (rs : List Record) (n seen : ℕ) (old new : List ℕ) → AreEntryPlaces rs n old → n < length rs
     → IsFinishing rs n → seen_at rs n ≡ seen → (seen < length old → length rs ≤ slice_index old seen)
-    → new ≡ set old seen n → AreMakers rs (n + 1) new
+    → new ≡ set old seen n → AreEntryPlaces rs (n + 1) new
 makers_more rs n seen old new are inside finishes is free noted = rw noted (record {
   each = λ i below finishing low. elim (cases_eq i n) [
     | inl same ↦
@@ -49,7 +49,7 @@ makers_more rs n seen old new are inside finishes is free noted = rw noted (reco
 
 -- the first entry whose record doesn't stand tells the length that is reached
 pub low_reached : (rs : List Record) (placed : List Bool) (makers : List ℕ) (low : ℕ)
-    → AreMakers rs (length rs) makers → length makers ≡ entries_in rs → IsFreeOf rs LengthAhead
+    → AreEntryPlaces rs (length rs) makers → length makers ≡ entries_in rs → IsFreeOf rs LengthAhead
     → length placed ≡ length rs → low ≤ length makers
     → ((k : ℕ) → k < low → slice_index makers k < length placed → Stands placed (slice_index makers k))
     → (low < length makers → IsUnplaced placed (slice_index makers low)) → IsLow rs placed low

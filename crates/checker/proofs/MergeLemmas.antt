@@ -9,7 +9,7 @@ use Rattle.ompt_events.specs.Places.{thread_at, seen_at}
 use Rattle.ompt_events.specs.HappensBefore.{thread_order, IsStep, program, ledger, HappensBefore, step, chain}
 use Rattle.checker.proofs.ScheduleLemmas.{program_awaits, awaits_before}
 use Rattle.checker.specs.Schedule.{EachAwaitsOne}
-use Rattle.checker.specs.Merge.{AreClosed, Stands, MayFollow, AreHeads, IsLow, IsReadyHead}
+use Rattle.checker.specs.Merge.{IsPlacedPrefix, Stands, MayStandNext, AreHeads, IsLow, IsReadyHead}
 
 pub stands_same : (placed : List Bool) (a b : ℕ) → a ≡ b → Stands placed a → Stands placed b
 stands_same placed a b same stands = ap (slice_get placed) (sym same) ∙ stands
@@ -24,11 +24,11 @@ stands_or_not placed i = stands (slice_get placed i)
     stands (Some false) = inr (λ e. let b : false ≡ true = same_Some false true e in cc)
 
 -- the head of a thread that passes the test may stand next
-pub may_follow : (rs : List Record) → EachAwaitsOne rs
+pub head_may_stand : (rs : List Record) → EachAwaitsOne rs
     → (placed : List Bool) (heads : List ℕ) (low : ℕ) (thread head : ℕ) → AreHeads rs placed heads
     → IsLow rs placed low → thread < length heads → slice_index heads thread ≡ head
-    → IsReadyHead rs placed low head → MayFollow rs placed head
-may_follow rs facts placed heads low thread head are is_low inside is ready = record {
+    → IsReadyHead rs placed low head → MayStandNext rs placed head
+head_may_stand rs facts placed heads low thread head are is_low inside is ready = record {
   within = ready.within;
   missing =
       λ standing.
@@ -48,7 +48,7 @@ may_follow rs facts placed heads low thread head are is_low inside is ready = re
         is_low.below a finishes (let bound = ready.is_entered in omega (arith, bound, less))
 
 -- where each step leads from a record that stands, all that happens before stands
-all_before : (rs : List Record) (placed : List Bool) (a i : ℕ) → AreClosed rs placed
+all_before : (rs : List Record) (placed : List Bool) (a i : ℕ) → IsPlacedPrefix rs placed
     → ((c : ℕ) → IsStep rs c i → Stands placed c) → HappensBefore rs a i → Stands placed a
 all_before rs placed a i closed steps (step s) = steps a s
 all_before rs placed a i closed steps (chain {b = mid} first second) =
@@ -56,7 +56,7 @@ all_before rs placed a i closed steps (chain {b = mid} first second) =
 
 -- a record that may stand next passes the test
 pub ready_head : (rs : List Record) (placed : List Bool) (low : ℕ) (i : ℕ) → EachAwaitsOne rs
-    → AreClosed rs placed → IsLow rs placed low → MayFollow rs placed i → IsReadyHead rs placed low i
+    → IsPlacedPrefix rs placed → IsLow rs placed low → MayStandNext rs placed i → IsReadyHead rs placed low i
 ready_head rs placed low i facts closed is_low may = record {
   within = may.within;
   is_let = λ c awaits. all_before rs placed c i closed may.steps (awaits_before rs i c facts awaits);
@@ -70,7 +70,7 @@ ready_head rs placed low i facts closed is_low may = record {
 
 -- and is the head of its thread
 pub is_head : (rs : List Record) (placed : List Bool) (heads : List ℕ) (i thread : ℕ)
-    → AreHeads rs placed heads → thread_at rs i ≡ Some thread → MayFollow rs placed i
+    → AreHeads rs placed heads → thread_at rs i ≡ Some thread → MayStandNext rs placed i
     → slice_index heads thread ≡ i
 is_head rs placed heads i thread are runs may = elim (cases_lt i (slice_index heads thread)) [
   | inl below ↦ absurd (may.missing (are.below thread i runs below))

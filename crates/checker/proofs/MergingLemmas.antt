@@ -25,9 +25,9 @@ use Rattle.ompt_events.specs.Causes.{HasCause, no_order, HasNoOrder, IsFreeOf}
 use Rattle.ompt_events.specs.Faults.{FindsFirst}
 use Rattle.ompt_events.specs.Linearization.{IsDue, IsReady, IsFirstReady, IsGreedy, IsGrounded}
 use Rattle.ompt_events.specs.Linearization.{IsLinearization}
-use Rattle.checker.specs.Merge.{AreClosed, Stands, IsFirstUnplaced, MayFollow, AreHeads, AreInTurn}
-use Rattle.checker.specs.Merge.{IsGreedyBehind, AreStanding}
-use Rattle.checker.specs.Lists.{AreLists, IsNextWith, IsRising}
+use Rattle.checker.specs.Merge.{IsPlacedPrefix, Stands, IsFirstUnplaced, MayStandNext, AreHeads, AreInTurn}
+use Rattle.checker.specs.Merge.{IsGreedyBehind, ArePlaced}
+use Rattle.checker.specs.Lists.{AreLists, IsNextWith, LeadsOn}
 use Rattle.checker.proofs.MergeLemmas.{stands_or_not, is_head}
 use Rattle.ompt_events.proofs.LinearizationLemmas.{IsClosed, due_from_steps, grounded_rising}
 use Rattle.ompt_events.proofs.HappensBeforeLemmas.{before_to, before_from}
@@ -120,7 +120,7 @@ each_more P order place each next k below = elim (cases_lt k (length order)) [
 
 -- what stands does so with all that happens before it
 pub standing_closed : (rs : List Record) (placed : List Bool) (heads links order : List ℕ)
-    → AreStanding rs placed heads links order → AreClosed rs placed
+    → ArePlaced rs placed heads links order → IsPlacedPrefix rs placed
 standing_closed rs placed heads links order standing a b before stands =
     standing.from_order a (turn_closed rs order standing.in_turn b (standing.to_order b stands) a before)
 
@@ -129,8 +129,8 @@ contains_none i (k, below, is) = absurd (omega arith)
 
 pub none_standing : (rs : List Record) (heads links : List ℕ) (placed : List Bool)
     → placed ≡ replicate (length rs) false → AreLists (thread_at rs) (length rs) 0 heads links
-    → ((i thread : ℕ) → thread_at rs i ≡ Some thread → thread < length heads) → IsRising (length rs) links
-    → AreStanding rs placed heads links []
+    → ((i thread : ℕ) → thread_at rs i ≡ Some thread → thread < length heads) → LeadsOn (length rs) links
+    → ArePlaced rs placed heads links []
 none_standing rs heads links placed is lists all rising = rw is (record {
   all = length-replicate (length rs) false;
   to_order = λ i stands. absurd (none_stands (length rs) i stands);
@@ -153,7 +153,7 @@ none_standing rs heads links placed is lists all rising = rw is (record {
 
 -- the heads after the head of a thread was placed
 heads_more : (rs : List Record) (placed : List Bool) (heads links order : List ℕ) (place thread next : ℕ)
-    → AreStanding rs placed heads links order → MayFollow rs placed place → thread_at rs place ≡ Some thread
+    → ArePlaced rs placed heads links order → MayStandNext rs placed place → thread_at rs place ≡ Some thread
     → IsNextWith (thread_at rs) (length rs) thread (place + 1) next
     → AreHeads rs (set placed place true) (set heads thread next)
 heads_more rs placed heads links order place thread next merging may runs is_next = record {
@@ -223,8 +223,8 @@ heads_more rs placed heads links order place thread next merging may runs is_nex
 
 -- one more record stands, which may stand next
 pub standing_more : (rs : List Record) (placed : List Bool) (heads links order : List ℕ) (place thread : ℕ)
-    → AreStanding rs placed heads links order → MayFollow rs placed place → thread_at rs place ≡ Some thread
-    → AreStanding rs (set placed place true) (set heads thread (slice_index links place)) links
+    → ArePlaced rs placed heads links order → MayStandNext rs placed place → thread_at rs place ≡ Some thread
+    → ArePlaced rs (set placed place true) (set heads thread (slice_index links place)) links
     (order ++ place ∷ [])
 standing_more rs placed heads links order place thread standing may runs = record {
   all = length-set placed place true ∙ standing.all;
@@ -298,7 +298,7 @@ standing_more rs placed heads links order place thread standing may runs = recor
 
 -- what may stand next in the list may follow what stands
 pub ready_follows : (rs : List Record) (placed : List Bool) (heads links order : List ℕ) (place : ℕ)
-    → AreStanding rs placed heads links order → IsReady rs (λ _. ⊤) order place → MayFollow rs placed place
+    → ArePlaced rs placed heads links order → IsReady rs (λ _. ⊤) order place → MayStandNext rs placed place
 ready_follows rs placed heads links order place standing ready = record {
   within = ready.within;
   missing = λ stands. ready.missing (standing.to_order place stands);
@@ -307,11 +307,11 @@ ready_follows rs placed heads links order place standing ready = record {
 
 -- the base stands, and behind it the order goes on greedily
 pub record IsMerging (rs : List Record) (placed : List Bool) (heads links base order : List ℕ) : Type 0 where
-  pub standing : AreStanding rs placed heads links order
+  pub standing : ArePlaced rs placed heads links order
   pub behind : IsGreedyBehind rs base order
 
 pub merging_start : (rs : List Record) (placed : List Bool) (heads links base : List ℕ)
-    → AreStanding rs placed heads links base → IsMerging rs placed heads links base base
+    → ArePlaced rs placed heads links base → IsMerging rs placed heads links base base
 merging_start rs placed heads links base standing = record {
   standing = standing;
   behind = record {
@@ -324,8 +324,8 @@ merging_start rs placed heads links base standing = record {
 -- the first record that may follow
 pub merging_more : (rs : List Record) (placed : List Bool) (heads links base order : List ℕ)
     (place thread : ℕ)
-    → IsMerging rs placed heads links base order → MayFollow rs placed place
-    → ((i : ℕ) → i < place → MayFollow rs placed i → ⊥) → thread_at rs place ≡ Some thread
+    → IsMerging rs placed heads links base order → MayStandNext rs placed place
+    → ((i : ℕ) → i < place → MayStandNext rs placed i → ⊥) → thread_at rs place ≡ Some thread
     → IsMerging rs (set placed place true) (set heads thread (slice_index links place)) links base
     (order ++ place ∷ [])
 merging_more rs placed heads links base order place thread merging may first runs = record {
@@ -342,7 +342,7 @@ merging_more rs placed heads links base order place thread merging may first run
   };
 }
   where
-    now : AreStanding rs (set placed place true) (set heads thread (slice_index links place)) links
+    now : ArePlaced rs (set placed place true) (set heads thread (slice_index links place)) links
         (order ++ place ∷ [])
     now = standing_more rs placed heads links order place thread merging.standing may runs
 
@@ -364,14 +364,14 @@ merging_more rs placed heads links base order place thread merging may first run
 
 -- where no record may follow, none is ready
 pub none_ready : (rs : List Record) (placed : List Bool) (heads links order : List ℕ)
-    → AreStanding rs placed heads links order → ((i : ℕ) → MayFollow rs placed i → ⊥) → (i : ℕ)
+    → ArePlaced rs placed heads links order → ((i : ℕ) → MayStandNext rs placed i → ⊥) → (i : ℕ)
     → IsReady rs (λ _. ⊤) order i → ⊥
 none_ready rs placed heads links order standing none i ready =
     none i (ready_follows rs placed heads links order i standing ready)
 
 -- with every place filled the order is a linearization
 pub all_ordered : (rs : List Record) (placed : List Bool) (heads links order : List ℕ)
-    → AreStanding rs placed heads links order → ((i : ℕ) → i < length rs → Stands placed i)
+    → ArePlaced rs placed heads links order → ((i : ℕ) → i < length rs → Stands placed i)
     → IsLinearization rs order
 all_ordered rs placed heads links order standing full = record {
   all_once =
@@ -389,13 +389,13 @@ all_ordered rs placed heads links order standing full = record {
 
 -- each record that stands has an order
 pub stands_ordered : (rs : List Record) (placed : List Bool) (heads links order : List ℕ) (i : ℕ)
-    → AreStanding rs placed heads links order → Stands placed i → HasCause rs i NoOrder → ⊥
+    → ArePlaced rs placed heads links order → Stands placed i → HasCause rs i NoOrder → ⊥
 stands_ordered rs placed heads links order i standing stands (no_order h) =
     h.never order (turn_grounded rs order standing.in_turn) (standing.to_order i stands)
 
 -- and where no record may follow, one that doesn't stand has none
 pub missing_unordered : (rs : List Record) (placed : List Bool) (heads links order : List ℕ) (i : ℕ)
-    → AreStanding rs placed heads links order → ((j : ℕ) → MayFollow rs placed j → ⊥) → i < length rs
+    → ArePlaced rs placed heads links order → ((j : ℕ) → MayStandNext rs placed j → ⊥) → i < length rs
     → (Stands placed i → ⊥) → HasNoOrder rs i
 missing_unordered rs placed heads links order i standing none within missing = record {
   within = within;
@@ -409,7 +409,7 @@ missing_unordered rs placed heads links order i standing none within missing = r
 }
   where
     grounded_stands : (rs' : List Record) (placed' : List Bool) (heads' links' order' other : List ℕ)
-        → AreStanding rs' placed' heads' links' order' → ((j : ℕ) → MayFollow rs' placed' j → ⊥)
+        → ArePlaced rs' placed' heads' links' order' → ((j : ℕ) → MayStandNext rs' placed' j → ⊥)
         → IsGrounded rs' other → (n q : ℕ) → q < n → q < length other → slice_index other q < length rs'
         → Contains order' (slice_index other q)
     grounded_stands rs' placed' heads' links' order' other standing' none' grounded zero q below inside real =
@@ -484,7 +484,7 @@ unordered_within rs i (no_order h) = h.within
 -- stand, each
 -- record has one
 pub finds_unordered : (rs : List Record) (placed : List Bool) (heads links order : List ℕ) (found : Option ℕ)
-    → AreStanding rs placed heads links order → ((j : ℕ) → MayFollow rs placed j → ⊥)
+    → ArePlaced rs placed heads links order → ((j : ℕ) → MayStandNext rs placed j → ⊥)
     → MatchOption found ((i : ℕ) → i < length placed → Stands placed i) (IsFirstUnplaced placed)
     → FindsFirst rs NoOrder found
 finds_unordered rs placed heads links order None standing none every =
@@ -502,7 +502,7 @@ finds_unordered rs placed heads links order (Some i) standing none is =
 
 -- where each record has an order, all stand
 pub all_stand : (rs : List Record) (placed : List Bool) (heads links order : List ℕ)
-    → AreStanding rs placed heads links order → ((j : ℕ) → MayFollow rs placed j → ⊥) → IsFreeOf rs NoOrder
+    → ArePlaced rs placed heads links order → ((j : ℕ) → MayStandNext rs placed j → ⊥) → IsFreeOf rs NoOrder
     → (i : ℕ) → i < length rs → Stands placed i
 all_stand rs placed heads links order standing none free i within = elim (stands_or_not placed i) [
   | inl stands ↦ stands

@@ -22,7 +22,7 @@ use Rattle.ompt_events.specs.declared.cause.Cause.TheVariants.{EntryTwice, Lengt
 use Rattle.ompt_events.specs.Causes.{IsFreeOf, ShowsNowhere, IsShownMalformed, share_wrong}
 use Rattle.ompt_events.proofs.PlaceLemmas.{at_within}
 use Rattle.ompt_events.proofs.TurnLemmas.{first_version_tells_none}
-use Rattle.ompt_events.proofs.ListLemmas.{turned}
+use Rattle.ompt_events.proofs.ListLemmas.{iff_flipped}
 use Rattle.task_tree.specs.Rising.{TurnsRise}
 use Rattle.task_tree.proofs.OwnOrderLemmas.{own_place_iff, arranged_get, arranged_length}
 use Rattle.task_tree.proofs.RenamingLemmas.{renamed_covers, renamed_predecessor}
@@ -84,17 +84,17 @@ same = (λ x. x, λ x. x)
 pub alike_back : (a b : Reading) → AreAlike a b → AreAlike b a
 alike_back a b alike = record {
   long = sym alike.long;
-  shows = λ i cause. turned (alike.shows i cause);
-  covers = λ i task. turned (alike.covers i task);
-  depends = λ task other. turned (alike.depends task other);
-  creates = λ i task. turned (alike.creates i task);
-  starts = λ i task. turned (alike.starts i task);
-  completes = λ i task. turned (alike.completes i task);
-  ordered = λ order. turned (alike.ordered order);
-  greedy = λ order. turned (alike.greedy order);
-  earliest = λ i order. turned (alike.earliest i order);
-  complete_at = λ task i. turned (alike.complete_at task i);
-  complete_in = λ order task i. turned (alike.complete_in order task i);
+  shows = λ i cause. iff_flipped (alike.shows i cause);
+  covers = λ i task. iff_flipped (alike.covers i task);
+  depends = λ task other. iff_flipped (alike.depends task other);
+  creates = λ i task. iff_flipped (alike.creates i task);
+  starts = λ i task. iff_flipped (alike.starts i task);
+  completes = λ i task. iff_flipped (alike.completes i task);
+  ordered = λ order. iff_flipped (alike.ordered order);
+  greedy = λ order. iff_flipped (alike.greedy order);
+  earliest = λ i order. iff_flipped (alike.earliest i order);
+  complete_at = λ task i. iff_flipped (alike.complete_at task i);
+  complete_in = λ order task i. iff_flipped (alike.complete_in order task i);
 }
 
 alike_preceded : (a b : Reading) (i task : ℕ) → AreAlike a b → IsPrecededBy a i task → IsPrecededBy b i task

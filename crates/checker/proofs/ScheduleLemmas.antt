@@ -32,7 +32,7 @@ use Rattle.task_tree.proofs.LookupLemmas.{object_calls, root_or_explicit}
 use Rattle.task_tree.specs.Rising.{IsStartOf}
 use Rattle.checker.specs.Schedule.{first_started, awaited, Awaits, awaits_creation, awaits_end}
 use Rattle.checker.specs.Schedule.{IsEarlierOnThread, EachAwaitsOne}
-use Rattle.checker.specs.Merge.{turn_of, key_of}
+use Rattle.checker.specs.Merge.{turn_slot, key_of}
 
 -- ---- single records
 
@@ -415,7 +415,7 @@ called_position tasks (Some task) index apart (k, is, there) = index_first tasks
 pub key_creation : (rs : List Record) (tasks rows : List ℕ) (i index : ℕ) → AreApart tasks
     → Calls tasks (at awaited rs i) (Some index) → key_of tasks rs rows i ≡ Some index
 key_creation rs tasks rows i index apart calls =
-    ap (λ o. option_or o (turn_of tasks rs rows i))
+    ap (λ o. option_or o (turn_slot tasks rs rows i))
     (called_position tasks (at awaited rs i) index apart calls)
 
 pub key_turn : (rs : List Record) (tasks rows : List ℕ) (i index turn : ℕ) → EachAwaitsOne rs → AreApart tasks
@@ -424,7 +424,7 @@ pub key_turn : (rs : List Record) (tasks rows : List ℕ) (i index turn : ℕ) �
 key_turn rs tasks rows i index turn facts apart begins later =
     ap
     (λ o.
-    option_or (option_and_then (λ task. position (λ t. t == task) tasks) o) (turn_of tasks rs rows i))
+    option_or (option_and_then (λ task. position (λ t. t == task) tasks) o) (turn_slot tasks rs rows i))
     (later_awaits_none rs i begins.task turn facts begins.starts later)
     ∙ ap
     (option_and_then

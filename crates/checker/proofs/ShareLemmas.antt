@@ -12,7 +12,7 @@ use Rattle.checker.specs.declared.workers.WorkerFault.{WorkerFault}
 use Rattle.checker.specs.Readings.{Reading, by_task}
 use Rattle.checker.specs.Verdicts.{AreComplete}
 use Rattle.checker.specs.Search.{IsFirstViolation}
-use Rattle.checker.specs.Deciding.{IsViolationAt, AreStops, WorkView, IsWork, IsShared, IsMet, IsFirstOfShare}
+use Rattle.checker.specs.Deciding.{IsViolationAt, AreStops, WorkView, IsWork, IsShared, IsStopMet, IsFirstOfShare}
 use Rattle.checker.specs.Deciding.{IsOutcome, found_by, IsLeastFinding, HaveAllDecided, IsLeastOf}
 use Rattle.checker.proofs.DecidingLemmas.{first_violation, complete_whole}
 
@@ -49,17 +49,17 @@ next_of_share workers worker index (turn, is) =
     (turn + 1, (let more = add-mul turn 1 workers in omega (arith, is, more)))
 
 -- each stop is some worker's
-pub share_of : (workers index : ℕ) → 1 ≤ workers
+pub worker_of_stop : (workers index : ℕ) → 1 ≤ workers
     → (index % workers < workers) × IsShared workers (index % workers) index
-share_of workers index some = (mod-lt index some, (index / workers, sym (mod-add-div' index workers)))
+worker_of_stop workers index some = (mod-lt index some, (index / workers, sym (mod-add-div' index workers)))
 
 -- ---- a worker's search
 
 -- up to its next stop nothing is open where nothing was at this one
 pub met_more : (reading : Reading) (stops : List ℕ) (workers worker stop place : ℕ)
     → slice_get stops stop ≡ Some place → AreComplete reading place → IsShared workers worker stop
-    → ((index : ℕ) → index < stop → IsShared workers worker index → IsMet reading stops index) → (index : ℕ)
-    → index < stop + workers → IsShared workers worker index → IsMet reading stops index
+    → ((index : ℕ) → index < stop → IsShared workers worker index → IsStopMet reading stops index) → (index : ℕ)
+    → index < stop + workers → IsShared workers worker index → IsStopMet reading stops index
 met_more reading stops workers worker stop place stands complete shared before index below is =
     elim (cases_lt index stop) [
       | inl less ↦ before index less is
@@ -72,8 +72,8 @@ met_more reading stops workers worker stop place stands complete shared before i
 
 -- past the last stop there is nothing to decide
 pub met_whole : (reading : Reading) (stops : List ℕ) (workers worker stop : ℕ) → length stops ≤ stop
-    → ((index : ℕ) → index < stop → IsShared workers worker index → IsMet reading stops index) → (index : ℕ)
-    → IsShared workers worker index → IsMet reading stops index
+    → ((index : ℕ) → index < stop → IsShared workers worker index → IsStopMet reading stops index) → (index : ℕ)
+    → IsShared workers worker index → IsStopMet reading stops index
 met_whole reading stops workers worker stop past before index is place there =
     let inside = slice_get_within stops index place there in
     before index (omega (arith, inside, past)) is place there
@@ -105,7 +105,7 @@ decided_at : (work : WorkView) (may_refuse : ℕ → Type 0) (outcomes : List Ou
     → HaveAllDecided outcomes (length outcomes)
     → ((worker : ℕ) (found : Finding) → worker < length outcomes → found_by outcomes worker ≡ Some found
     → index < found.stop)
-    → IsMet (by_task work.records) work.stops index
+    → IsStopMet (by_task work.records) work.stops index
 decided_at work may_refuse outcomes index is all are decided later =
     of (get_or outcomes worker (Ok None)) (slice_get-get_or outcomes worker (Ok None) inside)
   where
@@ -113,13 +113,13 @@ decided_at work may_refuse outcomes index is all are decided later =
     worker = index % work.workers
 
     share : IsShared work.workers worker index
-    share = (share_of work.workers index is.some).1
+    share = (worker_of_stop work.workers index is.some).1
 
     inside : worker < length outcomes
-    inside = let low = (share_of work.workers index is.some).0 in omega (arith, low, all)
+    inside = let low = (worker_of_stop work.workers index is.some).0 in omega (arith, low, all)
 
     of : (outcome : Outcome) → slice_get outcomes worker ≡ Some outcome
-        → IsMet (by_task work.records) work.stops index
+        → IsStopMet (by_task work.records) work.stops index
     of (Err fault) there = absurd (decided worker fault inside there)
     of (Ok None) there = are worker (Ok None) there index share
     of (Ok (Some found)) there =

@@ -20,12 +20,12 @@ use Rattle.ompt_events.specs.HappensBefore.{IsFinishing}
 use Rattle.ompt_events.specs.Completion.{IsPartFinished, IsFinished, IsCompleteAt, CountsAt, StartsTask}
 use Rattle.task_tree.specs.Numbering.{AreApart}
 use Rattle.trace_ledger.specs.Entries.{IsDone}
-use Rattle.wait_coverage.specs.Done.{IsDoneFrom, AreOwn}
+use Rattle.wait_coverage.specs.Done.{IsDoneFrom, AreOwnLengths}
 use Rattle.checker.specs.Schedule.{first_started}
 use Rattle.checker.proofs.ScheduleLemmas.{first_begun_starts}
 use Rattle.checker.specs.Starts.{IsBound, AreStartsBelow, StartsAt}
 
-pub done_from : (rs : List Record) (tasks own : List ℕ) (index task : ℕ) → AreOwn rs tasks own
+pub done_from : (rs : List Record) (tasks own : List ℕ) (index task : ℕ) → AreOwnLengths rs tasks own
     → slice_get tasks index ≡ Some task → IsDoneFrom rs task (slice_index own index)
 done_from rs tasks own index task are is =
     let inside = slice_get_within tasks index task is in

@@ -18,8 +18,8 @@ use Rattle.task_tree.specs.Family.{FamilyView, IsFamilyOf}
 use Rattle.task_tree.specs.Rising.{IsStartOf}
 use Rattle.checker.specs.declared.suspensions.Suspensions.{Suspensions}
 use Rattle.checker.specs.Schedule.{Awaits, awaits_creation, awaits_end, EachAwaitsOne}
-use Rattle.checker.specs.Suspensions.{IsEndOf, BeginsNoLater, HasSlot, AreRows, HaveRoom, AreLengths}
-use Rattle.checker.specs.Suspensions.{IsSlotBehind, HasNoSlotBehind, IsEndBefore, AreEnds, AreSuspensions}
+use Rattle.checker.specs.Suspensions.{IsEndOf, BeginsNoLater, HasSlot, AreRowsInOrder, HaveSlots, AreRowLengths}
+use Rattle.checker.specs.Suspensions.{IsSlotBehind, HasNoSlotBehind, IsEndBefore, AreTurnEnds, AreSuspensions}
 use Rattle.checker.specs.Merge.{key_of}
 use Rattle.checker.proofs.ScheduleLemmas.{later_awaits_none, created_suspends, begun_index, key_creation}
 use Rattle.checker.proofs.ScheduleLemmas.{key_turn}
@@ -35,7 +35,7 @@ has_row rows index turn has = elim (cases_lt (index + 1) (length rows)) [
       absurd (omega (arith, has, none))
 ]
 
-rows_rise : (rows : List ℕ) (a b : ℕ) → AreRows rows → a ≤ b → b < length rows
+rows_rise : (rows : List ℕ) (a b : ℕ) → AreRowsInOrder rows → a ≤ b → b < length rows
     → slice_index rows a ≤ slice_index rows b
 rows_rise rows a zero rise low inside =
     let same : a ≡ 0 = omega arith in let e = ap (slice_index rows) same in omega (arith, e)
@@ -49,7 +49,7 @@ rows_rise rows a (suc b) rise low inside = elim (cases_eq a (suc b)) [
 ]
 
 -- no two turns have one slot
-pub slots_apart : (rows : List ℕ) (one first other second : ℕ) → AreRows rows → HasSlot rows one first
+pub slots_apart : (rows : List ℕ) (one first other second : ℕ) → AreRowsInOrder rows → HasSlot rows one first
     → HasSlot rows other second → slice_index rows one + first ≡ slice_index rows other + second
     → (one ≡ other) × (first ≡ second)
 slots_apart rows one first other second rise has has' same = elim (cases_order one other) [
@@ -72,7 +72,7 @@ slot_within rows index turn n has within = let end = within (index + 1) in omega
 -- ---- slots
 
 pub ends_start : (rs : List Record) (tasks rows : List ℕ) (n : ℕ) → ((k : ℕ) → slice_index rows k ≤ n)
-    → AreEnds rs 0 tasks rows (replicate n (length rs))
+    → AreTurnEnds rs 0 tasks rows (replicate n (length rs))
 ends_start rs tasks rows n within = record {
   only = λ index task turn indexed has below.
       let empty : slice_index (replicate n (length rs)) (slice_index rows index + turn) ≡ length rs =
@@ -83,7 +83,7 @@ ends_start rs tasks rows n within = record {
 }
 
 pub ends_other : (rs : List Record) (n : ℕ) (tasks rows places : List ℕ) → HasNoSlotBehind rs tasks rows n
-    → AreEnds rs n tasks rows places → AreEnds rs (n + 1) tasks rows places
+    → AreTurnEnds rs n tasks rows places → AreTurnEnds rs (n + 1) tasks rows places
 ends_other rs n tasks rows places none are = record {
   only = are.only;
   all = λ i slot below is. elim (cases_eq i n) [
@@ -134,8 +134,8 @@ slot_once rs tasks rows i one other apart a b =
     omega (arith, row, turn, is, is')
 
 pub ends_more : (rs : List Record) (n slot : ℕ) (tasks rows places : List ℕ) → n < length rs → AreApart tasks
-    → AreRows rows → slot < length places → IsSlotBehind rs tasks rows n slot → AreEnds rs n tasks rows places
-    → AreEnds rs (n + 1) tasks rows (set places slot n)
+    → AreRowsInOrder rows → slot < length places → IsSlotBehind rs tasks rows n slot → AreTurnEnds rs n tasks rows places
+    → AreTurnEnds rs (n + 1) tasks rows (set places slot n)
 ends_more rs n slot tasks rows places within apart rise inside is are = record {
   only = only;
   all = λ i other below behind. elim (cases_eq other slot) [
@@ -186,7 +186,7 @@ ends_more rs n slot tasks rows places within apart rise inside is are = record {
 -- ---- the end that is awaited
 
 -- the slot behind the end before a turn is the slot of the turn
-slot_before : (rs : List Record) (tasks rows : List ℕ) (i index turn c : ℕ) → HaveRoom rs tasks rows
+slot_before : (rs : List Record) (tasks rows : List ℕ) (i index turn c : ℕ) → HaveSlots rs tasks rows
     → (begins : IsStartOf rs tasks i index turn) → 0 < turn → (again : IsResumption rs c i)
     → IsExplicit rs again.task → IsSlotBehind rs tasks rows c (slice_index rows index + turn)
 slot_before rs tasks rows i index turn c room begins later again explicit =
@@ -344,11 +344,11 @@ no_key rs family known i c are is none no_slot (awaits_end again explicit) =
 
 -- ---- how long each row is
 
-pub lengths_start : (rs : List Record) (tasks lengths : List ℕ) → AreLengths rs 0 tasks lengths
+pub lengths_start : (rs : List Record) (tasks lengths : List ℕ) → AreRowLengths rs 0 tasks lengths
 lengths_start rs tasks lengths i index turn below begins = absurd (omega (arith, below))
 
 pub lengths_other : (rs : List Record) (n : ℕ) (tasks lengths : List ℕ) → at begun_turn rs n ≡ None
-    → AreLengths rs n tasks lengths → AreLengths rs (n + 1) tasks lengths
+    → AreRowLengths rs n tasks lengths → AreRowLengths rs (n + 1) tasks lengths
 lengths_other rs n tasks lengths none are i index turn below begins = elim (cases_eq i n) [
   | inl same ↦
       absurd (none-some (begins.task, turn) (sym none ∙ ap (at begun_turn rs) (sym same) ∙ begins.starts))
@@ -357,7 +357,7 @@ lengths_other rs n tasks lengths none are i index turn below begins = elim (case
 
 pub lengths_more : (rs : List Record) (n index turn long : ℕ) (tasks lengths : List ℕ) → AreApart tasks
     → IsStartOf rs tasks n index turn → index < length lengths → slice_index lengths index ≤ long
-    → turn < long → AreLengths rs n tasks lengths → AreLengths rs (n + 1) tasks (set lengths index long)
+    → turn < long → AreRowLengths rs n tasks lengths → AreRowLengths rs (n + 1) tasks (set lengths index long)
 lengths_more rs n index turn long tasks lengths apart begins inside kept more are i other later below begins'
     =
     elim (cases_eq other index) [
@@ -399,7 +399,7 @@ pub record AreLaid (n : ℕ) (lengths rows : List ℕ) : Type 0 where
       → slice_index rows (index + 1) ≡ slice_index rows index + slice_index lengths index
 
 pub laid_room : (rs : List Record) (tasks lengths rows : List ℕ) (n : ℕ) → length tasks ≤ n
-    → AreLaid n lengths rows → AreLengths rs (length rs) tasks lengths → HaveRoom rs tasks rows
+    → AreLaid n lengths rows → AreRowLengths rs (length rs) tasks lengths → HaveSlots rs tasks rows
 laid_room rs tasks lengths rows n all are long i index turn begins later =
     let more = long i index turn (at_within begun_turn rs i (begins.task, turn) begins.starts) begins in
     let inside = slice_get_within tasks index begins.task begins.indexed in
@@ -407,7 +407,7 @@ laid_room rs tasks lengths rows n all are long i index turn begins later =
     omega (arith, next, more)
 
 -- the slots are as many as the end of the rows
-pub rows_within : (rows : List ℕ) (last n : ℕ) → AreRows rows → last + 1 ≡ length rows
+pub rows_within : (rows : List ℕ) (last n : ℕ) → AreRowsInOrder rows → last + 1 ≡ length rows
     → slice_index rows last ≡ n → (index : ℕ) → slice_index rows index ≤ n
 rows_within rows last n rise all is index = elim (cases_lt index (length rows)) [
   | inl inside ↦

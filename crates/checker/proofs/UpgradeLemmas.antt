@@ -84,8 +84,8 @@ upgrade_twins rs ss upgrade =
 abbrev starts_in : List Record → ℕ → ℕ → ℕ
 starts_in rs n task = count_by (λ (r : Record). is_task task (started r.body)) (take n rs)
 
-abbrev first_of : List Record → ℕ → ℕ
-first_of rs task = if is_made_so (λ b. is_task task (begun_root b)) rs then 1 else 0
+abbrev first_turn_of : List Record → ℕ → ℕ
+first_turn_of rs task = if is_made_so (λ b. is_task task (begun_root b)) rs then 1 else 0
 
 -- where a task runs next the count goes on
 starts_here : (rs : List Record) (task k : ℕ) → at started rs k ≡ Some task
@@ -190,7 +190,7 @@ made_root rs task = by (find (λ (q : Record). is_task task (begun_root q.body))
 
 pub root_counted : (rs : List Record) (task i : ℕ) → IsRoot rs task → 0 < turn_counted rs i task
 root_counted rs task i root =
-    let one : first_of rs task ≡ 1 = ap (λ (b : Bool). cond {A = ℕ} b 1 0) (root_made rs task root) in
+    let one : first_turn_of rs task ≡ 1 = ap (λ (b : Bool). cond {A = ℕ} b 1 0) (root_made rs task root) in
     omega (arith, one)
 
 -- the first turn that is counted of another task is 0
@@ -208,7 +208,7 @@ first_counted rs task i not_root none = from i none
     from : (n : ℕ) → ((k : ℕ) → k < n → at started rs k ≢ Some task) → turn_counted rs n task ≡ 0
     from zero never =
         let none : starts_in rs 0 task ≡ 0 = refl in
-        let first : first_of rs task ≡ 0 = ap (λ (b : Bool). cond {A = ℕ} b 1 0) other in
+        let first : first_turn_of rs task ≡ 0 = ap (λ (b : Bool). cond {A = ℕ} b 1 0) other in
         omega (arith, none, first)
     from (suc n) never =
         let next : suc n ≡ n + 1 = omega arith in

@@ -27,7 +27,7 @@ use Rattle.ompt_events.specs.Upgrades.{turn_counted, IsUpgrade}
 use Rattle.ompt_events.proofs.PlaceLemmas.{at_within, contains_place, is_the_task, the_task}
 use Rattle.ompt_events.proofs.TurnLemmas.{begun_started, start_first, is_start_untold, no_resumption}
 use Rattle.ompt_events.proofs.ListLemmas.{all_get}
-use Rattle.task_tree.specs.Rising.{TurnsRise, AreInOrder}
+use Rattle.task_tree.specs.Rising.{TurnsRise, AreTurnsInOrder}
 use Rattle.task_tree.proofs.BlindLemmas.{blind_running, blind_begun_root}
 use Rattle.task_tree.proofs.SuspendedLemmas.{part_of, part_keeps}
 use Rattle.task_tree.proofs.RisingPassLemmas.{turn_here, in_order_rise, explicit_not_root}
@@ -159,7 +159,7 @@ own_low rs ss task i k later known below says (runs before) =
     omega (arith, turn_there rs ss task i k known says below there.0, there.1)
 own_low rs ss task i k later known below says (is_root first) = omega arith
 
-upgrade_in_order : (rs ss : List Record) → IsStillUpgrade rs ss → AreInOrder ss
+upgrade_in_order : (rs ss : List Record) → IsStillUpgrade rs ss → AreTurnsInOrder ss
 upgrade_in_order rs ss known i = record {
   own = λ task says k later below begins. own_low rs ss task i k later known below says begins;
   begins =

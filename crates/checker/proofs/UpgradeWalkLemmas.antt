@@ -30,18 +30,18 @@ abbrev pub BeganOn : List Record → ℕ → ℕ → ℕ → Type 0
 BeganOn rs thread n task =
     (k : ℕ) × (k < n) × (at begun_root rs k ≡ Some task) × (thread_at rs k ≡ Some thread)
 
-abbrev pub RanOn : List Record → ℕ → ℕ → ℕ → Type 0
-RanOn rs thread n task = (k : ℕ) × (k < n) × (at started rs k ≡ Some task) × (thread_at rs k ≡ Some thread)
+abbrev pub RanOnThread : List Record → ℕ → ℕ → ℕ → Type 0
+RanOnThread rs thread n task = (k : ℕ) × (k < n) × (at started rs k ≡ Some task) × (thread_at rs k ≡ Some thread)
 
 -- the open roots of the walk began so, and so did the task that runs, or it ran next
 record IsWalkFrom (rs : List Record) (thread n : ℕ) (walk : Walk) : Type 0 where
   roots : Every (BeganOn rs thread n) walk.roots
-  current : (task : ℕ) → walk.current ≡ Some task → BeganOn rs thread n task ⊎ RanOn rs thread n task
+  current : (task : ℕ) → walk.current ≡ Some task → BeganOn rs thread n task ⊎ RanOnThread rs thread n task
 
 -- what the record at n adds
 record AddsTo (rs : List Record) (thread n : ℕ) (b : Body) : Type 0 where
   begins : (task : ℕ) → begun_root b ≡ Some task → BeganOn rs thread (n + 1) task
-  starts : (task : ℕ) → started b ≡ Some task → RanOn rs thread (n + 1) task
+  starts : (task : ℕ) → started b ≡ Some task → RanOnThread rs thread (n + 1) task
 
 began_more : (rs : List Record) (thread n task : ℕ) → BeganOn rs thread n task
     → BeganOn rs thread (n + 1) task
@@ -116,7 +116,7 @@ pub record IsThere (rs : List Record) (i : ℕ) (known : ℕ → Type 0) : Type 
   pub is_known : known thread
 
 pub running_from : (rs : List Record) (i task : ℕ) → IsFreeOf rs NotCurrent → at running rs i ≡ Some task
-    → IsThere rs i (λ thread. BeganOn rs thread i task ⊎ RanOn rs thread i task)
+    → IsThere rs i (λ thread. BeganOn rs thread i task ⊎ RanOnThread rs thread i task)
 running_from rs i task current says =
     let (r, stands, is) = get_at running rs i task says in
     record {

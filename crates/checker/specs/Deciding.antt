@@ -59,8 +59,8 @@ abbrev pub IsShared : ℕ → ℕ → ℕ → Type 0
 IsShared workers worker index = (turn : ℕ) × (index ≡ worker + turn * workers)
 
 -- at the stop with this index what must be complete is
-abbrev pub IsMet : Reading → List ℕ → ℕ → Type 0
-IsMet reading stops index = (place : ℕ) → slice_get stops index ≡ Some place → AreComplete reading place
+abbrev pub IsStopMet : Reading → List ℕ → ℕ → Type 0
+IsStopMet reading stops index = (place : ℕ) → slice_get stops index ≡ Some place → AreComplete reading place
 
 -- the first of the worker's stops at which something is unfinished
 pub record IsFirstOfShare (reading : Reading) (stops : List ℕ) (workers worker : ℕ) (finding : Finding) : Type
@@ -69,12 +69,12 @@ pub record IsFirstOfShare (reading : Reading) (stops : List ℕ) (workers worker
   pub stands : slice_get stops finding.stop ≡ Some place
   pub violation : IsViolationAt reading place finding.why
   pub shared : IsShared workers worker finding.stop
-  pub before : (index : ℕ) → index < finding.stop → IsShared workers worker index → IsMet reading stops index
+  pub before : (index : ℕ) → index < finding.stop → IsShared workers worker index → IsStopMet reading stops index
 
 -- that stop, or all is complete at each of them
 abbrev pub IsFinding : Reading → List ℕ → ℕ → ℕ → Option Finding → Type 0
 IsFinding reading stops workers worker found = MatchOption found
-    ((index : ℕ) → IsShared workers worker index → IsMet reading stops index)
+    ((index : ℕ) → IsShared workers worker index → IsStopMet reading stops index)
     (IsFirstOfShare reading stops workers worker)
 
 -- what a worker answers: its finding, or that memory ran out, or that the gate, which may, refuses it

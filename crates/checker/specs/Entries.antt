@@ -11,7 +11,7 @@ use Rattle.checker.specs.declared.suspensions.Suspensions.{Suspensions}
 
 -- of the first n records each finishing one stands at its entry, where the table has it; where no record
 -- stands, the number of records does
-pub record AreMakers (rs : List Record) (n : ℕ) (makers : List ℕ) : Type 0 where
+pub record AreEntryPlaces (rs : List Record) (n : ℕ) (makers : List ℕ) : Type 0 where
   pub each : (i : ℕ) → i < n → IsFinishing rs i → seen_at rs i < length makers
       → slice_index makers (seen_at rs i) ≡ i
   pub only : (entry : ℕ) → entry < length makers → slice_index makers entry < length rs
@@ -26,7 +26,7 @@ pub record MakersView : Type 0 where
 -- the table has each entry of the run's ledger, whose lengths are those that records name
 pub record IsLedger (ledger : MakersView) : Type 0 where
   pub run : IsRun ledger.run
-  pub makers : AreMakers ledger.run.records (length ledger.run.records) ledger.places
+  pub makers : AreEntryPlaces ledger.run.records (length ledger.run.records) ledger.places
   pub entries : length ledger.places ≡ entries_in ledger.run.records
   pub once : IsFreeOf ledger.run.records EntryTwice
   pub reached : IsFreeOf ledger.run.records LengthAhead

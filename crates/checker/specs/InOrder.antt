@@ -6,7 +6,7 @@ use Rattle.ompt_events.specs.Places.{at, seen_at}
 use Rattle.ompt_events.specs.HappensBefore.{IsFinishing}
 use Rattle.ompt_events.specs.Causes.{entries_in, IsBehind}
 use Rattle.checker.specs.declared.in_order.Suspension.{Suspension}
-use Rattle.checker.specs.Lengths.{AreKnown}
+use Rattle.checker.specs.Lengths.{AreKnownLengths}
 use Rattle.checker.specs.Schedule.{Awaits}
 
 -- how many entries the records before this place make
@@ -24,13 +24,13 @@ pub record AreInOrder (rs : List Record) (n entries : ℕ) (known : List ℕ) : 
   pub short : entries ≤ n
   pub fit : (i : ℕ) → i < n → FitsBehind rs i (entries_before rs i)
   pub awaited : (i c : ℕ) → i < n → Awaits rs i c → c < i
-  pub is_known : AreKnown rs n known
+  pub is_known : AreKnownLengths rs n known
   pub free : (k : ℕ) → k < n → IsBehind rs k → ⊥
 
 -- what is kept of a task is a record at which it is suspended, and the turn that ends there; or the number of
 -- records
-abbrev pub AreLast : List Record → List ℕ → List Suspension → Type 0
-AreLast rs tasks lasts =
+abbrev pub AreLastSuspensions : List Record → List ℕ → List Suspension → Type 0
+AreLastSuspensions rs tasks lasts =
     (index task : ℕ) (last : Suspension) → slice_get tasks index ≡ Some task
     → slice_get lasts index ≡ Some last → last.place < length rs
     → at suspended_turn rs last.place ≡ Some (task, last.turn)

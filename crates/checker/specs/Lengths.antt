@@ -10,7 +10,7 @@ abbrev pub PrecedesAwaited : List Record → ℕ → Type 0
 PrecedesAwaited rs i = (c : ℕ) × Awaits rs i c × (seen_at rs i < seen_at rs c)
 
 -- what each thread knew last, by its first n records: none of these knew more
-pub record AreKnown (rs : List Record) (n : ℕ) (known : List ℕ) : Type 0 where
+pub record AreKnownLengths (rs : List Record) (n : ℕ) (known : List ℕ) : Type 0 where
   pub all : length known ≡ 256
   pub most : (k thread : ℕ) → k < n → thread_at rs k ≡ Some thread
       → known_after rs k ≤ slice_index_or known thread 0

@@ -15,6 +15,6 @@ pub record AreLists (key : ℕ → Option ℕ) (n from : ℕ) (firsts nexts : Li
       → IsNextWith key n k (i + 1) (slice_index nexts i)
 
 -- each of n places has a later one behind it, or the end
-pub record IsRising (n : ℕ) (nexts : List ℕ) : Type 0 where
+pub record LeadsOn (n : ℕ) (nexts : List ℕ) : Type 0 where
   pub all : length nexts ≡ n
   pub later : (i : ℕ) → i < n → i < slice_index nexts i

@@ -7,7 +7,7 @@ use Rattle.ompt_events.specs.Places.{seen_at}
 use Rattle.ompt_events.specs.HappensBefore.{IsFinishing}
 use Rattle.ompt_events.specs.Causes.{entries_in}
 use Rattle.checker.specs.declared.makers.Named.{Named}
-use Rattle.checker.specs.Entries.{AreMakers}
+use Rattle.checker.specs.Entries.{AreEntryPlaces}
 
 -- whether the entry is named so far: of so many records the table has one at it
 abbrev pub is_named : ℕ → Named → ℕ → Bool
@@ -20,12 +20,12 @@ abbrev pub IsMadeBelow : List Record → ℕ → ℕ → Type 0
 IsMadeBelow rs n entry = (k : ℕ) × (k < n) × IsFinishing rs k × (seen_at rs k ≡ entry)
 
 -- just the entries of the first n records are named
-abbrev pub AreNamed : List Record → ℕ → Named → Type 0
-AreNamed rs n named =
+abbrev pub AreEntriesNamed : List Record → ℕ → Named → Type 0
+AreEntriesNamed rs n named =
     (entry : ℕ) → (is_named (length rs) named entry ≡ true) ↔ IsMadeBelow rs n entry
 
 -- and each by the record that makes it, in a table that has room for the whole ledger
 pub record IsNaming (rs : List Record) (n : ℕ) (told : Named) : Type 0 where
   pub all : length told.makers.items ≡ entries_in rs
-  pub named : AreNamed rs n told
-  pub makers : AreMakers rs n told.makers.items
+  pub named : AreEntriesNamed rs n told
+  pub makers : AreEntryPlaces rs n told.makers.items

@@ -11,7 +11,7 @@ use Rattle.ompt_events.specs.HappensBefore.{IsFinishing, IsStep, HappensBefore}
 use Rattle.ompt_events.specs.Linearization.{IsReady, IsGreedyAfter}
 use Rattle.ompt_events.specs.Causes.{entries_in}
 use Rattle.task_tree.specs.Family.{FamilyView, IsFamilyOf}
-use Rattle.checker.specs.Lists.{AreLists, IsNextWith, IsRising}
+use Rattle.checker.specs.Lists.{AreLists, IsNextWith, LeadsOn}
 use Rattle.checker.specs.Schedule.{awaited, Awaits}
 use Rattle.checker.specs.Suspensions.{AreSuspensions}
 use Rattle.checker.specs.declared.suspensions.Suspensions.{Suspensions}
@@ -22,11 +22,11 @@ abbrev pub Stands : List Bool → ℕ → Type 0
 Stands placed i = slice_get placed i ≡ Some true
 
 -- with a record that stands all stand that happen before it
-abbrev pub AreClosed : List Record → List Bool → Type 0
-AreClosed rs placed = (a b : ℕ) → HappensBefore rs a b → Stands placed b → Stands placed a
+abbrev pub IsPlacedPrefix : List Record → List Bool → Type 0
+IsPlacedPrefix rs placed = (a b : ℕ) → HappensBefore rs a b → Stands placed b → Stands placed a
 
 -- the record may stand next: it doesn't stand yet, and each step that leads to it starts at one that does
-pub record MayFollow (rs : List Record) (placed : List Bool) (i : ℕ) : Type 0 where
+pub record MayStandNext (rs : List Record) (placed : List Bool) (i : ℕ) : Type 0 where
   pub within : i < length rs
   pub missing : Stands placed i → ⊥
   pub steps : (a : ℕ) → IsStep rs a i → Stands placed a
@@ -54,14 +54,14 @@ pub record IsGreedyBehind (rs : List Record) (base order : List ℕ) : Type 0 wh
 -- just those of the order stand, of each thread up to its head, and the links lead from each record to the
 -- next
 -- one of its thread
-pub record AreStanding (rs : List Record) (placed : List Bool) (heads links order : List ℕ) : Type 0 where
+pub record ArePlaced (rs : List Record) (placed : List Bool) (heads links order : List ℕ) : Type 0 where
   pub all : length placed ≡ length rs
   pub to_order : (i : ℕ) → Stands placed i → Contains order i
   pub from_order : (i : ℕ) → Contains order i → Stands placed i
   pub in_turn : AreInTurn rs order
   pub are_heads : AreHeads rs placed heads
   pub above : (thread i : ℕ) → thread_at rs i ≡ Some thread → Stands placed i → i < slice_index heads thread
-  pub rising : IsRising (length rs) links
+  pub rising : LeadsOn (length rs) links
   pub next : (i thread : ℕ) → i < length rs → thread_at rs i ≡ Some thread
       → IsNextWith (thread_at rs) (length rs) thread (i + 1) (slice_index links i)
   -- the records that are left to place
@@ -97,34 +97,34 @@ pub record IsFront (rs : List Record) (family : FamilyView) (known : Suspensions
     (heads : List ℕ) (low : ℕ) : Type 0 where
   pub family_of : IsFamilyOf rs family
   pub suspended : AreSuspensions rs family.tasks known
-  pub closed : AreClosed rs placed
+  pub closed : IsPlacedPrefix rs placed
   pub are_heads : AreHeads rs placed heads
   pub is_low : IsLow rs placed low
 
 -- the places are those that may stand next, and perhaps some that stand already
 pub record AreOffered (rs : List Record) (placed : List Bool) (ready : List ℕ) : Type 0 where
-  pub all : (i : ℕ) → MayFollow rs placed i → Contains ready i
-  pub only : (i : ℕ) → Contains ready i → Stands placed i ⊎ MayFollow rs placed i
+  pub all : (i : ℕ) → MayStandNext rs placed i → Contains ready i
+  pub only : (i : ℕ) → Contains ready i → Stands placed i ⊎ MayStandNext rs placed i
 
 -- some that may stand next were put to them
 pub record AreMore (rs : List Record) (placed : List Bool) (old new : List ℕ) : Type 0 where
   pub kept : (i : ℕ) → Contains old i → Contains new i
-  pub only : (i : ℕ) → Contains new i → Contains old i ⊎ MayFollow rs placed i
+  pub only : (i : ℕ) → Contains new i → Contains old i ⊎ MayStandNext rs placed i
 
 -- one that may stand next and does not stand was taken from them, the least, and some that stand
-pub record IsTaken (rs : List Record) (placed : List Bool) (place : ℕ) (ready : List ℕ) : Type 0 where
-  pub next : MayFollow rs placed place
-  pub first : (i : ℕ) → i < place → MayFollow rs placed i → ⊥
-  pub kept : (i : ℕ) → i ≢ place → MayFollow rs placed i → Contains ready i
-  pub only : (i : ℕ) → Contains ready i → Stands placed i ⊎ MayFollow rs placed i
+pub record IsPlaceTaken (rs : List Record) (placed : List Bool) (place : ℕ) (ready : List ℕ) : Type 0 where
+  pub next : MayStandNext rs placed place
+  pub first : (i : ℕ) → i < place → MayStandNext rs placed i → ⊥
+  pub kept : (i : ℕ) → i ≢ place → MayStandNext rs placed i → Contains ready i
+  pub only : (i : ℕ) → Contains ready i → Stands placed i ⊎ MayStandNext rs placed i
 
 -- the index of the task whose creation each record awaits
 abbrev pub task_of : List ℕ → List Record → ℕ → Option ℕ
 task_of tasks rs i = option_and_then (λ task. position (λ t. t == task) tasks) (at awaited rs i)
 
 -- behind the indices of all tasks, the slot of the turn that a task begins at each record
-abbrev pub turn_of : List ℕ → List Record → List ℕ → ℕ → Option ℕ
-turn_of tasks rs rows i =
+abbrev pub turn_slot : List ℕ → List Record → List ℕ → ℕ → Option ℕ
+turn_slot tasks rs rows i =
     option_and_then
     (λ (b : ℕ × ℕ). option_map (λ index. length tasks + (slice_index rows index + b.1))
     (position (λ t. t == b.0) tasks))
@@ -132,20 +132,20 @@ turn_of tasks rs rows i =
 
 -- the key of what each record awaits
 abbrev pub key_of : List ℕ → List Record → List ℕ → ℕ → Option ℕ
-key_of tasks rs rows i = option_or (task_of tasks rs i) (turn_of tasks rs rows i)
+key_of tasks rs rows i = option_or (task_of tasks rs i) (turn_slot tasks rs rows i)
 
 -- the ledger length that each record names
-abbrev pub length_of : List Record → ℕ → Option ℕ
-length_of rs i = option_map (λ (r : Record). r.seen) (slice_get rs i)
+abbrev pub named_length : List Record → ℕ → Option ℕ
+named_length rs i = option_map (λ (r : Record). r.seen) (slice_get rs i)
 
 -- the lists are those of the records that await each other one, and that name each ledger length
 pub record AreWaiting (rs : List Record) (tasks : List ℕ) (known : Suspensions)
     (waiting : Waiting) : Type 0 where
   pub awaiting : AreLists (key_of tasks rs known.rows.items) (length rs) 0 waiting.by_key.firsts.items
       waiting.by_key.nexts.items
-  pub naming : AreLists (length_of rs) (length rs) 0 waiting.by_length.firsts.items
+  pub naming : AreLists (named_length rs) (length rs) 0 waiting.by_length.firsts.items
       waiting.by_length.nexts.items
-  pub keys_rise : IsRising (length rs) waiting.by_key.nexts.items
-  pub lengths_rise : IsRising (length rs) waiting.by_length.nexts.items
+  pub keys_rise : LeadsOn (length rs) waiting.by_key.nexts.items
+  pub lengths_rise : LeadsOn (length rs) waiting.by_length.nexts.items
   pub keys : length waiting.by_key.firsts.items ≡ length tasks + length known.places.items
   pub lengths : length waiting.by_length.firsts.items ≡ entries_in rs + 1

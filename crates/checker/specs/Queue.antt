@@ -5,9 +5,9 @@ use Rattle.std.specs.declared.cmp.Ordering.{Ordering}
 use Rattle.std.specs.declared.cmp.Reverse.{Reverse}
 
 -- the places in the heap
-abbrev pub places_of : List (Reverse ℕ) → List ℕ
-places_of = map (λ r. r.0)
+abbrev pub heap_places : List (Reverse ℕ) → List ℕ
+heap_places = map (λ r. r.0)
 
 -- the heap has the least place on top
-abbrev pub later : Reverse ℕ → Reverse ℕ → Ordering
-later a b = nat_cmp b.0 a.0
+abbrev pub later_place : Reverse ℕ → Reverse ℕ → Ordering
+later_place a b = nat_cmp b.0 a.0

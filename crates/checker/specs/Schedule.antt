@@ -55,9 +55,9 @@ pub record EachAwaitsOne (rs : List Record) : Type 0 where
 -- ---- by indices of tasks
 
 -- what the record at i awaits
-abbrev pub IsAwaited : RunView → ℕ → Awaited → Type 0
-IsAwaited run i (Creation index) = IsIndexOf run awaited i (Some index)
-IsAwaited run i (Turn begin) =
+abbrev pub IsAwaitedAt : RunView → ℕ → Awaited → Type 0
+IsAwaitedAt run i (Creation index) = IsIndexOf run awaited i (Some index)
+IsAwaitedAt run i (Turn begin) =
     IsStartOf run.records run.family.tasks i begin.index begin.turn × (0 < begin.turn)
 
 -- it awaits nothing

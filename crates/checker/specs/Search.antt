@@ -63,7 +63,7 @@ pub record IsKnownOf (own : OwnView) (known : KnownView) : Type 0 where
 -- ---- what is known once ordering alone may show a cause
 
 -- the trace shows none of the causes before those of the ledger
-pub record IsSound (run : RunView) : Type 0 where
+pub record IsSoundRun (run : RunView) : Type 0 where
   pub is_run : IsRun run
   pub clear : IsClear run.records (before EntryTwice)
 
@@ -78,7 +78,7 @@ pub record AreOneTrace (run : RunView) (own : OwnView) : Type 0 where
   pub of_file : IsOwnOf run.records own
 
 pub record IsSoundView (view : SoundView) : Type 0 where
-  pub sound : IsSound view.run
+  pub sound : IsSoundRun view.run
   pub one : AreOneTrace view.run view.own
 
 -- ---- the first violation

@@ -13,8 +13,8 @@ use Rattle.ompt_events.specs.Causes.{IsFreeOf}
 use Rattle.task_tree.specs.Runs.{RunView, IsRun}
 use Rattle.task_tree.specs.Own.{OwnView, IsOwn}
 use Rattle.task_tree.specs.Families.{IsOwnOf}
-use Rattle.depend_edges.specs.Edges.{AreLatest}
-use Rattle.wait_coverage.specs.Done.{AreOwn}
+use Rattle.depend_edges.specs.Edges.{ArePredecessorLengths}
+use Rattle.wait_coverage.specs.Done.{AreOwnLengths}
 use Rattle.trace_ledger.specs.Entries.{IsDone}
 use Rattle.checker.specs.declared.starts.Late.{Late}
 use Rattle.checker.specs.Readings.{by_task, IsPrecededBy}
@@ -84,8 +84,8 @@ abbrev pub IsPrecededByNone : List Record → ℕ → Type 0
 IsPrecededByNone rs i = (task : ℕ) → IsPrecededBy (by_task rs) i task → ⊥
 
 -- the entries below the length don't finish this predecessor of the task
-abbrev pub IsBehind : List Record → ℕ → ℕ → ℕ → Type 0
-IsBehind rs task bound predecessor =
+abbrev pub IsUnfinishedPredecessor : List Record → ℕ → ℕ → ℕ → Type 0
+IsUnfinishedPredecessor rs task bound predecessor =
     IsPredecessor rs task predecessor × (IsDone rs bound predecessor → ⊥)
 
 -- they finish each
@@ -96,10 +96,10 @@ AreDoneBefore rs task bound = (predecessor : ℕ) → IsPredecessor rs task pred
 -- of those that they don't finish this one is created first in the file; own has its records in the tasks'
 -- own order
 pub record IsFirstBehind (file own : List Record) (task bound predecessor : ℕ) : Type 0 where
-  pub behind : IsBehind own task bound predecessor
+  pub behind : IsUnfinishedPredecessor own task bound predecessor
   pub creation : ℕ
   pub is_created : at created file creation ≡ Some predecessor
-  pub first : (k other : ℕ) → k < creation → at created file k ≡ Some other → IsBehind own task bound other
+  pub first : (k other : ℕ) → k < creation → at created file k ≡ Some other → IsUnfinishedPredecessor own task bound other
       → ⊥
 
 -- they don't finish the task, which is created at the place in the file
@@ -145,8 +145,8 @@ pub record IsPrecedence (of_edges : RunView) (known : PrecedenceView) : Type 0 w
   pub file : IsRun known.file
   pub is_own : IsOwn known.own
   pub of_file : IsOwnOf known.file.records known.own
-  pub lengths : AreOwn known.own.run.records known.own.run.family.tasks known.lengths
-  pub latest : AreLatest known.own.run.records known.own.run.family.tasks known.lengths known.latest
+  pub lengths : AreOwnLengths known.own.run.records known.own.run.family.tasks known.lengths
+  pub latest : ArePredecessorLengths known.own.run.records known.own.run.family.tasks known.lengths known.latest
   pub starts : MatchOption known.starts (AreNoLengths known.latest)
       (AreStarts known.file.records known.file.family.tasks)
   pub once : IsFreeOf known.file.records EntryTwice

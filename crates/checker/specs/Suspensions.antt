@@ -25,17 +25,17 @@ abbrev pub HasSlot : List ℕ → ℕ → ℕ → Type 0
 HasSlot rows index turn = slice_index rows index + turn < slice_index rows (index + 1)
 
 -- no row begins before the one before it
-abbrev pub AreRows : List ℕ → Type 0
-AreRows rows = (index : ℕ) → index + 1 < length rows → slice_index rows index ≤ slice_index rows (index + 1)
+abbrev pub AreRowsInOrder : List ℕ → Type 0
+AreRowsInOrder rows = (index : ℕ) → index + 1 < length rows → slice_index rows index ≤ slice_index rows (index + 1)
 
 -- each turn that begins has its slot
-abbrev pub HaveRoom : List Record → List ℕ → List ℕ → Type 0
-HaveRoom rs tasks rows =
+abbrev pub HaveSlots : List Record → List ℕ → List ℕ → Type 0
+HaveSlots rs tasks rows =
     (i index turn : ℕ) → IsStartOf rs tasks i index turn → 0 < turn → HasSlot rows index turn
 
 -- each of the first n records begins no turn of its task at or beyond the length of its row
-abbrev pub AreLengths : List Record → ℕ → List ℕ → List ℕ → Type 0
-AreLengths rs n tasks lengths =
+abbrev pub AreRowLengths : List Record → ℕ → List ℕ → List ℕ → Type 0
+AreRowLengths rs n tasks lengths =
     (i index turn : ℕ) → i < n → IsStartOf rs tasks i index turn → turn < slice_index lengths index
 
 -- ---- what stands in the slots
@@ -62,7 +62,7 @@ pub record IsEndBefore (rs : List Record) (task turn place : ℕ) : Type 0 where
 
 -- a slot has a place at which the turn before its own ends, or the number of records; and of the first n
 -- records each at which an explicit task is suspended has filled its slot, if there is one
-pub record AreEnds (rs : List Record) (n : ℕ) (tasks rows places : List ℕ) : Type 0 where
+pub record AreTurnEnds (rs : List Record) (n : ℕ) (tasks rows places : List ℕ) : Type 0 where
   pub only : (index task turn : ℕ) → slice_get tasks index ≡ Some task → HasSlot rows index turn
       → slice_index places (slice_index rows index + turn) < length rs
       → IsEndBefore rs task turn (slice_index places (slice_index rows index + turn))
@@ -71,6 +71,6 @@ pub record AreEnds (rs : List Record) (n : ℕ) (tasks rows places : List ℕ) :
 -- the table has the end before each turn that begins
 pub record AreSuspensions (rs : List Record) (tasks : List ℕ) (known : Suspensions) : Type 0 where
   pub facts : EachAwaitsOne rs
-  pub room : HaveRoom rs tasks known.rows.items
+  pub room : HaveSlots rs tasks known.rows.items
   pub within : (index : ℕ) → slice_index known.rows.items index ≤ length known.places.items
-  pub ends : AreEnds rs (length rs) tasks known.rows.items known.places.items
+  pub ends : AreTurnEnds rs (length rs) tasks known.rows.items known.places.items

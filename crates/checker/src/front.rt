@@ -2,10 +2,10 @@
 ghost use Rattle.std.specs.Prelude.{ℕ, ◌≡◌, ◌<◌, ◌≤◌, ◌↔◌, List, Option, Some, IsTrue, OnOk, IfNone, IfSome, Contains, length, slice_index};
 ghost use Rattle.ompt_events.specs.declared.records.Record.{Record};
 ghost use Rattle.ompt_events.specs.Places.{thread_at};
-ghost use Rattle.checker.specs.Lists.{AreLists, IsRising};
+ghost use Rattle.checker.specs.Lists.{AreLists, LeadsOn};
 ghost use Rattle.checker.specs.Schedule.{Awaits};
 ghost use Rattle.checker.specs.Suspensions.{AreSuspensions};
-ghost use Rattle.checker.specs.Merge.{Stands, MayFollow, IsFront, IsReadyHead, AreOffered, AreMore, IsTaken};
+ghost use Rattle.checker.specs.Merge.{Stands, MayStandNext, IsFront, IsReadyHead, AreOffered, AreMore, IsPlaceTaken};
 
 use crate::lists::Lists;
 use crate::queue::Queue;
@@ -31,7 +31,7 @@ impl Front<'_, '_> {
         requires front { IsFront self.now.run.now.records self.now.run.now.family self.now.suspensions.now
             self.now.placed.now self.now.heads.now self.now.low }
         ensures more { OnOk result (AreMore self.now.run.now.records self.now.placed.now ready.old ready.new) }
-        ensures all { OnOk result ((i : ℕ) → MayFollow self.now.run.now.records self.now.placed.now i
+        ensures all { OnOk result ((i : ℕ) → MayStandNext self.now.run.now.records self.now.placed.now i
             → Contains ready.new i) }
     {
         for head in self.heads {
@@ -47,7 +47,7 @@ impl Front<'_, '_> {
         requires front { IsFront self.now.run.now.records self.now.run.now.family self.now.suspensions.now
             self.now.placed.now self.now.heads.now self.now.low }
         ensures more { OnOk result (AreMore self.now.run.now.records self.now.placed.now ready.old ready.new) }
-        ensures offered { OnOk result (MayFollow self.now.run.now.records self.now.placed.now place
+        ensures offered { OnOk result (MayStandNext self.now.run.now.records self.now.placed.now place
             → Contains ready.new place) }
     {
         if place < self.run.len() && self.may_follow(place) {
@@ -66,11 +66,11 @@ impl Front<'_, '_> {
         requires front { IsFront self.now.run.now.records self.now.run.now.family self.now.suspensions.now
             self.now.placed.now self.now.heads.now self.now.low }
         requires key { key < length lists.now.firsts.items }
-        requires rising { IsRising (length self.now.run.now.records) lists.now.nexts.items }
+        requires rising { LeadsOn (length self.now.run.now.records) lists.now.nexts.items }
         ensures more { OnOk result (AreMore self.now.run.now.records self.now.placed.now ready.old ready.new) }
         ensures offered { OnOk result ((of : ℕ → Option ℕ)
             → AreLists of (length self.now.run.now.records) 0 lists.now.firsts.items lists.now.nexts.items
-            → (i : ℕ) → of i ≡ Some key → MayFollow self.now.run.now.records self.now.placed.now i
+            → (i : ℕ) → of i ≡ Some key → MayStandNext self.now.run.now.records self.now.placed.now i
             → Contains ready.new i) }
     {
         let mut place = lists.firsts[key] as usize;
@@ -92,12 +92,12 @@ impl Front<'_, '_> {
         requires front { IsFront self.now.run.now.records self.now.run.now.family self.now.suspensions.now
             self.now.placed.now self.now.heads.now self.now.low }
         requires keys { to ≤ length lists.now.firsts.items }
-        requires rising { IsRising (length self.now.run.now.records) lists.now.nexts.items }
+        requires rising { LeadsOn (length self.now.run.now.records) lists.now.nexts.items }
         ensures more { OnOk result (AreMore self.now.run.now.records self.now.placed.now ready.old ready.new) }
         ensures offered { OnOk result ((of : ℕ → Option ℕ)
             → AreLists of (length self.now.run.now.records) 0 lists.now.firsts.items lists.now.nexts.items
             → (i key : ℕ) → from ≤ key → key < to → of i ≡ Some key
-            → MayFollow self.now.run.now.records self.now.placed.now i → Contains ready.new i) }
+            → MayStandNext self.now.run.now.records self.now.placed.now i → Contains ready.new i) }
     {
         for key in from..to {
             self.offer_list(ready, lists, key)?;
@@ -111,7 +111,7 @@ impl Front<'_, '_> {
         requires within { place < length self.now.run.now.records }
         requires front { IsFront self.now.run.now.records self.now.run.now.family self.now.suspensions.now
             self.now.placed.now self.now.heads.now self.now.low }
-        ensures { IsTrue result ↔ MayFollow self.now.run.now.records self.now.placed.now place }
+        ensures { IsTrue result ↔ MayStandNext self.now.run.now.records self.now.placed.now place }
     {
         self.is_head(place) && self.is_ready(place)
     }
@@ -155,9 +155,9 @@ impl Front<'_, '_> {
 /// Takes the first record in file order that may stand next.
 pub(crate) fn take_first(ready: &mut Queue, placed: &[bool]) -> Option<usize>
     ensures none { IfNone result ((records : List Record) → AreOffered records placed.now ready.old → (i : ℕ)
-        → MayFollow records placed.now i → ⊥) }
+        → MayStandNext records placed.now i → ⊥) }
     ensures taken { IfSome result (λ place. (records : List Record)
-        → AreOffered records placed.now ready.old → IsTaken records placed.now place ready.new) }
+        → AreOffered records placed.now ready.old → IsPlaceTaken records placed.now place ready.new) }
 {
     'ready: while let Some(place) = ready.take() {
         if !stands(placed, place) {

@@ -6,8 +6,8 @@ ghost use Rattle.ompt_events.specs.Places.{seen_at};
 ghost use Rattle.ompt_events.specs.HappensBefore.{IsStep};
 ghost use Rattle.ompt_events.specs.Causes.{IsFreeOf, known_after};
 ghost use Rattle.task_tree.specs.Rising.{IsStartOf};
-ghost use Rattle.checker.specs.InOrder.{AreLast, FitsBehind};
-ghost use Rattle.checker.specs.Schedule.{Awaits, EachAwaitsOne, IsAwaited};
+ghost use Rattle.checker.specs.InOrder.{AreLastSuspensions, FitsBehind};
+ghost use Rattle.checker.specs.Schedule.{Awaits, EachAwaitsOne, IsAwaitedAt};
 ghost use Rattle.checker.specs.Suspensions.{IsEndOf};
 
 use crate::schedule::{Awaited, Begin, awaited_by};
@@ -77,10 +77,10 @@ fn follows_awaited(
     requires within { at < length run.now.records }
     requires few { length run.now.records ≤ 2 ^ 22 }
     requires facts { EachAwaitsOne run.now.records }
-    requires lasts { AreLast run.now.records run.now.family.tasks lasts.old.items }
+    requires lasts { AreLastSuspensions run.now.records run.now.family.tasks lasts.old.items }
     ensures follows { IfOk result (λ follows. IsTrue follows → (c : ℕ) → Awaits run.now.records at c
         → (c < at) × (seen_at run.now.records c ≤ seen_at run.now.records at)) }
-    ensures lasts { OnOk result (AreLast run.now.records run.now.family.tasks lasts.new.items) }
+    ensures lasts { OnOk result (AreLastSuspensions run.now.records run.now.family.tasks lasts.new.items) }
 {
     // A record at which a task is suspended starts another, so that it awaits something.
     let Some(awaited) = awaited_by(run, at) else {
@@ -95,8 +95,8 @@ fn follows_awaited(
 fn follows(run: &Run, lasts: &[Suspension], at: usize, awaited: Awaited) -> bool
     requires within { at < length run.now.records }
     requires facts { EachAwaitsOne run.now.records }
-    requires lasts { AreLast run.now.records run.now.family.tasks lasts.now }
-    requires awaited { IsAwaited run.now at awaited }
+    requires lasts { AreLastSuspensions run.now.records run.now.family.tasks lasts.now }
+    requires awaited { IsAwaitedAt run.now at awaited }
     ensures { IsTrue result → (c : ℕ) → Awaits run.now.records at c
         → (c < at) × (seen_at run.now.records c ≤ seen_at run.now.records at) }
 {
@@ -114,7 +114,7 @@ fn follows(run: &Run, lasts: &[Suspension], at: usize, awaited: Awaited) -> bool
 fn follows_end(run: &Run, lasts: &[Suspension], at: usize, begin: Begin) -> bool
     requires within { at < length run.now.records }
     requires facts { EachAwaitsOne run.now.records }
-    requires lasts { AreLast run.now.records run.now.family.tasks lasts.now }
+    requires lasts { AreLastSuspensions run.now.records run.now.family.tasks lasts.now }
     requires begins { IsStartOf run.now.records run.now.family.tasks at begin.index begin.turn }
     requires later { 0 < begin.turn }
     ensures { IsTrue result → (c : ℕ) → Awaits run.now.records at c
@@ -151,8 +151,8 @@ fn note_end(
 ) -> Result<(), AllocError>
     requires within { at < length run.now.records }
     requires few { length run.now.records ≤ 2 ^ 22 }
-    requires lasts { AreLast run.now.records run.now.family.tasks lasts.old.items }
-    ensures { OnOk result (AreLast run.now.records run.now.family.tasks lasts.new.items) }
+    requires lasts { AreLastSuspensions run.now.records run.now.family.tasks lasts.old.items }
+    ensures { OnOk result (AreLastSuspensions run.now.records run.now.family.tasks lasts.new.items) }
 {
     if run.record(at).body.told_turns().is_none() {
         return Ok(());
@@ -174,9 +174,9 @@ fn keep_end(
 ) -> Result<(), AllocError>
     requires within { at < length run.now.records }
     requires few { length run.now.records ≤ 2 ^ 22 }
-    requires lasts { AreLast run.now.records run.now.family.tasks lasts.old.items }
+    requires lasts { AreLastSuspensions run.now.records run.now.family.tasks lasts.old.items }
     requires end { IsEndOf run.now.records run.now.family.tasks at end.index end.turn }
-    ensures { OnOk result (AreLast run.now.records run.now.family.tasks lasts.new.items) }
+    ensures { OnOk result (AreLastSuspensions run.now.records run.now.family.tasks lasts.new.items) }
 {
     make_room(alloc, run, lasts, end.index)?;
     lasts[end.index] = Suspension {
@@ -194,9 +194,9 @@ fn make_room(
     index: usize,
 ) -> Result<(), AllocError>
     requires index { index < length run.now.family.tasks }
-    requires lasts { AreLast run.now.records run.now.family.tasks lasts.old.items }
+    requires lasts { AreLastSuspensions run.now.records run.now.family.tasks lasts.old.items }
     ensures room { OnOk result (index < length lasts.new.items) }
-    ensures lasts { OnOk result (AreLast run.now.records run.now.family.tasks lasts.new.items) }
+    ensures lasts { OnOk result (AreLastSuspensions run.now.records run.now.family.tasks lasts.new.items) }
 {
     if lasts.len() <= index {
         *lasts = none_suspended(alloc, run)?;

@@ -2,8 +2,8 @@
 //! ledger length.
 ghost use Rattle.std.specs.Prelude.{ℕ, ◌≡◌, ◌<◌, ◌≤◌, ◌^◌, ◌+◌, Option, Some, IfOk, IfSome, length};
 ghost use Rattle.ompt_events.specs.Places.{thread_at};
-ghost use Rattle.checker.specs.Lists.{AreLists, IsRising};
-ghost use Rattle.checker.specs.Merge.{key_of, length_of};
+ghost use Rattle.checker.specs.Lists.{AreLists, LeadsOn};
+ghost use Rattle.checker.specs.Merge.{key_of, named_length};
 ghost use Rattle.checker.specs.Schedule.{Awaits};
 ghost use Rattle.checker.specs.Suspensions.{AreSuspensions};
 
@@ -28,7 +28,7 @@ impl Lists {
         ensures lists { IfOk result (λ lists. (key : ℕ → Option ℕ)
             → AreLists key places places lists.firsts.items lists.nexts.items) }
         ensures keys { IfOk result (λ lists. length lists.firsts.items ≡ keys) }
-        ensures rising { IfOk result (λ lists. IsRising places lists.nexts.items) }
+        ensures rising { IfOk result (λ lists. LeadsOn places lists.nexts.items) }
     {
         let end = places as u32;
         Ok(Lists {
@@ -42,10 +42,10 @@ impl Lists {
         requires few { length self.old.nexts.items ≤ 2 ^ 22 }
         requires within { place < length self.old.nexts.items }
         requires key { key < length self.old.firsts.items }
-        ensures lists { (of : ℕ → Option ℕ) (n : ℕ) → of place ≡ Some key → IsRising n self.old.nexts.items
+        ensures lists { (of : ℕ → Option ℕ) (n : ℕ) → of place ≡ Some key → LeadsOn n self.old.nexts.items
             → AreLists of n (place + 1) self.old.firsts.items self.old.nexts.items
             → AreLists of n place self.new.firsts.items self.new.nexts.items
-            × IsRising n self.new.nexts.items }
+            × LeadsOn n self.new.nexts.items }
         ensures keys { length self.new.firsts.items ≡ length self.old.firsts.items }
     {
         self.nexts[place] = self.firsts[key];
@@ -59,7 +59,7 @@ pub(crate) fn lists_of_threads(alloc: Global, run: &Run) -> Result<Lists, AllocE
         lists.firsts.items lists.nexts.items) }
     ensures keys { IfOk result (λ lists. (i thread : ℕ) → thread_at run.now.records i ≡ Some thread
         → thread < length lists.firsts.items) }
-    ensures rising { IfOk result (λ lists. IsRising (length run.now.records) lists.nexts.items) }
+    ensures rising { IfOk result (λ lists. LeadsOn (length run.now.records) lists.nexts.items) }
 {
     let count = run.len();
     let mut lists = Lists::new(alloc, usize::from(last_thread(run)) + 1, count)?;
@@ -93,7 +93,7 @@ pub(crate) fn lists_of_keys(
         (length run.now.records) 0 lists.firsts.items lists.nexts.items) }
     ensures keys { IfOk result (λ lists. length lists.firsts.items
         ≡ length run.now.family.tasks + length suspensions.now.places.items) }
-    ensures rising { IfOk result (λ lists. IsRising (length run.now.records) lists.nexts.items) }
+    ensures rising { IfOk result (λ lists. LeadsOn (length run.now.records) lists.nexts.items) }
 {
     let count = run.len();
     let keys = run.task_count() + suspensions.slot_count();
@@ -143,10 +143,10 @@ pub(crate) fn key_behind(run: &Run, suspensions: &Suspensions, at: usize) -> Opt
 
 /// The records that name each length of the ledger.
 pub(crate) fn lists_of_lengths(alloc: Global, makers: &Makers) -> Result<Lists, AllocError>
-    ensures lists { IfOk result (λ lists. AreLists (length_of makers.now.run.records)
+    ensures lists { IfOk result (λ lists. AreLists (named_length makers.now.run.records)
         (length makers.now.run.records) 0 lists.firsts.items lists.nexts.items) }
     ensures keys { IfOk result (λ lists. length lists.firsts.items ≡ length makers.now.places + 1) }
-    ensures rising { IfOk result (λ lists. IsRising (length makers.now.run.records) lists.nexts.items) }
+    ensures rising { IfOk result (λ lists. LeadsOn (length makers.now.run.records) lists.nexts.items) }
 {
     let run = makers.run();
     let count = run.len();

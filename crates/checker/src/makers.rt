@@ -3,7 +3,7 @@ ghost use Rattle.std.specs.Prelude.{ℕ, ◌≡◌, ◌∷◌, [], ◌<◌, ◌+
 ghost use Rattle.ompt_events.specs.declared.cause.Cause.TheVariants.{EntryTwice, LengthAhead};
 ghost use Rattle.ompt_events.specs.Causes.{RepeatsEntry, entries_in, IsAhead, IsFreeOf};
 ghost use Rattle.ompt_events.specs.Faults.{FindsFirst, IsFault};
-ghost use Rattle.checker.specs.Entries.{AreMakers, IsLedger};
+ghost use Rattle.checker.specs.Entries.{AreEntryPlaces, IsLedger};
 ghost use Rattle.checker.specs.Makers.{is_named, IsNaming};
 ghost use Rattle.checker.specs.Schedule.{EachAwaitsOne};
 
@@ -106,7 +106,7 @@ fn entry_count(run: &Run) -> usize
 /// By entry of the ledger the record that makes it. Searches for the first finishing record that names the
 /// entry of an earlier one.
 fn find_makers(alloc: Global, run: &Run) -> Result<Vec<u32>, Fault>
-    ensures makers { IfOk result (λ makers. AreMakers run.now.records (length run.now.records) makers.items) }
+    ensures makers { IfOk result (λ makers. AreEntryPlaces run.now.records (length run.now.records) makers.items) }
     ensures entries { IfOk result (λ makers. length makers.items ≡ entries_in run.now.records) }
     ensures free { OnOk result (IsFreeOf run.now.records EntryTwice) }
     ensures fault { IfErr result (IsFault run.now.records (EntryTwice ∷ [])) }

@@ -5,7 +5,7 @@ ghost use Rattle.ompt_events.specs.Places.{thread_at};
 ghost use Rattle.ompt_events.specs.Linearization.{IsLinearization};
 ghost use Rattle.ompt_events.specs.Causes.{IsFreeOf};
 ghost use Rattle.ompt_events.specs.Faults.{IsFault};
-ghost use Rattle.checker.specs.Merge.{Stands, IsUnplaced, IsFirstUnplaced, IsFront, AreOffered, AreInTurn, IsGreedyBehind, AreStanding};
+ghost use Rattle.checker.specs.Merge.{Stands, IsUnplaced, IsFirstUnplaced, IsFront, AreOffered, AreInTurn, IsGreedyBehind, ArePlaced};
 
 use crate::front::{Front, stands, take_first};
 use crate::lists::{Lists, lists_of_threads};
@@ -69,7 +69,7 @@ impl Standing {
     /// These stand.
     fn of(alloc: Global, run: &Run, order: &[u32]) -> Result<Standing, AllocError>
         requires { AreInTurn run.now.records order.now }
-        ensures { IfOk result (λ standing. AreStanding run.now.records standing.placed.items standing.heads.items
+        ensures { IfOk result (λ standing. ArePlaced run.now.records standing.placed.items standing.heads.items
             standing.links.items order.now) }
     {
         let mut standing = Standing::none(alloc, run)?;
@@ -81,7 +81,7 @@ impl Standing {
 
     /// None stands.
     fn none(alloc: Global, run: &Run) -> Result<Standing, AllocError>
-        ensures { IfOk result (λ standing. AreStanding run.now.records standing.placed.items standing.heads.items
+        ensures { IfOk result (λ standing. ArePlaced run.now.records standing.placed.items standing.heads.items
             standing.links.items []) }
     {
         let Lists { firsts, nexts } = lists_of_threads(alloc, run)?;
@@ -96,7 +96,7 @@ impl Standing {
     #[inline(always)]
     fn place(&mut self, run: &Run, place: usize)
         requires within { place < length run.now.records }
-        requires all { (order : List ℕ) × AreStanding run.now.records self.old.placed.items
+        requires all { (order : List ℕ) × ArePlaced run.now.records self.old.placed.items
             self.old.heads.items self.old.links.items order }
         ensures placed { self.new.placed.items ≡ slice_set self.old.placed.items place true }
         ensures heads { (thread : ℕ) → thread_at run.now.records place ≡ Some thread → self.new.heads.items

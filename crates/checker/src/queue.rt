@@ -15,13 +15,13 @@ pub(crate) struct Queue {
 impl Model for Queue {
     ghost use Rattle.std.specs.Prelude.{List, ℕ};
     ghost use Rattle.std.specs.BinaryHeap.{IsHeap, heap_items};
-    ghost use Rattle.checker.specs.Queue.{places_of, later};
+    ghost use Rattle.checker.specs.Queue.{heap_places, later_place};
 
     ghost Value = { List ℕ };
 
-    ghost view = { λ queue. places_of (heap_items queue.heap) };
+    ghost view = { λ queue. heap_places (heap_items queue.heap) };
 
-    ghost invariant = { λ queue. IsHeap later (heap_items queue.heap) };
+    ghost invariant = { λ queue. IsHeap later_place (heap_items queue.heap) };
 }
 
 impl Queue {

@@ -4,7 +4,7 @@ ghost use Rattle.ompt_events.specs.Records.{begun_turn};
 ghost use Rattle.ompt_events.specs.Places.{at as says_at};
 ghost use Rattle.task_tree.specs.Runs.{IsIndexOf};
 ghost use Rattle.task_tree.specs.Rising.{IsStartOf};
-ghost use Rattle.checker.specs.Schedule.{first_started as starts_first, Awaits, IsAwaited, AwaitsNone};
+ghost use Rattle.checker.specs.Schedule.{first_started as starts_first, Awaits, IsAwaitedAt, AwaitsNone};
 ghost use Rattle.checker.specs.Suspensions.{AreSuspensions};
 
 use crate::suspensions::Suspensions;
@@ -45,7 +45,7 @@ pub(crate) fn awaited_at(run: &Run, suspensions: &Suspensions, at: usize) -> Opt
 #[inline(always)]
 pub(crate) fn awaited_by(run: &Run, at: usize) -> Option<Awaited>
     requires { at < length run.now.records }
-    ensures { MatchOption result (AwaitsNone run.now.records at) (IsAwaited run.now at) }
+    ensures { MatchOption result (AwaitsNone run.now.records at) (IsAwaitedAt run.now at) }
 {
     if let Some(index) = run.fulfilled(at) {
         return Some(Awaited::Creation(index));

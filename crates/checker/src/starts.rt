@@ -6,9 +6,9 @@ ghost use Rattle.ompt_events.specs.declared.cause.Cause.TheVariants.{EntryTwice,
 ghost use Rattle.ompt_events.specs.Causes.{IsFreeOf};
 ghost use Rattle.ompt_events.specs.Tree.{IsExplicit};
 ghost use Rattle.depend_edges.specs.Edges.{ArePredecessors};
-ghost use Rattle.wait_coverage.specs.Done.{AreOwn};
+ghost use Rattle.wait_coverage.specs.Done.{AreOwnLengths};
 ghost use Rattle.trace_ledger.specs.Entries.{IsDone};
-ghost use Rattle.checker.specs.Starts.{IsLate, AreReady, IsPrecededByNone, IsDependentAt, IsFirstLateAt, IsBound, AreNoLengths, AreStarts, AreStartsBelow, StartsAt, StartsNoneAt, IsBehind, AreDoneBefore, IsFirstBehind, IsFirstOf, IsBehindAt, IsEarlierOf};
+ghost use Rattle.checker.specs.Starts.{IsLate, AreReady, IsPrecededByNone, IsDependentAt, IsFirstLateAt, IsBound, AreNoLengths, AreStarts, AreStartsBelow, StartsAt, StartsNoneAt, IsUnfinishedPredecessor, AreDoneBefore, IsFirstBehind, IsFirstOf, IsBehindAt, IsEarlierOf};
 
 use crate::schedule::first_started;
 use crate::sound::Sound;
@@ -83,7 +83,7 @@ impl<'a, 'r> Precedence<'a, 'r> {
         sound: &'a Sound<'r>,
         lengths: &'a [u64],
     ) -> Result<Precedence<'a, 'r>, Fault>
-        requires own { AreOwn sound.now.own.run.records sound.now.own.run.family.tasks lengths.now }
+        requires own { AreOwnLengths sound.now.own.run.records sound.now.own.run.family.tasks lengths.now }
         requires once { IsFreeOf sound.now.run.records EntryTwice }
         requires reached { IsFreeOf sound.now.run.records LengthAhead }
         ensures file { IfOk result (λ precedence. precedence.file ≡ sound.now.run) }
@@ -292,7 +292,7 @@ impl Precedence<'_, '_> {
         requires { index < length self.now.own.run.family.tasks }
         ensures late { IfOk result (λ late. (dependent : ℕ)
             → slice_get self.now.own.run.family.tasks index ≡ Some dependent
-            → IsTrue late ↔ IsBehind self.now.own.run.records dependent bound task) }
+            → IsTrue late ↔ IsUnfinishedPredecessor self.now.own.run.records dependent bound task) }
         ensures memory_alone { IfErr result (λ fault. fault ≡ Memory) }
     {
         let predecessors = self.edges.of(self.own.run().task(index))?;

@@ -5,7 +5,7 @@ ghost use Rattle.ompt_events.specs.Places.{at as says_at};
 ghost use Rattle.task_tree.specs.Runs.{IsRun};
 ghost use Rattle.task_tree.specs.Rising.{IsStartOf};
 ghost use Rattle.checker.specs.Schedule.{EachAwaitsOne, Awaits};
-ghost use Rattle.checker.specs.Suspensions.{IsEndOf, BeginsNoLater, HasSlot, AreRows, HaveRoom, AreLengths, IsSlotBehind, HasNoSlotBehind, AreEnds, AreSuspensions};
+ghost use Rattle.checker.specs.Suspensions.{IsEndOf, BeginsNoLater, HasSlot, AreRowsInOrder, HaveSlots, AreRowLengths, IsSlotBehind, HasNoSlotBehind, AreTurnEnds, AreSuspensions};
 
 use crate::schedule::{Begin, begun_at};
 use ompt_events::Record;
@@ -135,7 +135,7 @@ fn row_lengths(alloc: Global, run: &Run) -> Result<Vec<u64>, AllocError>
     ensures few { IfOk result (λ lengths. length lengths.items ≤ 2 ^ 22) }
     ensures low { IfOk result (λ lengths. All (λ n. n ≤ 2 ^ 32) lengths.items) }
     ensures lengths { IfOk result (λ lengths.
-        AreLengths run.now.records (length run.now.records) run.now.family.tasks lengths.items) }
+        AreRowLengths run.now.records (length run.now.records) run.now.family.tasks lengths.items) }
 {
     let mut lengths = vec![in alloc; 0; run.task_count()]?;
     for at in 0..run.len() {
@@ -150,10 +150,10 @@ fn note_begin(run: &Run, lengths: &mut Vec<u64>, at: usize)
     requires is_run { IsRun run.now }
     requires all { length lengths.old.items ≡ length run.now.family.tasks }
     requires low { All (λ n. n ≤ 2 ^ 32) lengths.old.items }
-    requires before { AreLengths run.now.records at run.now.family.tasks lengths.old.items }
+    requires before { AreRowLengths run.now.records at run.now.family.tasks lengths.old.items }
     ensures all { length lengths.new.items ≡ length run.now.family.tasks }
     ensures low { All (λ n. n ≤ 2 ^ 32) lengths.new.items }
-    ensures more { AreLengths run.now.records (at + 1) run.now.family.tasks lengths.new.items }
+    ensures more { AreRowLengths run.now.records (at + 1) run.now.family.tasks lengths.new.items }
 {
     if let Some(begin) = begun_at(run, at) {
         lengths[begin.index] = lengths[begin.index].max(u64::from(begin.turn) + 1);
@@ -163,8 +163,8 @@ fn note_begin(run: &Run, lengths: &mut Vec<u64>, at: usize)
 /// By index of the task the first slot of its row, and last the end of all rows.
 fn rows_of(alloc: Global, run: &Run) -> Result<Vec<usize>, AllocError>
     ensures some { IfOk result (λ rows. 0 < length rows.items) }
-    ensures rows { IfOk result (λ rows. AreRows rows.items) }
-    ensures room { IfOk result (λ rows. HaveRoom run.now.records run.now.family.tasks rows.items) }
+    ensures rows { IfOk result (λ rows. AreRowsInOrder rows.items) }
+    ensures room { IfOk result (λ rows. HaveSlots run.now.records run.now.family.tasks rows.items) }
 {
     let lengths = row_lengths(alloc, run)?;
     let mut rows = Vec::with_capacity(alloc, lengths.len() + 1)?;
@@ -180,10 +180,10 @@ fn rows_of(alloc: Global, run: &Run) -> Result<Vec<usize>, AllocError>
 /// By slot the place at which the turn before ends.
 fn find_ends(alloc: Global, run: &Run, rows: &[usize]) -> Result<Vec<u32>, AllocError>
     requires some { 0 < length rows.now }
-    requires rows { AreRows rows.now }
+    requires rows { AreRowsInOrder rows.now }
     ensures within { IfOk result (λ places. (index : ℕ) → slice_index rows.now index ≤ length places.items) }
     ensures ends { IfOk result (λ places.
-        AreEnds run.now.records (length run.now.records) run.now.family.tasks rows.now places.items) }
+        AreTurnEnds run.now.records (length run.now.records) run.now.family.tasks rows.now places.items) }
 {
     let mut places = no_ends(alloc, run, rows[rows.len() - 1])?;
     for at in 0..run.len() {
@@ -203,11 +203,11 @@ fn no_ends(alloc: Global, run: &Run, slots: usize) -> Result<Vec<u32>, AllocErro
 fn note_end(run: &Run, rows: &[usize], places: &mut Vec<u32>, at: usize)
     requires at { at < length run.now.records }
     requires is_run { IsRun run.now }
-    requires rows { AreRows rows.now }
+    requires rows { AreRowsInOrder rows.now }
     requires within { (index : ℕ) → slice_index rows.now index ≤ length places.old.items }
-    requires before { AreEnds run.now.records at run.now.family.tasks rows.now places.old.items }
+    requires before { AreTurnEnds run.now.records at run.now.family.tasks rows.now places.old.items }
     ensures within { (index : ℕ) → slice_index rows.now index ≤ length places.new.items }
-    ensures more { AreEnds run.now.records (at + 1) run.now.family.tasks rows.now places.new.items }
+    ensures more { AreTurnEnds run.now.records (at + 1) run.now.family.tasks rows.now places.new.items }
 {
     if let Some(slot) = slot_behind(run, rows, at) {
         places[slot] = at as u32;

@@ -2,7 +2,7 @@
 ghost use Rattle.std.specs.Prelude.{ℕ, ◌≡◌, ◌<◌, ◌≤◌, Some, IfOk, OnOk, Contains, length};
 ghost use Rattle.ompt_events.specs.Causes.{entries_in};
 ghost use Rattle.checker.specs.Schedule.{Awaits};
-ghost use Rattle.checker.specs.Merge.{IsFront, MayFollow, AreMore, AreWaiting, length_of};
+ghost use Rattle.checker.specs.Merge.{IsFront, MayStandNext, AreMore, AreWaiting, named_length};
 
 use crate::front::Front;
 use crate::lists::{Lists, key_behind, lists_of_keys, lists_of_lengths};
@@ -57,13 +57,13 @@ impl Waiting {
         requires low { front.now.low ≤ entries_in front.now.run.now.records }
         requires was_low { placed.was_low ≤ front.now.low }
         ensures more { OnOk result (AreMore front.now.run.now.records front.now.placed.now ready.old ready.new) }
-        ensures next { OnOk result (MayFollow front.now.run.now.records front.now.placed.now placed.next
+        ensures next { OnOk result (MayStandNext front.now.run.now.records front.now.placed.now placed.next
             → Contains ready.new placed.next) }
         ensures awaiting { OnOk result ((i : ℕ) → Awaits front.now.run.now.records i placed.place
-            → MayFollow front.now.run.now.records front.now.placed.now i → Contains ready.new i) }
+            → MayStandNext front.now.run.now.records front.now.placed.now i → Contains ready.new i) }
         ensures naming { OnOk result ((i k : ℕ) → placed.was_low < k → k ≤ front.now.low
-            → length_of front.now.run.now.records i ≡ Some k
-            → MayFollow front.now.run.now.records front.now.placed.now i → Contains ready.new i) }
+            → named_length front.now.run.now.records i ≡ Some k
+            → MayStandNext front.now.run.now.records front.now.placed.now i → Contains ready.new i) }
     {
         front.offer(ready, placed.next)?;
         self.offer_awaiting(front, ready, placed.place)?;
@@ -85,7 +85,7 @@ impl Waiting {
         requires within { place < length front.now.run.now.records }
         ensures more { OnOk result (AreMore front.now.run.now.records front.now.placed.now ready.old ready.new) }
         ensures awaiting { OnOk result ((i : ℕ) → Awaits front.now.run.now.records i place
-            → MayFollow front.now.run.now.records front.now.placed.now i → Contains ready.new i) }
+            → MayStandNext front.now.run.now.records front.now.placed.now i → Contains ready.new i) }
     {
         match key_behind(front.run, front.suspensions, place) {
             Some(key) => front.offer_list(ready, &self.by_key, key),

@@ -9,8 +9,8 @@ use Rattle.credit.specs.declared.share.Half.{Half}
 use Rattle.credit.specs.declared.share.Half.TheVariants.{Keep}
 use Rattle.credit.specs.Shares.{begins_with, keep_half, give_half}
 use Rattle.credit.specs.Credits.{Credit, Holder, Running, Awaited, Entered, Event, Root, Create, Finish}
-use Rattle.credit.specs.Credits.{Detach, Fulfil, is_made, is_root, exchange, has_task_share, has_event_share}
-use Rattle.credit.specs.Credits.{shared_halves, entered_credit, whole_of, detached_halves, next_credits}
+use Rattle.credit.specs.Credits.{Detach, Fulfil, was_made, is_root, exchange, has_task_share, has_event_share}
+use Rattle.credit.specs.Credits.{shared_halves, entered_credit, whole_credit, detached_halves, next_credits}
 use Rattle.credit.specs.Credits.{credits_after}
 use Rattle.credit.proofs.ShareLemmas.{ones, begins_with-halves}
 
@@ -37,15 +37,15 @@ Fits-append l root (c ∷ cs) ds fits =
 
 -- what may stand in place of a credit: the same root, the same task among others, and shares that tile the
 -- old one
-pub record StandsFor (c : Credit) (others : List Credit) : Type 0 where
+pub record ReplacesCredit (c : Credit) (others : List Credit) : Type 0 where
   pub same_root : (root : ℕ) → is_root root others ≡ true → (c.root == root) ≡ true
-  pub keeps_task : (task : ℕ) → (c.task == task) ≡ true → is_made task others ≡ true
+  pub keeps_task : (task : ℕ) → (c.task == task) ≡ true → was_made task others ≡ true
   pub fits : (l : List Half) (root : ℕ) → Fits l root others → Fits l root (c ∷ [])
   pub tiles : (l : List Half) (root : ℕ) → Fits l root others → tally l root others ≡ tally l root (c ∷ [])
 
 -- each root was made, and its shares tile
-pub record IsSound (cs : List Credit) : Type 0 where
-  pub made : (root : ℕ) → is_root root cs ≡ true → is_made root cs ≡ true
+pub record AreCreditsSound (cs : List Credit) : Type 0 where
+  pub made : (root : ℕ) → is_root root cs ≡ true → was_made root cs ≡ true
   pub one : (l : List Half) (root : ℕ) → is_root root cs ≡ true → Fits l root cs → tally l root cs ≡ 1
 
 -- one root's test, for two credits of that root
@@ -67,7 +67,7 @@ count-halves true l s fits =
 
 -- the two halves stand for what was halved, whoever has them
 pub StandsFor-halves : (c : Credit) (here there : Holder) (task : ℕ)
-    → StandsFor c (record {
+    → ReplacesCredit c (record {
       root = c.root;
       task = c.task;
       holder = here;
@@ -82,7 +82,7 @@ StandsFor-halves c here there task = record {
   tiles = λ l root fits. count-halves (c.root == root) l c.share fits.0;
 }
 
-pub StandsFor-entered_credit : (c : Credit) → StandsFor c (entered_credit c)
+pub StandsFor-entered_credit : (c : Credit) → ReplacesCredit c (entered_credit c)
 StandsFor-entered_credit c = record {
   same_root = λ root h. one_of_root (c.root == root) h;
   keeps_task = λ t h. or_left _ _ h;
@@ -95,13 +95,13 @@ pub is_root-append : (root : ℕ) (cs ds : List Credit)
 is_root-append root cs ds = list_any-append (λ (c : Credit). c.root == root) cs ds
 
 pub is_made-append : (task : ℕ) (cs ds : List Credit)
-    → is_made task (cs ++ ds) ≡ (is_made task cs || is_made task ds)
+    → was_made task (cs ++ ds) ≡ (was_made task cs || was_made task ds)
 is_made-append task cs ds = list_any-append (λ (c : Credit). c.task == task) cs ds
 
 -- what an exchange keeps
 pub record IsExchanged (cs ds : List Credit) : Type 0 where
   pub same_root : (root : ℕ) → is_root root ds ≡ true → is_root root cs ≡ true
-  pub keeps_task : (task : ℕ) → is_made task cs ≡ true → is_made task ds ≡ true
+  pub keeps_task : (task : ℕ) → was_made task cs ≡ true → was_made task ds ≡ true
   pub fits : (l : List Half) (root : ℕ) → Fits l root ds → Fits l root cs
   pub tiles : (l : List Half) (root : ℕ) → Fits l root ds → tally l root ds ≡ tally l root cs
 
@@ -113,7 +113,7 @@ IsExchanged-itself cs = record {
   tiles = λ l root f. refl;
 }
 
-IsExchanged-here : (c : Credit) (others cs : List Credit) → StandsFor c others
+IsExchanged-here : (c : Credit) (others cs : List Credit) → ReplacesCredit c others
     → IsExchanged (c ∷ cs) (others ++ cs)
 IsExchanged-here c others cs stands = record {
   same_root = λ root h.
@@ -121,8 +121,8 @@ IsExchanged-here c others cs stands = record {
       (or_cases (is_root root others) (is_root root cs) (rw is_root-append at h));
   keeps_task = λ task h. rw is_made-append
       (⊎_elim (λ here. or_left _ _ (stands.keeps_task task here))
-      (λ there. or_right (is_made task others) _ there)
-      (or_cases (c.task == task) (is_made task cs) h));
+      (λ there. or_right (was_made task others) _ there)
+      (or_cases (c.task == task) (was_made task cs) h));
   fits = λ l root f.
       let parts = Fits-append l root others cs f in ((stands.fits l root parts.0).0, parts.1);
   tiles = λ l root f.
@@ -137,13 +137,13 @@ IsExchanged-there c cs ds was = record {
       (or_cases (c.root == root) (is_root root ds) h);
   keeps_task = λ task h.
       ⊎_elim (λ here. or_left _ _ here) (λ there. or_right (c.task == task) _ (was.keeps_task task there))
-      (or_cases (c.task == task) (is_made task cs) h);
+      (or_cases (c.task == task) (was_made task cs) h);
   fits = λ l root f. (f.0, was.fits l root f.1);
   tiles = λ l root f. ap (λ n. ones ((c.root == root) && begins_with l c.share) + n) (was.tiles l root f.1);
 }
 
 IsExchanged-exchange : (passes : Credit → Bool) (others : Credit → List Credit)
-    → ((c : Credit) → StandsFor c (others c)) → (cs : List Credit)
+    → ((c : Credit) → ReplacesCredit c (others c)) → (cs : List Credit)
     → IsExchanged cs (exchange passes others cs)
 IsExchanged-exchange passes others stands [] = IsExchanged-itself []
 IsExchanged-exchange passes others stands (c ∷ cs) =
@@ -151,15 +151,15 @@ IsExchanged-exchange passes others stands (c ∷ cs) =
     (λ yes. IsExchanged-here c (others c) cs (stands c))
     (λ no. IsExchanged-there c cs (exchange passes others cs) (IsExchanged-exchange passes others stands cs))
 
-IsSound-exchanged : (cs ds : List Credit) → IsExchanged cs ds → IsSound cs → IsSound ds
+IsSound-exchanged : (cs ds : List Credit) → IsExchanged cs ds → AreCreditsSound cs → AreCreditsSound ds
 IsSound-exchanged cs ds was sound = record {
   made = λ root h. was.keeps_task root (sound.made root (was.same_root root h));
   one = λ l root h f. was.tiles l root f ∙ sound.one l root (was.same_root root h) (was.fits l root f);
 }
 
 pub IsSound-exchange : (passes : Credit → Bool) (others : Credit → List Credit)
-    → ((c : Credit) → StandsFor c (others c)) → (cs : List Credit) → IsSound cs
-    → IsSound (exchange passes others cs)
+    → ((c : Credit) → ReplacesCredit c (others c)) → (cs : List Credit) → AreCreditsSound cs
+    → AreCreditsSound (exchange passes others cs)
 IsSound-exchange passes others stands cs sound =
     IsSound-exchanged cs _ (IsExchanged-exchange passes others stands cs) sound
 
@@ -171,8 +171,8 @@ tally-none l root (c ∷ cs) h =
     let here : ones ((c.root == root) && begins_with l c.share) ≡ 0 = ap ones (and_left _ _ parts.0) in
     omega (arith, here, tally-none l root cs parts.1)
 
-IsSound-root : (cs : List Credit) (task : ℕ) → is_made task cs ≡ false → IsSound cs
-    → IsSound (whole_of task ∷ cs)
+IsSound-root : (cs : List Credit) (task : ℕ) → was_made task cs ≡ false → AreCreditsSound cs
+    → AreCreditsSound (whole_credit task ∷ cs)
 IsSound-root cs task new sound = record {
   made = λ root h.
       ⊎_elim (λ here. or_left _ _ here) (λ there. or_right (task == root) _ (sound.made root there))
@@ -193,11 +193,11 @@ IsSound-root cs task new sound = record {
       (cases_Bool (task == root));
 }
 
-pub IsSound-next_credits : (cs : List Credit) (e : Event) → IsSound cs → IsSound (next_credits cs e)
+pub IsSound-next_credits : (cs : List Credit) (e : Event) → AreCreditsSound cs → AreCreditsSound (next_credits cs e)
 IsSound-next_credits cs (Root task) sound =
-    cond_both (is_made task cs) cs _ IsSound (λ old. sound) (λ new. IsSound-root cs task new sound)
+    cond_both (was_made task cs) cs _ AreCreditsSound (λ old. sound) (λ new. IsSound-root cs task new sound)
 IsSound-next_credits cs (Create creator child) sound =
-    cond_both (is_made child cs) cs _ IsSound (λ old. sound)
+    cond_both (was_made child cs) cs _ AreCreditsSound (λ old. sound)
     (λ new.
     IsSound-exchange (has_task_share creator) (shared_halves child)
     (λ c. StandsFor-halves c Running Running child) cs sound)
@@ -209,11 +209,11 @@ IsSound-next_credits cs (Detach task) sound =
 IsSound-next_credits cs (Fulfil task) sound =
     IsSound-exchange (has_event_share task) entered_credit StandsFor-entered_credit cs sound
 
-pub IsSound-run : (cs : List Credit) (es : List Event) → IsSound cs → IsSound (fold next_credits cs es)
+pub IsSound-run : (cs : List Credit) (es : List Event) → AreCreditsSound cs → AreCreditsSound (fold next_credits cs es)
 IsSound-run cs [] sound = sound
 IsSound-run cs (e ∷ es) sound = IsSound-run (next_credits cs e) es (IsSound-next_credits cs e sound)
 
-pub IsSound-credits_after : (es : List Event) → IsSound (credits_after es)
+pub IsSound-credits_after : (es : List Event) → AreCreditsSound (credits_after es)
 IsSound-credits_after es =
     IsSound-run [] es (record {
       made = λ root h. absurd (false≢true h);

@@ -12,14 +12,14 @@ use Rattle.credit.specs.declared.links.Side.{Side}
 use Rattle.credit.specs.declared.links.Side.TheVariants.{First}
 use Rattle.credit.specs.declared.links.Spot.TheVariants.{Missing}
 use Rattle.credit.specs.declared.links.Link.{Link}
-use Rattle.credit.specs.Links.{leaf_link, link_at, behind, with_link, is_link_of, spot_within, spot_of, found}
-use Rattle.credit.specs.Links.{IsRising}
+use Rattle.credit.specs.Links.{leaf_link, link_at, link_behind, with_link, is_link_of, spot_within, spot_of, found}
+use Rattle.credit.specs.Links.{AreLinksRising}
 use Rattle.credit.proofs.LinkLemmas.{step-missing, link_at-past, IsLinkAdded, IsLinkAdded-set, IsRising-added}
 use Rattle.credit.proofs.LinkLemmas.{added-here, added-elsewhere, missing-at}
 use Rattle.credit.specs.declared.tree.Node.{Node}
 use Rattle.credit.specs.declared.tree.Tree.{Tree}
 use Rattle.credit.specs.Trees.{no_progress, empty_node, node_at, child, place, progress_at, with_reach}
-use Rattle.credit.specs.Trees.{IsLinked, IsGrown}
+use Rattle.credit.specs.Trees.{IsTreeLinked, IsGrown}
 use Rattle.credit.proofs.KnownLemmas.{none_some, same_some}
 use Rattle.credit.proofs.TreeLemmas.{place-child, progress_at-place, progress_at-none}
 
@@ -29,12 +29,12 @@ pub record IsChildAdded (old new : Tree) (index number k : ℕ) : Type 0 where
   pub others : (i n : ℕ) → (child new i n ≡ child old i n) ⊎ ((i ≡ index) × (n ≡ number))
 
 -- a search that begins at no child
-search-none : (links : List Link) (steps i n : ℕ) → behind (link_at links i) First ≡ 0
+search-none : (links : List Link) (steps i n : ℕ) → link_behind (link_at links i) First ≡ 0
     → spot_within links steps i n n i First ≡ Missing i First
 search-none links zero i n none = refl
 search-none links (suc steps) i n none = step-missing links steps i n n i First none
 
-pub IsChildAdded-from : (old new : Tree) (index number j : ℕ) (s : Side) → IsLinked old
+pub IsChildAdded-from : (old new : Tree) (index number j : ℕ) (s : Side) → IsTreeLinked old
     → index < length old.nodes.items → spot_of old.links.items index number ≡ Missing j s
     → IsLinkAdded old.links.items new.links.items index number j s
     → IsChildAdded old new index number (length old.nodes.items)
@@ -61,7 +61,7 @@ IsChildAdded-from old new index number j s linked inside missing added = record 
       (search-none new.links.items (length new.links.items) i n (far-new i far)
       ∙ sym
       (search-none old.links.items (length old.links.items) i n
-      (ap (λ l. behind l First) (link_at-past old.links.items i far)))))
+      (ap (λ l. link_behind l First) (link_at-past old.links.items i far)))))
       (cases_lt i (length old.links.items))))
       (cases_Bool (is_link_of i n (leaf_link index number)));
 }
@@ -72,13 +72,13 @@ IsChildAdded-from old new index number j s linked inside missing added = record 
     inside_links : index < length old.links.items
     inside_links = omega (arith, inside, linked.aligned)
 
-    far-new : (i : ℕ) → length old.links.items ≤ i → behind (link_at new.links.items i) First ≡ 0
+    far-new : (i : ℕ) → length old.links.items ≤ i → link_behind (link_at new.links.items i) First ≡ 0
     far-new i far =
         ⊎_elim
         (λ (is : i ≡ length old.links.items).
-        ap (λ k. behind (link_at new.links.items k) First) is ∙ ap (λ l. behind l First) added.last)
+        ap (λ k. link_behind (link_at new.links.items k) First) is ∙ ap (λ l. link_behind l First) added.last)
         (λ (other : i ≢ length old.links.items).
-        ap (λ l. behind l First) (link_at-past new.links.items i (omega (arith, far, added.longer))))
+        ap (λ l. link_behind l First) (link_at-past new.links.items i (omega (arith, far, added.longer))))
         (cases_eq i (length old.links.items))
 
 pub node_at-get : (tree : Tree) (i : ℕ) → node_at tree i ≡ get_or tree.nodes.items i (empty_node 0)
@@ -170,7 +170,7 @@ progress-same old new last past kept known leaf same up = by_place (place (child
 -- ---- the two ways in which a tree grows
 
 -- a node that is a child
-pub IsGrown-child : (old new : Tree) (index number : ℕ) → IsLinked old → IsRising new.links.items
+pub IsGrown-child : (old new : Tree) (index number : ℕ) → IsTreeLinked old → AreLinksRising new.links.items
     → length new.links.items ≡ length old.links.items + 1 → index < length old.nodes.items
     → child old index number ≡ None → IsNodeAdded old new index
     → IsChildAdded old new index number (length old.nodes.items) → number < (node_at new index).reach
@@ -266,7 +266,7 @@ record IsOneMore (old new : Tree) (index : ℕ) (node : Node) : Type 0 where
   reach : (node_at old index).reach ≤ node.reach
   small : node.reach ≤ 2 ^ 48 + 1
 
-IsNodeAdded-one_more : (old new : Tree) (index : ℕ) (node : Node) → IsLinked old
+IsNodeAdded-one_more : (old new : Tree) (index : ℕ) (node : Node) → IsTreeLinked old
     → index < length old.nodes.items → IsOneMore old new index node → IsNodeAdded old new index
 IsNodeAdded-one_more old new index node linked inside one = record {
   longer = one.longer;
@@ -320,7 +320,7 @@ IsNodeAdded-one_more old new index node linked inside one = record {
         (cases_lt i (length old.nodes.items)))
         (cases_eq i index)
 
-pub IsNodeAdded-set : (old new : Tree) (index : ℕ) (node : Node) → IsLinked old
+pub IsNodeAdded-set : (old new : Tree) (index : ℕ) (node : Node) → IsTreeLinked old
     → index < length old.nodes.items
     → new.nodes.items ≡ set (old.nodes.items ++ empty_node index ∷ []) index node
     → node.progress ≡ (node_at old index).progress → node.parent ≡ (node_at old index).parent
@@ -365,10 +365,10 @@ IsGrown-through a b c one two = record {
 
 -- nothing was added
 pub IsGrown-same : (old new : Tree) → new.nodes.items ≡ old.nodes.items → new.links.items ≡ old.links.items
-    → IsLinked old → IsGrown old new
+    → IsTreeLinked old → IsGrown old new
 IsGrown-same old new nodes links linked = record {
   linked = record {
-    rising = subst IsRising (sym links) linked.rising;
+    rising = subst AreLinksRising (sym links) linked.rising;
     aligned = ap length links ∙ linked.aligned ∙ sym (ap length nodes);
     within =
         λ i n k e.
@@ -406,7 +406,7 @@ IsGrown-same old new nodes links linked = record {
     at i = ap (λ xs. unwrap_or (slice_get xs i) (empty_node 0)) nodes
 
 -- a node was added, made a child, and its parent reaches to it
-pub IsGrown-made : (old mid linked_mid new : Tree) (index number j : ℕ) (s : Side) → IsLinked old
+pub IsGrown-made : (old mid linked_mid new : Tree) (index number j : ℕ) (s : Side) → IsTreeLinked old
     → index < length old.nodes.items → number ≤ 2 ^ 48 → spot_of old.links.items index number ≡ Missing j s
     → mid.nodes.items ≡ old.nodes.items ++ empty_node index ∷ []
     → mid.links.items ≡ old.links.items ++ leaf_link index number ∷ []
@@ -428,8 +428,8 @@ IsGrown-made old mid linked_mid new index number j s linked inside small spot pu
           child_added reached,
       child_added.here,
       (λ next. search-none new.links.items (length new.links.items) (length old.nodes.items) next
-          (ap (λ i. behind (link_at new.links.items i) First) (sym linked.aligned)
-          ∙ ap (λ l. behind l First) link_added.last)),
+          (ap (λ i. link_behind (link_at new.links.items i) First) (sym linked.aligned)
+          ∙ ap (λ l. link_behind l First) link_added.last)),
     )
   where
     links : new.links.items
@@ -445,7 +445,7 @@ IsGrown-made old mid linked_mid new index number j s linked inside small spot pu
         (with_link (link_at (old.links.items ++ leaf_link index number ∷ []) j) s k))
         (sym linked.aligned)
 
-    ended : (j < length old.links.items) × (behind (link_at old.links.items j) s ≡ 0)
+    ended : (j < length old.links.items) × (link_behind (link_at old.links.items j) s ≡ 0)
     ended =
         missing-at old.links.items linked.rising (length old.links.items) index number number index First j s
         (omega (arith, inside, linked.aligned)) (omega arith) spot

@@ -14,7 +14,7 @@ use Rattle.credit.specs.declared.share.Half.TheVariants.{Keep}
 use Rattle.credit.specs.Shares.{begins_with, keep_half, give_half, Hold}
 use Rattle.credit.specs.Paths.{keeps}
 use Rattle.credit.proofs.ShareLemmas.{begins_with-append, begins_with-itself, begins_with_through}
-use Rattle.credit.proofs.ShareLemmas.{length-begins_with, IsShort, ByRecursion-append, ByRecursion-join}
+use Rattle.credit.proofs.ShareLemmas.{length-begins_with, IsAsLong, ByRecursion-append, ByRecursion-join}
 use Rattle.credit.proofs.HoldLemmas.{Hold-begun, Hold-missing, Hold-halves, begins_with-either, span}
 use Rattle.credit.proofs.PathLemmas.{keeps-longer, length-keeps}
 
@@ -61,19 +61,19 @@ slice_get-length (s ∷ shares) (suc i) t at = omega (arith, slice_get-length sh
 pub Hold-longer : (shares : List (List Half)) (s r : List Half) → begins_with r s ≡ true → Hold shares s
     → Hold shares r
 Hold-longer shares s r begun held l begins long =
-    let short = recursion_from_All (IsShort l) (r ∷ shares) long in
+    let short = recursion_from_All (IsAsLong l) (r ∷ shares) long in
     held l (begins_with_through l r s begins begun)
-    (All-from_recursion (IsShort l) (s ∷ shares)
+    (All-from_recursion (IsAsLong l) (s ∷ shares)
     (omega (arith, short.0, length-begins_with r s begun), short.1))
 
 -- what is held stays held
 pub Hold-append : (shares more : List (List Half)) (s : List Half) → Hold shares s → Hold (shares ++ more) s
 Hold-append shares more s held l begins long =
-    let short = recursion_from_All (IsShort l) (s ∷ (shares ++ more)) long in
-    let parts = ByRecursion-append (IsShort l) shares more short.1 in
+    let short = recursion_from_All (IsAsLong l) (s ∷ (shares ++ more)) long in
+    let parts = ByRecursion-append (IsAsLong l) shares more short.1 in
     let some =
     list_any-from_Any (λ t. begins_with l t) shares
-    (held l begins (All-from_recursion (IsShort l) (s ∷ shares) (short.0, parts.0))) in
+    (held l begins (All-from_recursion (IsAsLong l) (s ∷ shares) (short.0, parts.0))) in
     Any-from_list_any (λ t. begins_with l t) (shares ++ more)
     (list_any-append (λ t. begins_with l t) shares more ∙ or_left _ _ some)
 
@@ -90,19 +90,19 @@ begins_with-cut (g ∷ l) x (h ∷ t) e short =
 pub Hold-without : (shares : List (List Half)) (t s : List Half) → (begins_with s t ≡ true → ⊥)
     → (begins_with t s ≡ true → ⊥) → Hold (shares ++ t ∷ []) s → Hold shares s
 Hold-without shares t s apart off held l begins long =
-    let short = recursion_from_All (IsShort l) (s ∷ shares) long in
+    let short = recursion_from_All (IsAsLong l) (s ∷ shares) long in
     let x : List Half = replicate (length t) Keep in
     let on_s : begins_with (l ++ x) s ≡ true = begins_with-append l x s begins in
     let far : length (l ++ x) ≡ length l + length t =
     omega (arith, length-append l x, length-replicate (length t) Keep) in
-    let longer : ByRecursion (IsShort (l ++ x)) shares = ByRecursion-longer l x shares short.1 in
-    let all : ByRecursion (IsShort (l ++ x)) (s ∷ (shares ++ t ∷ [])) = (
+    let longer : ByRecursion (IsAsLong (l ++ x)) shares = ByRecursion-longer l x shares short.1 in
+    let all : ByRecursion (IsAsLong (l ++ x)) (s ∷ (shares ++ t ∷ [])) = (
       omega (arith, far, short.0),
-      ByRecursion-join (IsShort (l ++ x)) shares (t ∷ []) longer (omega (arith, far), tt),
+      ByRecursion-join (IsAsLong (l ++ x)) shares (t ∷ []) longer (omega (arith, far), tt),
     ) in
     let some =
     list_any-from_Any (λ r. begins_with (l ++ x) r) (shares ++ t ∷ [])
-    (held (l ++ x) on_s (All-from_recursion (IsShort (l ++ x)) (s ∷ (shares ++ t ∷ [])) all)) in
+    (held (l ++ x) on_s (All-from_recursion (IsAsLong (l ++ x)) (s ∷ (shares ++ t ∷ [])) all)) in
     Any-from_list_any (λ r. begins_with l r) shares
     (⊎_elim
     (λ (early : list_any (λ r. begins_with (l ++ x) r) shares ≡ true). list_any-cut l x shares short.1 early)
@@ -114,13 +114,13 @@ Hold-without shares t s apart off held l begins long =
     (or_cases (begins_with (l ++ x) t) false late))
     (or_cases _ _ (sym (list_any-append (λ r. begins_with (l ++ x) r) shares (t ∷ [])) ∙ some)))
   where
-    ByRecursion-longer : (l x : List Half) (shares : List (List Half)) → ByRecursion (IsShort l) shares
-        → ByRecursion (IsShort (l ++ x)) shares
+    ByRecursion-longer : (l x : List Half) (shares : List (List Half)) → ByRecursion (IsAsLong l) shares
+        → ByRecursion (IsAsLong (l ++ x)) shares
     ByRecursion-longer l x [] h = tt
     ByRecursion-longer l x (r ∷ shares) h =
         (omega (arith, length-append l x, h.0), ByRecursion-longer l x shares h.1)
 
-    list_any-cut : (l x : List Half) (shares : List (List Half)) → ByRecursion (IsShort l) shares
+    list_any-cut : (l x : List Half) (shares : List (List Half)) → ByRecursion (IsAsLong l) shares
         → list_any (λ r. begins_with (l ++ x) r) shares ≡ true → list_any (λ r. begins_with l r) shares ≡ true
     list_any-cut l x [] h some = absurd (false≢true some)
     list_any-cut l x (r ∷ shares) h some =

@@ -14,34 +14,34 @@ use Rattle.credit.specs.declared.share.Half.{Half}
 use Rattle.credit.specs.declared.share.Half.TheVariants.{Keep}
 use Rattle.credit.specs.Shares.{begins_with, Hold, overlaps}
 use Rattle.credit.specs.Credits.{Credit, Holder, Running, Awaited, Entered, Event, Root, Create, Finish}
-use Rattle.credit.specs.Credits.{Detach, Fulfil, is_entered, is_running, is_awaited, is_made, is_root}
+use Rattle.credit.specs.Credits.{Detach, Fulfil, is_entered, is_running, is_awaited, was_made, is_root}
 use Rattle.credit.specs.Credits.{exchange, has_task_share, has_event_share, shared_halves, entered_credit}
-use Rattle.credit.specs.Credits.{whole_of, detached_halves, next_credits, credits_after, live_shares}
+use Rattle.credit.specs.Credits.{whole_credit, detached_halves, next_credits, credits_after, live_shares}
 use Rattle.credit.specs.Credits.{entered_shares}
-use Rattle.credit.proofs.ShareLemmas.{IsShort, ByRecursion-append, length-begins_with, begins_with-append}
+use Rattle.credit.proofs.ShareLemmas.{IsAsLong, ByRecursion-append, length-begins_with, begins_with-append}
 use Rattle.credit.proofs.ShareLemmas.{begins_with-itself, count_by-some, list_any_weaker}
-use Rattle.credit.proofs.CreditLemmas.{IsSound, IsSound-credits_after}
+use Rattle.credit.proofs.CreditLemmas.{AreCreditsSound, IsSound-credits_after}
 use Rattle.credit.proofs.TileLaw.{shares_where, is_live_of, is_entered_of, count_by-live-entered}
 use Rattle.credit.proofs.TileLaw.{Fits-from_shares}
 
 -- the second list has all the shares of the first, and perhaps more
-pub record IsWithin (old new : List (List Half)) : Type 0 where
+pub record HasAllOf (old new : List (List Half)) : Type 0 where
   pub any : (p : List Half → Bool) → list_any p old ≡ true → list_any p new ≡ true
-  pub all : (l : List Half) → ByRecursion (IsShort l) new → ByRecursion (IsShort l) old
+  pub all : (l : List Half) → ByRecursion (IsAsLong l) new → ByRecursion (IsAsLong l) old
 
-IsWithin-itself : (xs : List (List Half)) → IsWithin xs xs
+IsWithin-itself : (xs : List (List Half)) → HasAllOf xs xs
 IsWithin-itself xs = record { any = λ p h. h; all = λ l h. h }
 
-IsWithin-through : (xs ys zs : List (List Half)) → IsWithin xs ys → IsWithin ys zs → IsWithin xs zs
+IsWithin-through : (xs ys zs : List (List Half)) → HasAllOf xs ys → HasAllOf ys zs → HasAllOf xs zs
 IsWithin-through xs ys zs f g = record { any = λ p h. g.any p (f.any p h); all = λ l h. f.all l (g.all l h) }
 
-IsWithin-before : (xs ys : List (List Half)) → IsWithin ys (xs ++ ys)
+IsWithin-before : (xs ys : List (List Half)) → HasAllOf ys (xs ++ ys)
 IsWithin-before xs ys = record {
   any = λ p h. rw list_any-append (or_right (list_any p xs) _ h);
-  all = λ l h. (ByRecursion-append (IsShort l) xs ys h).1;
+  all = λ l h. (ByRecursion-append (IsAsLong l) xs ys h).1;
 }
 
-IsWithin-cons : (x : List Half) (xs ys : List (List Half)) → IsWithin xs ys → IsWithin (x ∷ xs) (x ∷ ys)
+IsWithin-cons : (x : List Half) (xs ys : List (List Half)) → HasAllOf xs ys → HasAllOf (x ∷ xs) (x ∷ ys)
 IsWithin-cons x xs ys w = record {
   any =
       λ p h.
@@ -57,8 +57,8 @@ entered_shares-append root cs ds =
     ∙ map-append (λ (c : Credit). c.share) (filter (is_entered_of root) cs) (filter (is_entered_of root) ds)
 
 IsWithin-where : (b : Bool) (c : Credit) (xs ys : List Credit)
-    → IsWithin (map (λ (c : Credit). c.share) xs) (map (λ (c : Credit). c.share) ys)
-    → IsWithin (map (λ (c : Credit). c.share) (cond b (c ∷ xs) xs))
+    → HasAllOf (map (λ (c : Credit). c.share) xs) (map (λ (c : Credit). c.share) ys)
+    → HasAllOf (map (λ (c : Credit). c.share) (cond b (c ∷ xs) xs))
     (map (λ (c : Credit). c.share) (cond b (c ∷ ys) ys))
 IsWithin-where true c xs ys w = IsWithin-cons c.share _ _ w
 IsWithin-where false c xs ys w = w
@@ -66,11 +66,11 @@ IsWithin-where false c xs ys w = w
 -- what an exchange takes away was not entered
 IsWithin-exchange : (root : ℕ) (passes : Credit → Bool) (others : Credit → List Credit)
     → ((c : Credit) → passes c ≡ true → is_entered c.holder ≡ false) → (cs : List Credit)
-    → IsWithin (entered_shares root cs) (entered_shares root (exchange passes others cs))
+    → HasAllOf (entered_shares root cs) (entered_shares root (exchange passes others cs))
 IsWithin-exchange root passes others live [] = IsWithin-itself []
 IsWithin-exchange root passes others live (c ∷ cs) =
     cond_both (passes c) (others c ++ cs) (c ∷ exchange passes others cs)
-    (λ ds. IsWithin (entered_shares root (c ∷ cs)) (entered_shares root ds))
+    (λ ds. HasAllOf (entered_shares root (c ∷ cs)) (entered_shares root ds))
     (λ yes.
     let skipped : is_entered_of root c ≡ false = and_right (c.root == root) _ (live c yes) in
     let was : entered_shares root (c ∷ cs) ≡ entered_shares root cs =
@@ -79,8 +79,8 @@ IsWithin-exchange root passes others live (c ∷ cs) =
     map (λ (c : Credit). c.share)
     (cond b (c ∷ filter (is_entered_of root) cs) (filter (is_entered_of root) cs)))
     skipped in
-    subst (λ xs. IsWithin xs (entered_shares root (others c ++ cs))) (sym was)
-    (subst (λ ys. IsWithin (entered_shares root cs) ys) (sym (entered_shares-append root (others c) cs))
+    subst (λ xs. HasAllOf xs (entered_shares root (others c ++ cs))) (sym was)
+    (subst (λ ys. HasAllOf (entered_shares root cs) ys) (sym (entered_shares-append root (others c) cs))
     (IsWithin-before (entered_shares root (others c)) (entered_shares root cs))))
     (
     λ no.
@@ -107,25 +107,25 @@ has_event_share-live task c h =
     is_awaited-not_entered c.holder (and_parts (c.task == task) (is_awaited c.holder) h).1
 
 IsWithin-root : (root task : ℕ) (cs : List Credit)
-    → IsWithin (entered_shares root cs) (entered_shares root (whole_of task ∷ cs))
+    → HasAllOf (entered_shares root cs) (entered_shares root (whole_credit task ∷ cs))
 IsWithin-root root task cs =
     let skipped : ((task == root) && false) ≡ false = and_right (task == root) _ refl in
-    let e : entered_shares root (whole_of task ∷ cs) ≡ entered_shares root cs =
+    let e : entered_shares root (whole_credit task ∷ cs) ≡ entered_shares root cs =
     ap
     (λ b.
     map (λ (c : Credit). c.share)
-    (cond b (whole_of task ∷ filter (is_entered_of root) cs) (filter (is_entered_of root) cs)))
+    (cond b (whole_credit task ∷ filter (is_entered_of root) cs) (filter (is_entered_of root) cs)))
     skipped in
-    subst (λ ys. IsWithin (entered_shares root cs) ys) (sym e) (IsWithin-itself (entered_shares root cs))
+    subst (λ ys. HasAllOf (entered_shares root cs) ys) (sym e) (IsWithin-itself (entered_shares root cs))
 
 -- what was entered stays so
 IsWithin-next_credits : (root : ℕ) (cs : List Credit) (e : Event)
-    → IsWithin (entered_shares root cs) (entered_shares root (next_credits cs e))
+    → HasAllOf (entered_shares root cs) (entered_shares root (next_credits cs e))
 IsWithin-next_credits root cs (Root task) =
-    cond_both (is_made task cs) cs _ (λ ds. IsWithin (entered_shares root cs) (entered_shares root ds))
+    cond_both (was_made task cs) cs _ (λ ds. HasAllOf (entered_shares root cs) (entered_shares root ds))
     (λ old. IsWithin-itself _) (λ new. IsWithin-root root task cs)
 IsWithin-next_credits root cs (Create creator child) =
-    cond_both (is_made child cs) cs _ (λ ds. IsWithin (entered_shares root cs) (entered_shares root ds))
+    cond_both (was_made child cs) cs _ (λ ds. HasAllOf (entered_shares root cs) (entered_shares root ds))
     (λ old. IsWithin-itself _)
     (λ new.
     IsWithin-exchange root (has_task_share creator) (shared_halves child)
@@ -138,16 +138,16 @@ IsWithin-next_credits root cs (Fulfil task) =
     IsWithin-exchange root (has_event_share task) entered_credit (has_event_share-live task) cs
 
 IsWithin-run : (root : ℕ) (cs : List Credit) (es : List Event)
-    → IsWithin (entered_shares root cs) (entered_shares root (fold next_credits cs es))
+    → HasAllOf (entered_shares root cs) (entered_shares root (fold next_credits cs es))
 IsWithin-run root cs [] = IsWithin-itself _
 IsWithin-run root cs (e ∷ es) =
     IsWithin-through _ _ _ (IsWithin-next_credits root cs e) (IsWithin-run root (next_credits cs e) es)
 
 -- more shares hold what fewer hold
-pub Hold-within : (old new : List (List Half)) (s : List Half) → IsWithin old new → Hold old s → Hold new s
+pub Hold-within : (old new : List (List Half)) (s : List Half) → HasAllOf old new → Hold old s → Hold new s
 Hold-within old new s within held l begins long =
-    let short = recursion_from_All (IsShort l) (s ∷ new) long in
-    let found = held l begins (All-from_recursion (IsShort l) (s ∷ old) (short.0, within.all l short.1)) in
+    let short = recursion_from_All (IsAsLong l) (s ∷ new) long in
+    let found = held l begins (All-from_recursion (IsAsLong l) (s ∷ old) (short.0, within.all l short.1)) in
     Any-from_list_any (λ t. begins_with l t) new
     (within.any (λ t. begins_with l t) (list_any-from_Any (λ t. begins_with l t) old found))
 
@@ -157,13 +157,13 @@ reach [] = 0
 reach (c ∷ cs) = length c.share + reach cs
 
 IsShort-reach : (test : Credit → Bool) (l : List Half) (cs : List Credit) → reach cs ≤ length l
-    → ByRecursion (IsShort l) (shares_where test cs)
+    → ByRecursion (IsAsLong l) (shares_where test cs)
 IsShort-reach test l [] far = tt
 IsShort-reach test l (c ∷ cs) far =
     let here : length c.share ≤ length l = omega arith in
-    let rest : ByRecursion (IsShort l) (shares_where test cs) = IsShort-reach test l cs (omega arith) in
+    let rest : ByRecursion (IsAsLong l) (shares_where test cs) = IsShort-reach test l cs (omega arith) in
     cond_both (test c) (c ∷ filter test cs) (filter test cs)
-    (λ ds. ByRecursion (IsShort l) (map (λ (c : Credit). c.share) ds))
+    (λ ds. ByRecursion (IsAsLong l) (map (λ (c : Credit). c.share) ds))
     (λ yes. (here, rest)) (λ no. rest)
 
 -- a root with a live share was made
@@ -185,19 +185,19 @@ is_root-live p root (c ∷ cs) h =
     (cases_Bool (c.root == root))
 
 -- no list of halves begins with a share that is held and with a live one
-Hold-apart : (cs : List Credit) (root : ℕ) (s u : List Half) → IsSound cs → Hold (entered_shares root cs) s
+Hold-apart : (cs : List Credit) (root : ℕ) (s u : List Half) → AreCreditsSound cs → Hold (entered_shares root cs) s
     → list_any (λ x. begins_with u x) (live_shares root cs) ≡ true → begins_with u s ≡ true → ⊥
 Hold-apart cs root s u sound held live begins =
     let l : List Half = u ++ replicate (reach cs) Keep in
     let far : reach cs ≤ length l =
     omega (arith, length-append u (replicate (reach cs) Keep), length-replicate (reach cs) Keep) in
-    let as_live : ByRecursion (IsShort l) (live_shares root cs) = IsShort-reach (is_live_of root) l cs far in
-    let as_entered : ByRecursion (IsShort l) (entered_shares root cs) =
+    let as_live : ByRecursion (IsAsLong l) (live_shares root cs) = IsShort-reach (is_live_of root) l cs far in
+    let as_entered : ByRecursion (IsAsLong l) (entered_shares root cs) =
     IsShort-reach (is_entered_of root) l cs far in
     let on_s : begins_with l s ≡ true = begins_with-append u (replicate (reach cs) Keep) s begins in
     let found =
     held l on_s
-    (All-from_recursion (IsShort l) (s ∷ entered_shares root cs)
+    (All-from_recursion (IsAsLong l) (s ∷ entered_shares root cs)
     (length-begins_with l s on_s, as_entered)) in
     let one =
     sound.one l root (is_root-live (λ x. begins_with u x) root cs live)
@@ -210,7 +210,7 @@ Hold-apart cs root s u sound held live begins =
     (λ x. begins_with-append u (replicate (reach cs) Keep) x) (live_shares root cs) live) in
     absurd (omega (arith, one, count_by-live-entered l root cs, entered_one, live_one))
 
-Hold-here : (cs : List Credit) (root : ℕ) (s : List Half) → IsSound cs → Hold (entered_shares root cs) s
+Hold-here : (cs : List Credit) (root : ℕ) (s : List Half) → AreCreditsSound cs → Hold (entered_shares root cs) s
     → All (λ t. ¬ IsTrue (overlaps s t)) (live_shares root cs)
 Hold-here cs root s sound held k d within shared =
     let t : List Half = get_or (live_shares root cs) k d in

@@ -11,7 +11,7 @@ use Rattle.credit.specs.declared.share.Half.TheVariants.{Keep, Give}
 use Rattle.credit.specs.Shares.{is_same_half, begins_with, keep_half, give_half, Hold}
 use Rattle.credit.proofs.ShareLemmas.{ones, same_half, is_same_half-swap, begins_with-append}
 use Rattle.credit.proofs.ShareLemmas.{begins_with-itself, begins_with-halves, begins_with_through}
-use Rattle.credit.proofs.ShareLemmas.{length-begins_with, list_any_weaker, IsShort}
+use Rattle.credit.proofs.ShareLemmas.{length-begins_with, list_any_weaker, IsAsLong}
 
 -- of two lists with which a third begins, one begins with the other
 pub begins_with-either : (l s t : List Half) → begins_with l s ≡ true → begins_with l t ≡ true
@@ -58,7 +58,7 @@ span [] = 0
 span (t ∷ shares) = length t + span shares
 
 pub IsShort-span : (l : List Half) (shares : List (List Half)) → span shares ≤ length l
-    → ByRecursion (IsShort l) shares
+    → ByRecursion (IsAsLong l) shares
 IsShort-span l [] far = tt
 IsShort-span l (t ∷ shares) far = (omega arith, IsShort-span l shares (omega arith))
 
@@ -88,13 +88,13 @@ Hold-missing shares p apart off held =
     omega (arith, length-append p (replicate (span shares) Keep), length-replicate (span shares) Keep) in
     let found =
     held l on_p
-    (All-from_recursion (IsShort l) (p ∷ shares)
+    (All-from_recursion (IsAsLong l) (p ∷ shares)
     (length-begins_with l p on_p, IsShort-span l shares far)) in
     no_third l p shares on_p apart off (list_any-from_Any (λ t. begins_with l t) shares found)
 
 -- a list as long as each share is longer than a piece with which one of them goes on
 longer-all : (l p : List Half) (shares : List (List Half)) → list_any (λ t. begins_with p t) shares ≡ false
-    → list_any (λ t. begins_with t p) shares ≡ true → ByRecursion (IsShort l) shares → length p < length l
+    → list_any (λ t. begins_with t p) shares ≡ true → ByRecursion (IsAsLong l) shares → length p < length l
 longer-all l p [] apart on short = absurd (false≢true on)
 longer-all l p (t ∷ shares) apart on short =
     let parts = or_parts (begins_with p t) (list_any (λ t. begins_with p t) shares) apart in
@@ -114,12 +114,12 @@ pub Hold-halves : (shares : List (List Half)) (p : List Half) → list_any (λ t
     → list_any (λ t. begins_with t p) shares ≡ true → Hold shares (keep_half p) → Hold shares (give_half p)
     → Hold shares p
 Hold-halves shares p apart on kept given l begins long =
-    let short = recursion_from_All (IsShort l) (p ∷ shares) long in
+    let short = recursion_from_All (IsAsLong l) (p ∷ shares) long in
     let longer = longer-all l p shares apart on short.1 in
     let one : ones (begins_with l p) ≡ 1 = ap ones begins in
     let fits =
     λ (h : Half).
-    All-from_recursion (IsShort l) ((p ++ h ∷ []) ∷ shares)
+    All-from_recursion (IsAsLong l) ((p ++ h ∷ []) ∷ shares)
     (omega (arith, longer, length-append p (h ∷ [])), short.1) in
     ⊎_elim (λ first. kept l first (fits Keep)) (λ second. given l second (fits Give))
     (either-true (begins_with l (keep_half p)) (begins_with l (give_half p))

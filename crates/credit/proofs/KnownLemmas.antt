@@ -9,11 +9,11 @@ use Rattle.credit.specs.declared.tree.Run.{Run}
 use Rattle.credit.specs.declared.tree.Progress.{Progress}
 use Rattle.credit.specs.Shares.{begins_with}
 use Rattle.credit.specs.Paths.{keeps, prefix, path_of}
-use Rattle.credit.specs.Trees.{time_within, first_of, time_above, IsApart, IsClear, IsHeldFrom, IsCounted}
+use Rattle.credit.specs.Trees.{time_within, first_time, time_above, IsApart, HasNoShorter, IsHeldFrom, AreRunsCounted}
 use Rattle.credit.proofs.ShareLemmas.{begins_with-append, begins_with_through, length-begins_with}
 use Rattle.credit.proofs.HoldLemmas.{begins_with-either}
 use Rattle.credit.proofs.PathLemmas.{keeps-path_of, keeps_apart, keeps-none, keeps-longer, length-keeps}
-use Rattle.credit.proofs.PathLemmas.{prefix-parent, begins_with-push, IsBegun, here, higher, IsBegun-share}
+use Rattle.credit.proofs.PathLemmas.{prefix-parent, begins_with-push, IsBegunBy, here, higher, IsBegun-share}
 use Rattle.credit.proofs.PathLemmas.{IsAbove, above, IsAbove-prefix}
 use Rattle.credit.proofs.HeldLemmas.{Hold-found, Hold-apart, Hold-no_run}
 
@@ -39,10 +39,10 @@ slice_get-of_take (x ∷ xs) (suc k) zero t less at = at
 slice_get-of_take (x ∷ xs) (suc k) (suc i) t less at = slice_get-of_take xs k i t (omega arith) at
 
 -- what a run within a number was
-pub data IsWithin (run : Option Run) (n time : ℕ) : Type 0 where
-  within : (r : Run) → run ≡ Some r → r.keeps ≤ n → r.time ≡ time → IsWithin run n time
+pub data IsRunWithin (run : Option Run) (n time : ℕ) : Type 0 where
+  within : (r : Run) → run ≡ Some r → r.keeps ≤ n → r.time ≡ time → IsRunWithin run n time
 
-pub IsWithin-from : (run : Option Run) (n time : ℕ) → time_within run n ≡ Some time → IsWithin run n time
+pub IsWithin-from : (run : Option Run) (n time : ℕ) → time_within run n ≡ Some time → IsRunWithin run n time
 IsWithin-from None n time e = absurd (none_some time e)
 IsWithin-from (Some r) n time e =
     ⊎_elim
@@ -60,11 +60,11 @@ time_within-none run n r e same less =
     none_some r.time
     (sym e ∙ ap (λ o. time_within o n) same ∙ cond-true (leb r.keeps n) (Some r.time) None yes)
 
-first_of-some : (a b : Option ℕ) (time : ℕ) → first_of a b ≡ Some time → (a ≡ Some time) ⊎ (b ≡ Some time)
+first_of-some : (a b : Option ℕ) (time : ℕ) → first_time a b ≡ Some time → (a ≡ Some time) ⊎ (b ≡ Some time)
 first_of-some None b time e = inr e
 first_of-some (Some x) b time e = inl e
 
-first_of-none : (a b : Option ℕ) → first_of a b ≡ None → (a ≡ None) × (b ≡ None)
+first_of-none : (a b : Option ℕ) → first_time a b ≡ None → (a ≡ None) × (b ≡ None)
 first_of-none None b e = (refl, e)
 first_of-none (Some x) b e = absurd (none_some x (sym e))
 
@@ -78,7 +78,7 @@ IsEnteredIn-longer : (shares : List (List Half)) (s r : List Half) (time : ℕ) 
 IsEnteredIn-longer shares s r time on (entered_in t at begun) =
     entered_in t at (begins_with_through r s t on begun)
 
-pub IsEnteredIn-above : (shares : List (List Half)) (at : List ℕ → Progress) → IsCounted shares at
+pub IsEnteredIn-above : (shares : List (List Half)) (at : List ℕ → Progress) → AreRunsCounted shares at
     → (p : List ℕ) (time : ℕ) → time_above at p ≡ Some time → IsEnteredIn shares (prefix p) time
 IsEnteredIn-above shares at counted [] time e = absurd (none_some time e)
 IsEnteredIn-above shares at counted (n ∷ up) time e =
@@ -89,7 +89,7 @@ IsEnteredIn-above shares at counted (n ∷ up) time e =
     (λ (second : time_within (at up).run n ≡ Some time). from_run (IsWithin-from (at up).run n time second))
     (first_of-some (time_above at up) (time_within (at up).run n) time e)
   where
-    from_run : IsWithin (at up).run n time → IsEnteredIn shares (prefix (n ∷ up)) time
+    from_run : IsRunWithin (at up).run n time → IsEnteredIn shares (prefix (n ∷ up)) time
     from_run (within r same less when) =
         entered_in (keeps (prefix up) r.keeps) (ap (slice_get shares) (sym when) ∙ counted.run up r same)
         (begins_with-append (keeps (prefix up) n) (Give ∷ []) (keeps (prefix up) r.keeps)
@@ -106,17 +106,17 @@ pub time_above-some : (at : List ℕ → Progress) (xs up : List ℕ) (time : �
     → time_above at (xs ++ up) ≡ Some time
 time_above-some at [] up time e = e
 time_above-some at (n ∷ xs) up time e =
-    ap (λ o. first_of o (time_within (at (xs ++ up)).run n)) (time_above-some at xs up time e)
+    ap (λ o. first_time o (time_within (at (xs ++ up)).run n)) (time_above-some at xs up time e)
 
 -- where no shorter share begins a node's, a share that begins a run of it is that run or a shorter one
-pub data IsRun (shares : List (List Half)) (at : List ℕ → Progress) (p : List ℕ) (m i : ℕ) (t : List Half) :
+pub data IsRunOrShorter (shares : List (List Half)) (at : List ℕ → Progress) (p : List ℕ) (m i : ℕ) (t : List Half) :
     Type 0 where
   is_run : (l : ℕ) → l ≤ m → t ≡ keeps (prefix p) l → (at p).run ≡ Some (record { keeps = l; time = i })
-      → IsRun shares at p m i t
+      → IsRunOrShorter shares at p m i t
 
-pub IsRun-begun : (shares : List (List Half)) (at : List ℕ → Progress) → IsCounted shares at → (p : List ℕ)
+pub IsRun-begun : (shares : List (List Half)) (at : List ℕ → Progress) → AreRunsCounted shares at → (p : List ℕ)
     → time_above at p ≡ None → (m i : ℕ) (t : List Half) → slice_get shares i ≡ Some t
-    → begins_with (keeps (prefix p) m) t ≡ true → IsRun shares at p m i t
+    → begins_with (keeps (prefix p) m) t ≡ true → IsRunOrShorter shares at p m i t
 IsRun-begun shares at counted p none m i t entered begun =
     by_case
     (IsBegun-share p m (path_of t).0 (path_of t).1
@@ -131,7 +131,7 @@ IsRun-begun shares at counted p none m i t entered begun =
         time_within-none (at (path_of t).0).run n (record { keeps = (path_of t).1; time = i })
         (first_of-none (time_above at (path_of t).0) (time_within (at (path_of t).0).run n) rest).1 known less
 
-    by_case : IsBegun p m (path_of t).0 (path_of t).1 → IsRun shares at p m i t
+    by_case : IsBegunBy p m (path_of t).0 (path_of t).1 → IsRunOrShorter shares at p m i t
     by_case (here same less) =
         is_run (path_of t).1 less
         (sym (keeps-path_of t) ∙ ap (λ q. keeps (prefix q) (path_of t).1) same)
@@ -139,14 +139,14 @@ IsRun-begun shares at counted p none m i t entered begun =
     by_case (higher n begun less) = absurd (no_higher n less (IsAbove-prefix p (n ∷ (path_of t).0) begun))
 
 -- where no shorter share begins a node's share, none does
-pub IsClear-above : (shares : List (List Half)) (at : List ℕ → Progress) → IsCounted shares at → (p : List ℕ)
-    → time_above at p ≡ None → IsClear shares (prefix p)
+pub IsClear-above : (shares : List (List Half)) (at : List ℕ → Progress) → AreRunsCounted shares at → (p : List ℕ)
+    → time_above at p ≡ None → HasNoShorter shares (prefix p)
 IsClear-above shares at counted p none i t entered begun =
     from_run
     (IsRun-begun shares at counted p none 0 i t entered
     (subst (λ r. begins_with r t ≡ true) (sym (keeps-none (prefix p))) begun))
   where
-    from_run : IsRun shares at p 0 i t → length (prefix p) ≤ length t
+    from_run : IsRunOrShorter shares at p 0 i t → length (prefix p) ≤ length t
     from_run (is_run l less same run) = omega (arith, ap length same, length-keeps (prefix p) l)
 
 -- a share that an entered one begins is held from then on
@@ -185,8 +185,8 @@ IsHeldFrom-none shares s m none upto = (
 )
 
 -- a child before the end of the run is clear
-pub IsClear-child : (shares : List (List Half)) (at : List ℕ → Progress) → IsCounted shares at
-    → (up : List ℕ) (r : Run) (k : ℕ) → (at up).run ≡ Some r → k < r.keeps → IsClear shares (prefix (k ∷ up))
+pub IsClear-child : (shares : List (List Half)) (at : List ℕ → Progress) → AreRunsCounted shares at
+    → (up : List ℕ) (r : Run) (k : ℕ) → (at up).run ≡ Some r → k < r.keeps → HasNoShorter shares (prefix (k ∷ up))
 IsClear-child shares at counted up r k run less i t entered begun =
     ⊎_elim
     (λ (first : begins_with (keeps (prefix up) k) t ≡ true).
@@ -205,7 +205,7 @@ IsClear-child shares at counted up r k run less i t entered begun =
     (begins_with-push (keeps (prefix up) k) Give t begun)
 
 -- a held child stands before the end of the run
-pub held_child-before : (shares : List (List Half)) (at : List ℕ → Progress) → IsCounted shares at
+pub held_child-before : (shares : List (List Half)) (at : List ℕ → Progress) → AreRunsCounted shares at
     → (up : List ℕ) (r : Run) (k : ℕ) → (at up).run ≡ Some r → is_some (at (k ∷ up)).since ≡ true
     → k < r.keeps
 held_child-before shares at counted up r k run held =

@@ -146,11 +146,11 @@ begins_with-empty [] e = refl
 begins_with-empty (h ∷ y) e = absurd (false≢true e)
 
 -- what begins a share stands at its own node or at one above
-pub data IsBegun (p : List ℕ) (m : ℕ) (q : List ℕ) (l : ℕ) : Type 0 where
-  here : q ≡ p → l ≤ m → IsBegun p m q l
-  higher : (n : ℕ) → begins_with (prefix p) (prefix (n ∷ q)) ≡ true → l ≤ n → IsBegun p m q l
+pub data IsBegunBy (p : List ℕ) (m : ℕ) (q : List ℕ) (l : ℕ) : Type 0 where
+  here : q ≡ p → l ≤ m → IsBegunBy p m q l
+  higher : (n : ℕ) → begins_with (prefix p) (prefix (n ∷ q)) ≡ true → l ≤ n → IsBegunBy p m q l
 
-IsBegun-lift : (n : ℕ) (p : List ℕ) (m : ℕ) (q : List ℕ) (l : ℕ) → IsBegun p n q l → IsBegun (n ∷ p) m q l
+IsBegun-lift : (n : ℕ) (p : List ℕ) (m : ℕ) (q : List ℕ) (l : ℕ) → IsBegunBy p n q l → IsBegunBy (n ∷ p) m q l
 IsBegun-lift n p m q l (here same less) =
     higher n
     (subst (λ r. begins_with (prefix (n ∷ p)) (prefix (n ∷ r)) ≡ true) (sym same)
@@ -160,7 +160,7 @@ IsBegun-lift n p m q l (higher k begun less) =
     higher k (begins_with_through (prefix (n ∷ p)) (prefix p) (prefix (k ∷ q)) (prefix-parent n p) begun) less
 
 pub IsBegun-node : (p : List ℕ) (m : ℕ) (q : List ℕ) (l : ℕ)
-    → begins_with (prefix p) (keeps (prefix q) l) ≡ true → IsBegun p m q l
+    → begins_with (prefix p) (keeps (prefix q) l) ≡ true → IsBegunBy p m q l
 IsBegun-node [] m q l e =
     let whole : keeps (prefix q) l ≡ keeps (prefix []) 0 = begins_with-empty (keeps (prefix q) l) e in
     let same = keeps_apart q [] l 0 whole in here same.0 (omega (arith, same.1))
@@ -178,7 +178,7 @@ IsBegun-node (n ∷ p) m q l e =
     (begins_with-push (keeps (prefix p) n) Give (keeps (prefix q) l) e)
 
 pub IsBegun-share : (p : List ℕ) (m : ℕ) (q : List ℕ) (l : ℕ)
-    → begins_with (keeps (prefix p) m) (keeps (prefix q) l) ≡ true → IsBegun p m q l
+    → begins_with (keeps (prefix p) m) (keeps (prefix q) l) ≡ true → IsBegunBy p m q l
 IsBegun-share p m q l e =
     ⊎_elim (λ begun. IsBegun-node p m q l begun)
     (λ (run : (j : ℕ) × (j ≤ m) × (keeps (prefix q) l ≡ keeps (prefix p) j)).

@@ -15,21 +15,21 @@ use Rattle.credit.specs.declared.tree.Tree.{Tree}
 use Rattle.credit.specs.Shares.{begins_with, overlaps, Hold}
 use Rattle.credit.specs.Paths.{keeps, prefix, path_of}
 use Rattle.credit.specs.Trees.{no_progress, node_at, child, place, progress_at, time_above, is_by, both_of}
-use Rattle.credit.specs.Trees.{child_since, since_all, IsClear, IsHeldFrom, IsKnown}
+use Rattle.credit.specs.Trees.{child_since, since_all, HasNoShorter, IsHeldFrom, IsTreeKnown}
 use Rattle.credit.proofs.ShareLemmas.{begins_with-longer, begins_with_through}
-use Rattle.credit.proofs.PathLemmas.{keeps-path_of, keeps-none, keeps-longer, IsBegun, here, higher}
+use Rattle.credit.proofs.PathLemmas.{keeps-path_of, keeps-none, keeps-longer, IsBegunBy, here, higher}
 use Rattle.credit.proofs.PathLemmas.{IsBegun-share, IsAbove, above, IsAbove-prefix}
 use Rattle.credit.proofs.HeldLemmas.{list_any-found, list_any-none, Hold-longer, Hold-apart, Hold-no_run}
 use Rattle.credit.proofs.HeldLemmas.{Hold-run}
 use Rattle.credit.proofs.KnownLemmas.{none_some, same_some, slice_get-take, slice_get-of_take, IsEnteredIn}
-use Rattle.credit.proofs.KnownLemmas.{entered_in, IsEnteredIn-above, IsRun, is_run, IsRun-begun}
+use Rattle.credit.proofs.KnownLemmas.{entered_in, IsEnteredIn-above, IsRunOrShorter, is_run, IsRun-begun}
 use Rattle.credit.proofs.KnownLemmas.{IsClear-above, IsHeldFrom-entered, IsHeldFrom-none, IsClear-child}
 use Rattle.credit.proofs.CountLemmas.{count_below-full}
 use Rattle.credit.proofs.SettleLemmas.{IsFree}
 use Rattle.credit.proofs.TreeLemmas.{place-none, place-child, progress_at-place, progress_at-none}
 
 -- a share that an entered one begins, by a walk down
-pub IsHeldFrom-above : (shares : List (List Half)) (at : List ℕ → Progress) → IsKnown shares at
+pub IsHeldFrom-above : (shares : List (List Half)) (at : List ℕ → Progress) → IsTreeKnown shares at
     → (p : List ℕ) (m time : ℕ) → time_above at p ≡ Some time
     → IsHeldFrom shares (Some (time + 1)) (keeps (prefix p) m)
 IsHeldFrom-above shares at known p m time e =
@@ -41,31 +41,31 @@ IsHeldFrom-above shares at known p m time e =
         IsHeldFrom-entered shares known.counted.apart time t (keeps (prefix p) m) there
         (begins_with_through (keeps (prefix p) m) (prefix p) t (begins_with-longer (prefix p) _) begun)
 
-pub time_above-small : (shares : List (List Half)) (at : List ℕ → Progress) → IsKnown shares at
+pub time_above-small : (shares : List (List Half)) (at : List ℕ → Progress) → IsTreeKnown shares at
     → (p : List ℕ) (time : ℕ) → time_above at p ≡ Some time → time < length shares
 time_above-small shares at known p time e = from_entered (IsEnteredIn-above shares at known.counted p time e)
   where
     from_entered : IsEnteredIn shares (prefix p) time → time < length shares
     from_entered (entered_in t there begun) = slice_get_within shares time t there
 
-pub run-small : (shares : List (List Half)) (at : List ℕ → Progress) → IsKnown shares at
+pub run-small : (shares : List (List Half)) (at : List ℕ → Progress) → IsTreeKnown shares at
     → (p : List ℕ) (r : Run) → (at p).run ≡ Some r → r.time < length shares
 run-small shares at known p r e =
     slice_get_within shares r.time (keeps (prefix p) r.keeps) (known.counted.run p r e)
 
 -- a node with no run
-pub IsHeldFrom-no_run : (shares : List (List Half)) (at : List ℕ → Progress) → IsKnown shares at
+pub IsHeldFrom-no_run : (shares : List (List Half)) (at : List ℕ → Progress) → IsTreeKnown shares at
     → (p : List ℕ) (m : ℕ) → time_above at p ≡ None → (at p).run ≡ None
     → IsHeldFrom shares None (keeps (prefix p) m)
 IsHeldFrom-no_run shares at known p m none empty =
     IsHeldFrom-none shares (prefix p) m
     (λ j i t there begun. from_run j i t (IsRun-begun shares at known.counted p none j i t there begun))
   where
-    from_run : (j i : ℕ) (t : List Half) → IsRun shares at p j i t → ⊥
+    from_run : (j i : ℕ) (t : List Half) → IsRunOrShorter shares at p j i t → ⊥
     from_run j i t (is_run l less same run) = none_some (record { keeps = l; time = i }) (sym empty ∙ run)
 
 -- a run that begins the share
-pub IsHeldFrom-run : (shares : List (List Half)) (at : List ℕ → Progress) → IsKnown shares at
+pub IsHeldFrom-run : (shares : List (List Half)) (at : List ℕ → Progress) → IsTreeKnown shares at
     → (p : List ℕ) (m : ℕ) (r : Run) → (at p).run ≡ Some r → r.keeps ≤ m
     → IsHeldFrom shares (Some (r.time + 1)) (keeps (prefix p) m)
 IsHeldFrom-run shares at known p m r run less =
@@ -73,7 +73,7 @@ IsHeldFrom-run shares at known p m r run less =
     (known.counted.run p r run) (keeps-longer (prefix p) m r.keeps less)
 
 -- a node's own share
-pub IsHeldFrom-node : (shares : List (List Half)) (at : List ℕ → Progress) → IsKnown shares at → (p : List ℕ)
+pub IsHeldFrom-node : (shares : List (List Half)) (at : List ℕ → Progress) → IsTreeKnown shares at → (p : List ℕ)
     → time_above at p ≡ None → IsHeldFrom shares (at p).since (keeps (prefix p) 0)
 IsHeldFrom-node shares at known p none =
     subst (λ s. IsHeldFrom shares (at p).since s) (sym (keeps-none (prefix p)))
@@ -136,7 +136,7 @@ since_all-same since other same start first (suc count) =
     ∙ ap (both_of (since_all other start first count)) (same (first + count))
 
 -- a run that goes on behind the share
-pub IsHeldFrom-children : (shares : List (List Half)) (at : List ℕ → Progress) → IsKnown shares at
+pub IsHeldFrom-children : (shares : List (List Half)) (at : List ℕ → Progress) → IsTreeKnown shares at
     → (p : List ℕ) (m : ℕ) (r : Run) → time_above at p ≡ None → (at p).run ≡ Some r → m ≤ r.keeps
     → IsHeldFrom shares (since_all (λ n. (at (n ∷ p)).since) (r.time + 1) m (r.keeps - m))
     (keeps (prefix p) m)
@@ -157,13 +157,13 @@ IsHeldFrom-children shares at known p m r none run less upto = (
       (keeps-longer (prefix p) j m low) held)))),
 )
   where
-    clear : (j : ℕ) → j < r.keeps → IsClear shares (prefix (j ∷ p))
+    clear : (j : ℕ) → j < r.keeps → HasNoShorter shares (prefix (j ∷ p))
     clear j high = IsClear-child shares at known.counted p r j run high
 
     after : (i : ℕ) (l : ℕ) → (at p).run ≡ Some (record { keeps = l; time = i }) → i ≡ r.time
     after i l e = ap (λ (x : Run). x.time) (same_some (record { keeps = l; time = i }) r (sym e ∙ run))
 
-    when : (j i : ℕ) (t : List Half) → IsRun shares at p j i t → i ≡ r.time
+    when : (j i : ℕ) (t : List Half) → IsRunOrShorter shares at p j i t → i ≡ r.time
     when j i t (is_run l less same there) = after i l there
 
     late : Hold (take upto shares) (keeps (prefix p) m) → r.time + 1 ≤ upto
@@ -196,7 +196,7 @@ child_since-at tree p index found n = by_child (child tree index n) refl
 
 -- ---- overlaps
 
-pub overlaps-above : (shares : List (List Half)) (at : List ℕ → Progress) → IsKnown shares at
+pub overlaps-above : (shares : List (List Half)) (at : List ℕ → Progress) → IsTreeKnown shares at
     → (p : List ℕ) (m time : ℕ) → time_above at p ≡ Some time
     → list_any (overlaps (keeps (prefix p) m)) shares ≡ true
 overlaps-above shares at known p m time e = from_entered (IsEnteredIn-above shares at known.counted p time e)
@@ -207,7 +207,7 @@ overlaps-above shares at known p m time e = from_entered (IsEnteredIn-above shar
         (or_left _ _
         (begins_with_through (keeps (prefix p) m) (prefix p) t (begins_with-longer (prefix p) _) begun))
 
-pub overlaps-run : (shares : List (List Half)) (at : List ℕ → Progress) → IsKnown shares at
+pub overlaps-run : (shares : List (List Half)) (at : List ℕ → Progress) → IsTreeKnown shares at
     → (p : List ℕ) (m : ℕ) (r : Run) → (at p).run ≡ Some r
     → list_any (overlaps (keeps (prefix p) m)) shares ≡ true
 overlaps-run shares at known p m r e =
@@ -226,7 +226,7 @@ place-run : (tree : Tree) (q : List ℕ) (r : Run) → (progress_at tree q).run 
 place-run tree q r e missing =
     none_some r (sym (ap (λ (x : Progress). x.run) (progress_at-none tree q missing)) ∙ e)
 
-pub overlaps-none : (shares : List (List Half)) (tree : Tree) → IsKnown shares (progress_at tree)
+pub overlaps-none : (shares : List (List Half)) (tree : Tree) → IsTreeKnown shares (progress_at tree)
     → (p : List ℕ) (m : ℕ) → time_above (progress_at tree) p ≡ None → (progress_at tree p).run ≡ None
     → ((n k : ℕ) → place (child tree) (n ∷ p) ≡ Some k → n < m)
     → list_any (overlaps (keeps (prefix p) m)) shares ≡ false
@@ -242,7 +242,7 @@ overlaps-none shares tree known p m none empty low =
     (subst (λ x. begins_with x (keeps (prefix p) m) ≡ true) (sym (keeps-path_of t)) longer)))
     (or_cases (begins_with (keeps (prefix p) m) t) (begins_with t (keeps (prefix p) m)) either))
   where
-    from_run : (i : ℕ) (t : List Half) → IsRun shares (progress_at tree) p m i t → ⊥
+    from_run : (i : ℕ) (t : List Half) → IsRunOrShorter shares (progress_at tree) p m i t → ⊥
     from_run i t (is_run l less same run) = none_some (record { keeps = l; time = i }) (sym empty ∙ run)
 
     run_of : (i : ℕ) (t : List Half) → slice_get shares i ≡ Some t
@@ -261,7 +261,7 @@ overlaps-none shares tree known p m none empty low =
         by_place (Some k) f = let less = low n k f in omega arith
 
     from_begun : (i : ℕ) (t : List Half) → slice_get shares i ≡ Some t
-        → IsBegun (path_of t).0 (path_of t).1 p m → ⊥
+        → IsBegunBy (path_of t).0 (path_of t).1 p m → ⊥
     from_begun i t there (here same less) =
         none_some (record { keeps = (path_of t).1; time = i })
         (sym empty ∙ ap (λ q. (progress_at tree q).run) same ∙ run_of i t there)
@@ -283,10 +283,10 @@ IsFree-overlaps shares s none = record {
 -- ---- one tree in place of another
 
 pub IsKnown-same : (shares : List (List Half)) (at new : List ℕ → Progress) → ((up : List ℕ) → new up ≡ at up)
-    → IsKnown shares at → IsKnown shares new
-IsKnown-same shares at new same known = subst (λ f. IsKnown shares f) (sym (λ i up. same up i)) known
+    → IsTreeKnown shares at → IsTreeKnown shares new
+IsKnown-same shares at new same known = subst (λ f. IsTreeKnown shares f) (sym (λ i up. same up i)) known
 
-pub IsKnown-empty : (at : List ℕ → Progress) → ((up : List ℕ) → at up ≡ no_progress) → IsKnown [] at
+pub IsKnown-empty : (at : List ℕ → Progress) → ((up : List ℕ) → at up ≡ no_progress) → IsTreeKnown [] at
 IsKnown-empty at empty = record {
   counted = record {
     apart = λ i j s t one two begun. absurd (none_some s one);

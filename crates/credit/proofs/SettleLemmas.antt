@@ -12,7 +12,7 @@ use Rattle.credit.specs.declared.tree.Run.{Run}
 use Rattle.credit.specs.declared.tree.Progress.{Progress}
 use Rattle.credit.specs.Shares.{is_same_half, begins_with, Hold}
 use Rattle.credit.specs.Paths.{keeps, prefix}
-use Rattle.credit.specs.Trees.{is_by, count_below, IsApart, IsClear, IsHeldFrom, IsCounted, IsKnown}
+use Rattle.credit.specs.Trees.{is_by, count_below, IsApart, HasNoShorter, IsHeldFrom, AreRunsCounted, IsTreeKnown}
 use Rattle.credit.specs.Trees.{IsSettling, IsFull, full}
 use Rattle.credit.proofs.ShareLemmas.{same_half, begins_with-itself, begins_with-longer, begins_with_through}
 use Rattle.credit.proofs.ShareLemmas.{length-begins_with}
@@ -61,10 +61,10 @@ known_held shares since s from held =
 -- each child's time is right
 abbrev pub ChildrenKnown : List (List Half) → (List ℕ → Progress) → List ℕ → Type 0
 ChildrenKnown shares at up =
-    (k : ℕ) → IsClear shares (prefix (k ∷ up)) → IsHeldFrom shares (at (k ∷ up)).since (prefix (k ∷ up))
+    (k : ℕ) → HasNoShorter shares (prefix (k ∷ up)) → IsHeldFrom shares (at (k ∷ up)).since (prefix (k ∷ up))
 
 -- a node with as many held children as its run has Keep halves is held
-pub Hold-complete : (shares : List (List Half)) (at : List ℕ → Progress) → IsCounted shares at → (up : List ℕ)
+pub Hold-complete : (shares : List (List Half)) (at : List ℕ → Progress) → AreRunsCounted shares at → (up : List ℕ)
     → ChildrenKnown shares at up → (r : Run) → (at up).run ≡ Some r → (at up).held_children ≡ r.keeps
     → Hold shares (prefix up)
 Hold-complete shares at counted up known r run even =
@@ -79,8 +79,8 @@ Hold-complete shares at counted up known r run even =
     (known j (IsClear-child shares at counted up r j run high)) held))
 
 -- and the other way round
-pub IsFull-held : (shares : List (List Half)) (at : List ℕ → Progress) → IsCounted shares at → (up : List ℕ)
-    → ChildrenKnown shares at up → IsClear shares (prefix up) → Hold shares (prefix up) → IsFull (at up)
+pub IsFull-held : (shares : List (List Half)) (at : List ℕ → Progress) → AreRunsCounted shares at → (up : List ℕ)
+    → ChildrenKnown shares at up → HasNoShorter shares (prefix up) → Hold shares (prefix up) → IsFull (at up)
 IsFull-held shares at counted up known clear held = by_run (at up).run refl
   where
     none_begun : (at up).run ≡ None → (j i : ℕ) (t : List Half) → slice_get shares i ≡ Some t
@@ -155,7 +155,7 @@ marked_since shares at new up was (full r run count) mark upto = (
         clear
 
 marked_run : (shares : List (List Half)) (at new : List ℕ → Progress) (here : List ℕ) (time : ℕ)
-    → IsCounted shares at → IsFull (at here) → IsMarked at new here time → (up : List ℕ)
+    → AreRunsCounted shares at → IsFull (at here) → IsMarked at new here time → (up : List ℕ)
     → is_some (new up).since ≡ true → is_some (new up).run ≡ true
 marked_run shares at new here time counted (full r run count) marked up some =
     ⊎_elim
@@ -172,7 +172,7 @@ record IsRunKnown (shares : List (List Half)) (at : List ℕ → Progress) : Typ
       → (at up).run ≡ Some (record { keeps = count; time = time })
 
 IsRunKnown-marked : (shares : List (List Half)) (at new : List ℕ → Progress) (here : List ℕ) (time : ℕ)
-    → IsCounted shares at → IsMarked at new here time → IsRunKnown shares new
+    → AreRunsCounted shares at → IsMarked at new here time → IsRunKnown shares new
 IsRunKnown-marked shares at new here time counted marked = record {
   run = λ up r e. counted.run up r (sym (marked.run up) ∙ e);
   entered = λ i up count e. marked.run up ∙ counted.entered i up count e;
@@ -258,7 +258,7 @@ IsSettling-parent shares at new n up was is_full marked more others = record {
             (was.counted.count q bound (within q bound below) ∙ ap (λ p. (at p).held_children) same)
             ∙ sym more ∙ ap (λ p. (new p).held_children) (sym same)
 
-    settled : (q : List ℕ) → begins_with (prefix up) (prefix q) ≡ false → IsClear shares (prefix q)
+    settled : (q : List ℕ) → begins_with (prefix up) (prefix q) ≡ false → HasNoShorter shares (prefix q)
         → IsHeldFrom shares (new q).since (prefix q)
     settled q apart clear =
         ⊎_elim
@@ -282,7 +282,7 @@ IsSettling-parent shares at new n up was is_full marked more others = record {
 -- the root is marked last
 pub IsKnown-root : (shares : List (List Half)) (at new : List ℕ → Progress) → IsSettling shares at []
     → IsFull (at []) → IsMarked at new [] (length shares)
-    → ((q : List ℕ) → (new q).held_children ≡ (at q).held_children) → IsKnown shares new
+    → ((q : List ℕ) → (new q).held_children ≡ (at q).held_children) → IsTreeKnown shares new
 IsKnown-root shares at new was is_full marked same_count = record {
   counted = record {
     apart = was.counted.apart;
@@ -315,7 +315,7 @@ IsKnown-root shares at new was is_full marked same_count = record {
 
 -- a node that is not full is held by nothing, nor is one above it
 pub IsKnown-stopped : (shares : List (List Half)) (at : List ℕ → Progress) (here : List ℕ)
-    → IsSettling shares at here → (IsFull (at here) → ⊥) → IsKnown shares at
+    → IsSettling shares at here → (IsFull (at here) → ⊥) → IsTreeKnown shares at
 IsKnown-stopped shares at here was not_full = record {
   counted = was.counted;
   since = λ q clear.
@@ -419,7 +419,7 @@ IsHeldFrom-push shares s t since apart off from upto =
     either_lt a b = ⊎_elim (λ (less : b < a). inr less) (λ (more : a ≤ b). inl more) (cases_lt b a)
 
 pub IsSettling-entered : (shares : List (List Half)) (at new : List ℕ → Progress) (p : List ℕ) (m : ℕ)
-    → IsKnown shares at → IsFree shares (keeps (prefix p) m)
+    → IsTreeKnown shares at → IsFree shares (keeps (prefix p) m)
     → IsRunPut at new p (record { keeps = m; time = length shares })
     → IsSettling (shares ++ keeps (prefix p) m ∷ []) new p
 IsSettling-entered shares at new p m known free put = record {
@@ -540,7 +540,7 @@ IsSettling-entered shares at new p m known free put = record {
         → (at q).since ≡ None
     unmarked q begun None e = e
     unmarked q begun (Some x) e =
-        let clear : IsClear shares (prefix q) =
+        let clear : HasNoShorter shares (prefix q) =
         λ i t there on.
         absurd
         (free.shorter i t there
@@ -549,7 +549,7 @@ IsSettling-entered shares at new p m known free put = record {
         let by : is_by (at q).since x ≡ true = ap (λ o. is_by o x) e ∙ le-leb x x (omega arith) in
         absurd (nothing q begun x ((known.since q clear x).0 by))
 
-    settled : (q : List ℕ) → begins_with (prefix p) (prefix q) ≡ false → IsClear (shares ++ s ∷ []) (prefix q)
+    settled : (q : List ℕ) → begins_with (prefix p) (prefix q) ≡ false → HasNoShorter (shares ++ s ∷ []) (prefix q)
         → IsHeldFrom (shares ++ s ∷ []) (at q).since (prefix q)
     settled q off clear =
         IsHeldFrom-push shares s (prefix q) (at q).since

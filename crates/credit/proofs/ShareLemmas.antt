@@ -96,8 +96,8 @@ list_any_weaker p q weaker (x ∷ xs) h =
     (or_cases (p x) (list_any p xs) h)
 
 -- the list of halves is at least as long as the share
-abbrev pub IsShort : List Half → List Half → Type 0
-IsShort l s = length s ≤ length l
+abbrev pub IsAsLong : List Half → List Half → Type 0
+IsAsLong l s = length s ≤ length l
 
 -- what holds of each share of two lists
 pub ByRecursion-append : (P : List Half → Type 0) (xs ys : List (List Half)) → ByRecursion P (xs ++ ys)

@@ -6,8 +6,8 @@ use Rattle.credit.specs.declared.share.Half.{Half}
 use Rattle.credit.specs.declared.tree.Progress.{Progress}
 use Rattle.credit.specs.declared.tree.Tree.{Tree}
 use Rattle.credit.specs.Paths.{path_of}
-use Rattle.credit.specs.Trees.{node_at, child, place, progress_at, with_run, with_since, with_child, IsLinked}
-use Rattle.credit.specs.Trees.{IsCounted, IsKnown, IsSettling, IsFull}
+use Rattle.credit.specs.Trees.{node_at, child, place, progress_at, with_run, with_since, with_held_child, IsTreeLinked}
+use Rattle.credit.specs.Trees.{AreRunsCounted, IsTreeKnown, IsSettling, IsFull}
 use Rattle.credit.proofs.PathLemmas.{keeps-path_of}
 use Rattle.credit.proofs.SettleLemmas.{IsMarked, IsFree, IsRunPut, IsSettling-entered, IsSettling-parent}
 use Rattle.credit.proofs.SettleLemmas.{IsKnown-root}
@@ -16,7 +16,7 @@ use Rattle.credit.proofs.UpdateLemmas.{IsUpdated, place-parent, place-within, up
 use Rattle.credit.proofs.UpdateLemmas.{updated-length, IsLinked-updated, progress_at-updated}
 use Rattle.credit.proofs.UpdateLemmas.{progress_at-kept, progress_at-field, held_children-small}
 
-module _ (shares : List (List Half)) (old new : Tree) (index : ℕ) (linked : IsLinked old)
+module _ (shares : List (List Half)) (old new : Tree) (index : ℕ) (linked : IsTreeLinked old)
     (some : 0 < length old.nodes.items)
     (nodes : new.nodes.items ≡ set old.nodes.items index (with_since (node_at old index) (length shares)))
     (links : new.links ≡ old.links) where
@@ -31,7 +31,7 @@ module _ (shares : List (List Half)) (old new : Tree) (index : ℕ) (linked : Is
     reach = refl;
   }
 
-  pub IsLinked-marked : (up : List ℕ) → place (child old) up ≡ Some index → IsLinked new
+  pub IsLinked-marked : (up : List ℕ) → place (child old) up ≡ Some index → IsTreeLinked new
   IsLinked-marked up here =
       IsLinked-updated old new index (with_since (node_at old index) (length shares)) (marked-update up here)
       linked
@@ -77,7 +77,7 @@ module _ (shares : List (List Half)) (old new : Tree) (index : ℕ) (linked : Is
       (marked-update (n ∷ up) here) index))
 
   pub count-small : (n : ℕ) (up : List ℕ) → place (child old) (n ∷ up) ≡ Some index
-      → IsCounted shares (progress_at old)
+      → AreRunsCounted shares (progress_at old)
       → (node_at new (node_at new index).parent).progress.held_children ≤ 2 ^ 48 + 1
   count-small n up here counted =
       let above = place-above n up here in
@@ -101,7 +101,7 @@ module _ (shares : List (List Half)) (old new : Tree) (index : ℕ) (linked : Is
   full-there up here is_full = subst (λ p. IsFull p) (sym (progress_at-place old up index here)) is_full
 
   pub IsKnown-top : place (child old) [] ≡ Some index → IsSettling shares (progress_at old) []
-      → IsFull (node_at old index).progress → IsKnown shares (progress_at new)
+      → IsFull (node_at old index).progress → IsTreeKnown shares (progress_at new)
   IsKnown-top here was is_full =
       IsKnown-root shares (progress_at old) (progress_at new) was (full-there [] here is_full)
       (IsMarked-mark [] here) (held-marked [] here)
@@ -110,7 +110,7 @@ module _ (shares : List (List Half)) (old new : Tree) (index : ℕ) (linked : Is
   module _ (last : Tree) (n : ℕ) (up : List ℕ) (here : place (child old) (n ∷ up) ≡ Some index)
       (nodes_last : last.nodes.items
       ≡ set new.nodes.items (node_at new index).parent
-      (with_child (node_at new (node_at new index).parent)))
+      (with_held_child (node_at new (node_at new index).parent)))
       (links_last : last.links ≡ new.links) where
     parent : ℕ
     parent = (node_at new index).parent
@@ -118,11 +118,11 @@ module _ (shares : List (List Half)) (old new : Tree) (index : ℕ) (linked : Is
     above : place (child new) up ≡ Some (node_at new index).parent
     above = place-above n up here
 
-    linked_new : IsLinked new
+    linked_new : IsTreeLinked new
     linked_new = IsLinked-marked (n ∷ up) here
 
     counted-update : IsUpdated new last (node_at new index).parent
-        (with_child (node_at new (node_at new index).parent))
+        (with_held_child (node_at new (node_at new index).parent))
     counted-update = record {
       inside =
           place-within new linked_new (omega (arith, some, length-marked (n ∷ up) here)) up
@@ -133,30 +133,30 @@ module _ (shares : List (List Half)) (old new : Tree) (index : ℕ) (linked : Is
       reach = refl;
     }
 
-    pub IsLinked-counted : IsLinked last
+    pub IsLinked-counted : IsTreeLinked last
     IsLinked-counted =
         IsLinked-updated new last (node_at new index).parent
-        (with_child (node_at new (node_at new index).parent)) counted-update linked_new
+        (with_held_child (node_at new (node_at new index).parent)) counted-update linked_new
 
     pub place-counted : place (child last) up ≡ Some (node_at new index).parent
     place-counted =
         updated-place new last (node_at new index).parent
-        (with_child (node_at new (node_at new index).parent)) counted-update up
+        (with_held_child (node_at new (node_at new index).parent)) counted-update up
         ∙ above
 
     pub length-counted : length last.nodes.items ≡ length old.nodes.items
     length-counted =
         updated-length new last (node_at new index).parent
-        (with_child (node_at new (node_at new index).parent)) counted-update
+        (with_held_child (node_at new (node_at new index).parent)) counted-update
         ∙ length-marked (n ∷ up) here
 
     counted-field : {X : Type 0} (field : Progress → X)
-        → field (with_child (node_at new (node_at new index).parent)).progress
+        → field (with_held_child (node_at new (node_at new index).parent)).progress
         ≡ field (node_at new (node_at new index).parent).progress
         → (q : List ℕ) → field (progress_at last q) ≡ field (progress_at new q)
     counted-field field same q =
         progress_at-field new last (node_at new index).parent
-        (with_child (node_at new (node_at new index).parent)) counted-update field linked_new up above
+        (with_held_child (node_at new (node_at new index).parent)) counted-update field linked_new up above
         same q
 
     IsMarked-counted : IsMarked (progress_at old) (progress_at last) (n ∷ up) (length shares)
@@ -174,7 +174,7 @@ module _ (shares : List (List Half)) (old new : Tree) (index : ℕ) (linked : Is
         (full-there (n ∷ up) here is_full) IsMarked-counted
         (ap (λ (p : Progress). p.held_children)
         (progress_at-updated new last (node_at new index).parent
-        (with_child (node_at new (node_at new index).parent)) counted-update up above)
+        (with_held_child (node_at new (node_at new index).parent)) counted-update up above)
         ∙ ap (λ k. k + 1)
         (sym
         (ap (λ (p : Progress). p.held_children)
@@ -183,12 +183,12 @@ module _ (shares : List (List Half)) (old new : Tree) (index : ℕ) (linked : Is
         (λ q other.
         ap (λ (p : Progress). p.held_children)
         (progress_at-kept new last (node_at new index).parent
-        (with_child (node_at new (node_at new index).parent)) counted-update linked_new up above q
+        (with_held_child (node_at new (node_at new index).parent)) counted-update linked_new up above q
         other)
         ∙ held-marked (n ∷ up) here q)
 
 -- a run was put down at the node of a share that overlaps no other one
-module _ (shares : List (List Half)) (old new : Tree) (index : ℕ) (s : List Half) (linked : IsLinked old)
+module _ (shares : List (List Half)) (old new : Tree) (index : ℕ) (s : List Half) (linked : IsTreeLinked old)
     (here : place (child old) (path_of s).0 ≡ Some index) (inside : index < length old.nodes.items)
     (nodes : new.nodes.items
     ≡ set old.nodes.items index
@@ -198,7 +198,7 @@ module _ (shares : List (List Half)) (old new : Tree) (index : ℕ) (s : List Ha
       (with_run (node_at old index) (record { keeps = (path_of s).1; time = length shares }))
   put-update = record { inside = inside; nodes = nodes; links = links; parent = refl; reach = refl }
 
-  pub IsLinked-put : IsLinked new
+  pub IsLinked-put : IsTreeLinked new
   IsLinked-put =
       IsLinked-updated old new index
       (with_run (node_at old index) (record { keeps = (path_of s).1; time = length shares })) put-update
@@ -230,7 +230,7 @@ module _ (shares : List (List Half)) (old new : Tree) (index : ℕ) (s : List Ha
         (λ p. p.held_children) linked (path_of s).0 here refl;
   }
 
-  pub IsSettling-put : IsKnown shares (progress_at old) → IsFree shares s
+  pub IsSettling-put : IsTreeKnown shares (progress_at old) → IsFree shares s
       → IsSettling (shares ++ s ∷ []) (progress_at new) (path_of s).0
   IsSettling-put known free =
       subst (λ x. IsSettling (shares ++ x ∷ []) (progress_at new) (path_of s).0) (keeps-path_of s)

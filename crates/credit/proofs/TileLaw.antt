@@ -10,7 +10,7 @@ use Rattle.credit.specs.declared.share.Half.{Half}
 use Rattle.credit.specs.Shares.{begins_with, Tile}
 use Rattle.credit.specs.Credits.{Credit, Event, is_entered, is_root, credits_after, live_shares}
 use Rattle.credit.specs.Credits.{entered_shares}
-use Rattle.credit.proofs.ShareLemmas.{IsShort, ByRecursion-append, ones}
+use Rattle.credit.proofs.ShareLemmas.{IsAsLong, ByRecursion-append, ones}
 use Rattle.credit.proofs.CreditLemmas.{tally, Fits, IsSound-credits_after}
 
 -- the shares of the credits that pass the test
@@ -80,13 +80,13 @@ first_where P true c cs h = ((λ yes. h.0), h.1)
 first_where P false c cs h = ((λ yes. absurd (false≢true yes)), h)
 
 pub Fits-from_shares : (l : List Half) (root : ℕ) (cs : List Credit)
-    → ByRecursion (IsShort l) (live_shares root cs) → ByRecursion (IsShort l) (entered_shares root cs)
+    → ByRecursion (IsAsLong l) (live_shares root cs) → ByRecursion (IsAsLong l) (entered_shares root cs)
     → Fits l root cs
 Fits-from_shares l root [] live entered = tt
 Fits-from_shares l root (c ∷ cs) live entered =
-    let as_live = first_where (IsShort l) (is_live_of root c) c (filter (is_live_of root) cs) live in
+    let as_live = first_where (IsAsLong l) (is_live_of root c) c (filter (is_live_of root) cs) live in
     let as_entered =
-    first_where (IsShort l) (is_entered_of root c) c (filter (is_entered_of root) cs) entered in (
+    first_where (IsAsLong l) (is_entered_of root c) c (filter (is_entered_of root) cs) entered in (
       (λ here. ⊎_elim
           (λ (yes : is_entered c.holder ≡ true). as_entered.0 (and_from _ _ here yes))
           (λ (no : is_entered c.holder ≡ false). as_live.0 (and_from _ _ here (ap not no)))
@@ -100,7 +100,7 @@ pub Tile-credits_after : (es : List Event) (root : ℕ) → IsTrue (is_root root
 Tile-credits_after es root begun l long =
     let live = live_shares root (credits_after es) in
     let entered = entered_shares root (credits_after es) in
-    let parts = ByRecursion-append (IsShort l) live entered (recursion_from_All (IsShort l) _ long) in
+    let parts = ByRecursion-append (IsAsLong l) live entered (recursion_from_All (IsAsLong l) _ long) in
     let one =
     (IsSound-credits_after es).one l root begun
     (Fits-from_shares l root (credits_after es) parts.0 parts.1) in

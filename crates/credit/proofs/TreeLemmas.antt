@@ -5,7 +5,7 @@ use Rattle.std.specs.Option.{option_and_then, option_map_or}
 use Rattle.std.proofs.lemmas.List.{reverse-append, take-append-drop, take_more}
 use Rattle.credit.specs.declared.tree.Progress.{Progress}
 use Rattle.credit.specs.declared.tree.Tree.{Tree}
-use Rattle.credit.specs.Trees.{no_progress, node_at, child, place, progress_at, time_within, first_of}
+use Rattle.credit.specs.Trees.{no_progress, node_at, child, place, progress_at, time_within, first_time}
 use Rattle.credit.specs.Trees.{time_above}
 use Rattle.credit.proofs.KnownLemmas.{time_above-some}
 
@@ -41,7 +41,7 @@ pub time_above-missing : (tree : Tree) (xs up : List ℕ) → place (child tree)
     → time_above (progress_at tree) up ≡ None → time_above (progress_at tree) (xs ++ up) ≡ None
 time_above-missing tree [] up missing none = none
 time_above-missing tree (n ∷ xs) up missing none =
-    ap (λ o. first_of o (time_within (progress_at tree (xs ++ up)).run n))
+    ap (λ o. first_time o (time_within (progress_at tree (xs ++ up)).run n))
     (time_above-missing tree xs up missing none)
     ∙ ap (λ (p : Progress). time_within p.run n)
     (progress_at-none tree (xs ++ up) (place-none (child tree) xs up missing))
@@ -70,7 +70,7 @@ pub time_above-more : (tree : Tree) (runs : List ℕ) (i index : ℕ) (next : Op
     → time_above (progress_at tree) (reverse (take (i + 1) runs)) ≡ next
 time_above-more tree runs i index next less here none run =
     ap (time_above (progress_at tree)) (reverse_take_more runs i 0 less)
-    ∙ ap (λ o. first_of o (time_within (progress_at tree (reverse (take i runs))).run (get_or runs i 0))) none
+    ∙ ap (λ o. first_time o (time_within (progress_at tree (reverse (take i runs))).run (get_or runs i 0))) none
     ∙ ap (λ (p : Progress). time_within p.run (get_or runs i 0))
     (progress_at-place tree (reverse (take i runs)) index here)
     ∙ run

@@ -9,8 +9,8 @@ use Rattle.credit.specs.declared.share.Half.{Half}
 use Rattle.credit.specs.declared.tree.Progress.{Progress}
 use Rattle.credit.specs.declared.tree.Node.{Node}
 use Rattle.credit.specs.declared.tree.Tree.{Tree}
-use Rattle.credit.specs.Links.{spot_of, found, IsRising}
-use Rattle.credit.specs.Trees.{empty_node, node_at, child, place, progress_at, IsLinked, IsCounted}
+use Rattle.credit.specs.Links.{spot_of, found, AreLinksRising}
+use Rattle.credit.specs.Trees.{empty_node, node_at, child, place, progress_at, IsTreeLinked, AreRunsCounted}
 use Rattle.credit.proofs.KnownLemmas.{none_some, same_some}
 use Rattle.credit.proofs.SettleLemmas.{same_path}
 use Rattle.credit.proofs.TreeLemmas.{place-child, progress_at-place, progress_at-none}
@@ -18,46 +18,46 @@ use Rattle.credit.proofs.GrowLemmas.{node_at-get}
 use Rattle.credit.proofs.CountLemmas.{count_below-le}
 
 -- the child by which a path goes on
-data IsStep (tree : Tree) (n : ℕ) (up : List ℕ) (k : ℕ) : Type 0 where
-  step : (i : ℕ) → place (child tree) up ≡ Some i → child tree i n ≡ Some k → IsStep tree n up k
+data IsPathStep (tree : Tree) (n : ℕ) (up : List ℕ) (k : ℕ) : Type 0 where
+  step : (i : ℕ) → place (child tree) up ≡ Some i → child tree i n ≡ Some k → IsPathStep tree n up k
 
 IsStep-from : (tree : Tree) (n : ℕ) (up : List ℕ) (k : ℕ) → place (child tree) (n ∷ up) ≡ Some k
-    → IsStep tree n up k
+    → IsPathStep tree n up k
 IsStep-from tree n up k e = by_parent (place (child tree) up) refl
   where
-    by_parent : (o : Option ℕ) → place (child tree) up ≡ o → IsStep tree n up k
+    by_parent : (o : Option ℕ) → place (child tree) up ≡ o → IsPathStep tree n up k
     by_parent None f = absurd (none_some k (sym (ap (option_and_then (λ i. child tree i n)) f) ∙ e))
     by_parent (Some i) f = step i f (sym (place-child (child tree) n up i f) ∙ e)
 
 -- a node's parent is the node above it
-pub place-parent : (tree : Tree) → IsLinked tree → (n : ℕ) (up : List ℕ) (k : ℕ)
+pub place-parent : (tree : Tree) → IsTreeLinked tree → (n : ℕ) (up : List ℕ) (k : ℕ)
     → place (child tree) (n ∷ up) ≡ Some k → place (child tree) up ≡ Some (node_at tree k).parent
 place-parent tree linked n up k e = by_step (IsStep-from tree n up k e)
   where
-    by_step : IsStep tree n up k → place (child tree) up ≡ Some (node_at tree k).parent
+    by_step : IsPathStep tree n up k → place (child tree) up ≡ Some (node_at tree k).parent
     by_step (step i f g) = f ∙ ap (λ j. Some j) (sym (linked.back i n k g))
 
-pub place-within : (tree : Tree) → IsLinked tree → 0 < length tree.nodes.items → (up : List ℕ) (k : ℕ)
+pub place-within : (tree : Tree) → IsTreeLinked tree → 0 < length tree.nodes.items → (up : List ℕ) (k : ℕ)
     → place (child tree) up ≡ Some k → k < length tree.nodes.items
 place-within tree linked some [] k e = let same : 0 ≡ k = same_some 0 k e in omega (arith, same)
 place-within tree linked some (n ∷ up) k e = by_step (IsStep-from tree n up k e)
   where
-    by_step : IsStep tree n up k → k < length tree.nodes.items
+    by_step : IsPathStep tree n up k → k < length tree.nodes.items
     by_step (step i f g) = (linked.within i n k g).1
 
 -- each node stands at one path
-pub place-apart : (tree : Tree) → IsLinked tree → (p q : List ℕ) (k : ℕ) → place (child tree) p ≡ Some k
+pub place-apart : (tree : Tree) → IsTreeLinked tree → (p q : List ℕ) (k : ℕ) → place (child tree) p ≡ Some k
     → place (child tree) q ≡ Some k → p ≡ q
 place-apart tree linked [] [] k e f = refl
 place-apart tree linked [] (n ∷ q) k e f = below (IsStep-from tree n q k f)
   where
-    below : IsStep tree n q k → [] ≡ n ∷ q
+    below : IsPathStep tree n q k → [] ≡ n ∷ q
     below (step i g h) =
         let w = linked.within i n k h in
         let same : 0 ≡ k = same_some 0 k e in absurd (omega (arith, w.0, same))
 place-apart tree linked (n ∷ p) [] k e f = below (IsStep-from tree n p k e)
   where
-    below : IsStep tree n p k → n ∷ p ≡ []
+    below : IsPathStep tree n p k → n ∷ p ≡ []
     below (step i g h) =
         let w = linked.within i n k h in
         let same : 0 ≡ k = same_some 0 k f in absurd (omega (arith, w.0, same))
@@ -65,7 +65,7 @@ place-apart tree linked (m ∷ p) (n ∷ q) k e f =
     both (place-apart tree linked p q) (IsStep-from tree m p k e) (IsStep-from tree n q k f)
   where
     both : ((j : ℕ) → place (child tree) p ≡ Some j → place (child tree) q ≡ Some j → p ≡ q)
-        → IsStep tree m p k → IsStep tree n q k → m ∷ p ≡ n ∷ q
+        → IsPathStep tree m p k → IsPathStep tree n q k → m ∷ p ≡ n ∷ q
     both above (step i g h) (step j a b) =
         let parents : i ≡ j = sym (linked.back i m k h) ∙ linked.back j n k b in
         let ups : p ≡ q = above j (g ∙ ap (λ x. Some x) parents) a in
@@ -118,9 +118,9 @@ module _ (old new : Tree) (index : ℕ) (node : Node) (updated : IsUpdated old n
   pub updated-place : (up : List ℕ) → place (child new) up ≡ place (child old) up
   updated-place up = ap (λ xs. place (λ i n. found (spot_of xs i n)) up) (ap (λ v. v.items) updated.links)
 
-  pub IsLinked-updated : IsLinked old → IsLinked new
+  pub IsLinked-updated : IsTreeLinked old → IsTreeLinked new
   IsLinked-updated linked = record {
-    rising = subst IsRising (sym (ap (λ v. v.items) updated.links)) linked.rising;
+    rising = subst AreLinksRising (sym (ap (λ v. v.items) updated.links)) linked.rising;
     aligned = ap (λ v. length v.items) updated.links ∙ linked.aligned ∙ sym updated-length;
     within =
         λ i n k e.
@@ -137,7 +137,7 @@ module _ (old new : Tree) (index : ℕ) (node : Node) (updated : IsUpdated old n
   progress_at-updated p here =
       progress_at-place new p index (updated-place p ∙ here) ∙ ap (λ (x : Node). x.progress) updated-here
 
-  pub progress_at-kept : IsLinked old → (p : List ℕ) → place (child old) p ≡ Some index → (q : List ℕ) → q ≢ p
+  pub progress_at-kept : IsTreeLinked old → (p : List ℕ) → place (child old) p ≡ Some index → (q : List ℕ) → q ≢ p
       → progress_at new q ≡ progress_at old q
   progress_at-kept linked p here q apart = by_place (place (child old) q) refl
     where
@@ -151,7 +151,7 @@ module _ (old new : Tree) (index : ℕ) (node : Node) (updated : IsUpdated old n
           ∙ sym (progress_at-place old q i e)
 
   -- what the change leaves of a node's progress, it leaves everywhere
-  pub progress_at-field : {X : Type 0} (field : Progress → X) → IsLinked old → (p : List ℕ)
+  pub progress_at-field : {X : Type 0} (field : Progress → X) → IsTreeLinked old → (p : List ℕ)
       → place (child old) p ≡ Some index → field node.progress ≡ field (node_at old index).progress
       → (q : List ℕ) → field (progress_at new q) ≡ field (progress_at old q)
   progress_at-field field linked p here same q =
@@ -164,8 +164,8 @@ module _ (old new : Tree) (index : ℕ) (node : Node) (updated : IsUpdated old n
       (same_path q p)
 
 -- the counts are small: each held child stands below the node's reach
-pub held_children-small : (shares : List (List Half)) (tree : Tree) → IsLinked tree
-    → IsCounted shares (progress_at tree) → (up : List ℕ) (k : ℕ) → place (child tree) up ≡ Some k
+pub held_children-small : (shares : List (List Half)) (tree : Tree) → IsTreeLinked tree
+    → AreRunsCounted shares (progress_at tree) → (up : List ℕ) (k : ℕ) → place (child tree) up ≡ Some k
     → (node_at tree k).progress.held_children ≤ 2 ^ 48 + 1
 held_children-small shares tree linked counted up k here =
     let count = counted.count up (node_at tree k).reach below in

@@ -46,8 +46,8 @@ is_entered Awaited = false
 is_entered Entered = true
 
 -- the task was made
-abbrev pub is_made : ℕ → List Credit → Bool
-is_made task credits = list_any (λ c. c.task == task) credits
+abbrev pub was_made : ℕ → List Credit → Bool
+was_made task credits = list_any (λ c. c.task == task) credits
 
 -- the root was made
 abbrev pub is_root : ℕ → List Credit → Bool
@@ -62,8 +62,8 @@ abbrev pub has_event_share : ℕ → Credit → Bool
 has_event_share task c = (c.task == task) && is_awaited c.holder
 
 -- the whole, for a new root
-abbrev pub whole_of : ℕ → Credit
-whole_of task = record { root = task; task = task; holder = Running; share = [] }
+abbrev pub whole_credit : ℕ → Credit
+whole_credit task = record { root = task; task = task; holder = Running; share = [] }
 
 -- a creation: the creator goes on with one half, and the child starts with the other
 abbrev pub shared_halves : ℕ → Credit → List Credit
@@ -90,9 +90,9 @@ exchange passes others (c ∷ credits) =
 -- the credits after an event, which changes nothing where it does not fit: where the task to be made was
 -- made before, or who should have a share has none
 abbrev pub next_credits : List Credit → Event → List Credit
-next_credits credits (Root task) = if is_made task credits then credits else whole_of task ∷ credits
+next_credits credits (Root task) = if was_made task credits then credits else whole_credit task ∷ credits
 next_credits credits (Create creator child) =
-    if is_made child credits then credits else exchange (has_task_share creator) (shared_halves child) credits
+    if was_made child credits then credits else exchange (has_task_share creator) (shared_halves child) credits
 next_credits credits (Finish task) = exchange (has_task_share task) entered_credit credits
 next_credits credits (Detach task) = exchange (has_task_share task) detached_halves credits
 next_credits credits (Fulfil task) = exchange (has_event_share task) entered_credit credits

@@ -23,12 +23,12 @@ leaf_link parent number = record {
 abbrev pub link_at : List Link → ℕ → Link
 link_at links index = unwrap_or (slice_get links index) (leaf_link 0 0)
 
-abbrev pub behind : Link → Side → ℕ
-behind l First = l.first
-behind l Zero = l.zero
-behind l One = l.one
-behind l Two = l.two
-behind l Three = l.three
+abbrev pub link_behind : Link → Side → ℕ
+link_behind l First = l.first
+link_behind l Zero = l.zero
+link_behind l One = l.one
+link_behind l Two = l.two
+link_behind l Three = l.three
 
 -- the link, with this side leading to a child
 abbrev pub with_link : Link → Side → ℕ → Link
@@ -50,11 +50,11 @@ side_of digits =
 abbrev pub spot_within : List Link → ℕ → ℕ → ℕ → ℕ → ℕ → Side → Spot
 spot_within links zero parent number digits here side = Missing here side
 spot_within links (suc steps) parent number digits here side =
-    if behind (link_at links here) side == 0
+    if link_behind (link_at links here) side == 0
     then Missing here side
-    else if is_link_of parent number (link_at links (behind (link_at links here) side))
-    then Found (behind (link_at links here) side)
-    else spot_within links steps parent number (digits / 4) (behind (link_at links here) side)
+    else if is_link_of parent number (link_at links (link_behind (link_at links here) side))
+    then Found (link_behind (link_at links here) side)
+    else spot_within links steps parent number (digits / 4) (link_behind (link_at links here) side)
     (side_of digits)
 
 -- where the search for a child of this node ends
@@ -66,6 +66,6 @@ found (Found child) = Some child
 found (Missing here side) = None
 
 -- a link leads to a later one
-abbrev pub IsRising : List Link → Type 0
-IsRising links = (here : ℕ) (side : Side) → 0 < behind (link_at links here) side
-    → (here < behind (link_at links here) side) × (behind (link_at links here) side < length links)
+abbrev pub AreLinksRising : List Link → Type 0
+AreLinksRising links = (here : ℕ) (side : Side) → 0 < link_behind (link_at links here) side
+    → (here < link_behind (link_at links here) side) × (link_behind (link_at links here) side < length links)

@@ -14,7 +14,7 @@ use Rattle.credit.specs.declared.tree.Walk.TheVariants.{Above, Missing, Found}
 use Rattle.credit.specs.declared.links.Spot.TheVariants as spots
 use Rattle.credit.specs.Shares.{begins_with, Hold}
 use Rattle.credit.specs.Paths.{keeps, prefix}
-use Rattle.credit.specs.Links.{spot_of, found, IsRising}
+use Rattle.credit.specs.Links.{spot_of, found, AreLinksRising}
 
 -- nothing was entered at or below the node
 abbrev pub no_progress : Progress
@@ -45,19 +45,19 @@ abbrev pub time_within : Option Run → ℕ → Option ℕ
 time_within None number = None
 time_within (Some run) number = if nat_le run.keeps number then Some run.time else None
 
-abbrev pub first_of : Option ℕ → Option ℕ → Option ℕ
-first_of None second = second
-first_of (Some time) second = Some time
+abbrev pub first_time : Option ℕ → Option ℕ → Option ℕ
+first_time None second = second
+first_time (Some time) second = Some time
 
 -- when a share was entered that begins the share of this path and has fewer Give halves
 abbrev pub time_above : (List ℕ → Progress) → List ℕ → Option ℕ
 time_above at [] = None
-time_above at (number ∷ up) = first_of (time_above at up) (time_within (at up).run number)
+time_above at (number ∷ up) = first_time (time_above at up) (time_within (at up).run number)
 
 -- the nodes of the first runs are there, and this one is the last of them; where the next one is missing, the
 -- search for it ended there
-abbrev pub IsStart : Tree → List ℕ → Start → Type 0
-IsStart tree runs start =
+abbrev pub IsSearchStart : Tree → List ℕ → Start → Type 0
+IsSearchStart tree runs start =
     (start.depth ≤ length runs) × (place (child tree) (reverse (take start.depth runs)) ≡ Some start.index)
     × (start.depth < length runs
     → spot_of tree.links.items start.index (slice_index runs start.depth) ≡ spots.Missing start.at start.side)
@@ -67,7 +67,7 @@ abbrev pub IsWalked : Tree → List ℕ → Walk → Type 0
 IsWalked tree runs (Above time) = time_above (progress_at tree) (reverse runs) ≡ Some time
 IsWalked tree runs (Missing start) =
     (time_above (progress_at tree) (reverse runs) ≡ None) × (place (child tree) (reverse runs) ≡ None)
-    × IsStart tree runs start
+    × IsSearchStart tree runs start
 IsWalked tree runs (Found index) =
     (time_above (progress_at tree) (reverse runs) ≡ None) × (place (child tree) (reverse runs) ≡ Some index)
 
@@ -77,8 +77,8 @@ is_by None upto = false
 is_by (Some since) upto = nat_le since upto
 
 -- each edge leads to a node of its own
-pub record IsLinked (tree : Tree) : Type 0 where
-  pub rising : IsRising tree.links.items
+pub record IsTreeLinked (tree : Tree) : Type 0 where
+  pub rising : AreLinksRising tree.links.items
   pub aligned : length tree.links.items ≡ length tree.nodes.items
   pub within : (i n k : ℕ) → child tree i n ≡ Some k → (i < k) × (k < length tree.nodes.items)
   pub back : (i n k : ℕ) → child tree i n ≡ Some k → (node_at tree k).parent ≡ i
@@ -92,8 +92,8 @@ IsApart shares = (i j : ℕ) (s t : List Half) → slice_get shares i ≡ Some s
     → begins_with s t ≡ true → i ≡ j
 
 -- no shorter share begins this one
-abbrev pub IsClear : List (List Half) → List Half → Type 0
-IsClear shares s =
+abbrev pub HasNoShorter : List (List Half) → List Half → Type 0
+HasNoShorter shares s =
     (i : ℕ) (t : List Half) → slice_get shares i ≡ Some t → begins_with s t ≡ true → length s ≤ length t
 
 -- the share is held by the first ones from `since` on
@@ -106,7 +106,7 @@ count_below zero test = 0
 count_below (suc bound) test = (if test bound then 1 else 0) + count_below bound test
 
 -- what the nodes say of runs and counts is so
-pub record IsCounted (shares : List (List Half)) (at : List ℕ → Progress) : Type 0 where
+pub record AreRunsCounted (shares : List (List Half)) (at : List ℕ → Progress) : Type 0 where
   pub apart : IsApart shares
   pub run : (up : List ℕ) (run : Run) → (at up).run ≡ Some run
       → slice_get shares run.time ≡ Some (keeps (prefix up) run.keeps)
@@ -118,18 +118,18 @@ pub record IsCounted (shares : List (List Half)) (at : List ℕ → Progress) : 
       → count_below bound (λ n. is_some (at (n ∷ up)).since) ≡ (at up).held_children
 
 -- what the nodes say is so
-pub record IsKnown (shares : List (List Half)) (at : List ℕ → Progress) : Type 0 where
-  pub counted : IsCounted shares at
-  pub since : (up : List ℕ) → IsClear shares (prefix up) → IsHeldFrom shares (at up).since (prefix up)
+pub record IsTreeKnown (shares : List (List Half)) (at : List ℕ → Progress) : Type 0 where
+  pub counted : AreRunsCounted shares at
+  pub since : (up : List ℕ) → HasNoShorter shares (prefix up) → IsHeldFrom shares (at up).since (prefix up)
 
 -- it is so but for this node and those above it, which the last share may have made held
 pub record IsSettling (shares : List (List Half)) (at : List ℕ → Progress) (here : List ℕ) : Type 0 where
-  pub counted : IsCounted shares at
-  pub clear : IsClear shares (prefix here)
+  pub counted : AreRunsCounted shares at
+  pub clear : HasNoShorter shares (prefix here)
   pub unmarked : (up : List ℕ) → begins_with (prefix here) (prefix up) ≡ true → (at up).since ≡ None
   pub unheld : (up : List ℕ) → begins_with (prefix here) (prefix up) ≡ true → (upto : ℕ)
       → upto < length shares → Hold (take upto shares) (prefix up) → ⊥
-  pub settled : (up : List ℕ) → begins_with (prefix here) (prefix up) ≡ false → IsClear shares
+  pub settled : (up : List ℕ) → begins_with (prefix here) (prefix up) ≡ false → HasNoShorter shares
       (prefix up) → IsHeldFrom shares (at up).since (prefix up)
 
 -- the later one of two times, if both are known
@@ -154,7 +154,7 @@ pub data IsFull (progress : Progress) : Type 0 where
 
 -- nodes were added, and nothing else was changed
 pub record IsGrown (old new : Tree) : Type 0 where
-  pub linked : IsLinked new
+  pub linked : IsTreeLinked new
   pub longer : length old.nodes.items ≤ length new.nodes.items
   pub same : (up : List ℕ) → progress_at new up ≡ progress_at old up
   pub kept : (up : List ℕ) (index : ℕ) → place (child old) up ≡ Some index → place (child new) up ≡ Some index
@@ -170,6 +170,6 @@ with_run node run = record node { progress = record node.progress { run = Some r
 abbrev pub with_since : Node → ℕ → Node
 with_since node time = record node { progress = record node.progress { since = Some time } }
 
-abbrev pub with_child : Node → Node
-with_child node =
+abbrev pub with_held_child : Node → Node
+with_held_child node =
     record node { progress = record node.progress { held_children = node.progress.held_children + 1 } }

@@ -4,7 +4,7 @@
 //! that is looked for, from the lowest on, tells on which side to go on. So a search looks at no more children
 //! than the number has digits, whatever numbers there are.
 ghost use Rattle.std.specs.Prelude.{◌≡◌};
-ghost use Rattle.credit.specs.Links.{leaf_link, link_at, behind, is_link_of, side_of as side_at, spot_of, with_link};
+ghost use Rattle.credit.specs.Links.{leaf_link, link_at, link_behind, is_link_of, side_of as side_at, spot_of, with_link};
 
 /// A node among its parent's children. A 0 leads nowhere, since the root is no child. Nodes are named by 32
 /// bits, so a link takes 32 bytes.
@@ -56,7 +56,7 @@ impl Link {
 
     /// Where this side leads.
     fn behind(&self, side: Side) -> usize
-        ensures { result ≡ behind self.now side }
+        ensures { result ≡ link_behind self.now side }
     {
         match side {
             Side::First => self.first as usize,

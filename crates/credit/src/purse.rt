@@ -3,7 +3,7 @@ ghost use Rattle.std.specs.Prelude.{◌≡◌, ◌≤◌, ◌++◌, ◌∷◌, [
 ghost use Rattle.std.specs.List.{list_any};
 ghost use Rattle.credit.specs.Shares.{overlaps, overlaps_either, Hold};
 ghost use Rattle.credit.specs.Paths.{path_of};
-ghost use Rattle.credit.specs.Trees.{is_by, child, place, progress_at, time_above, IsLinked, IsSettling, IsKnown, IsHeldFrom, IsStart, IsGrown};
+ghost use Rattle.credit.specs.Trees.{is_by, child, place, progress_at, time_above, IsTreeLinked, IsSettling, IsTreeKnown, IsHeldFrom, IsSearchStart, IsGrown};
 
 use crate::fault::CreditFault;
 use crate::links::Side;
@@ -27,13 +27,13 @@ pub struct Purse {
 impl Model for Purse {
     ghost use Rattle.std.specs.Prelude.{List};
     ghost use Rattle.credit.specs.declared.share.Half.{Half};
-    ghost use Rattle.credit.specs.Trees.{progress_at, IsLinked, IsKnown};
+    ghost use Rattle.credit.specs.Trees.{progress_at, IsTreeLinked, IsTreeKnown};
 
     ghost Value = { List (List Half) };
 
     ghost view = { λ purse. purse.shares.items };
 
-    ghost invariant = { λ purse. IsLinked purse.tree × IsKnown purse.shares.items (progress_at purse.tree) };
+    ghost invariant = { λ purse. IsTreeLinked purse.tree × IsTreeKnown purse.shares.items (progress_at purse.tree) };
 }
 
 impl Purse {
@@ -119,7 +119,7 @@ impl Purse {
 
 /// How many of the shares hold the one of which this is the node, where no shorter one begins it.
 fn since_at(tree: &Tree, shares: &[Share], share: &Share, index: usize) -> Option<usize>
-    requires known { IsKnown shares.now (progress_at tree.now) }
+    requires known { IsTreeKnown shares.now (progress_at tree.now) }
     requires place { place (child tree.now) (path_of share.now).0 ≡ Some index }
     requires above { time_above (progress_at tree.now) (path_of share.now).0 ≡ None }
     ensures { IsHeldFrom shares.now result share.now }
@@ -140,10 +140,10 @@ fn since_at(tree: &Tree, shares: &[Share], share: &Share, index: usize) -> Optio
 
 /// Where the nodes of a share begin to be missing, or `None` where it overlaps one of the shares.
 fn start_of(tree: &Tree, shares: &[Share], share: &Share) -> Option<Start>
-    requires linked { IsLinked tree.now }
-    requires known { IsKnown shares.now (progress_at tree.now) }
+    requires linked { IsTreeLinked tree.now }
+    requires known { IsTreeKnown shares.now (progress_at tree.now) }
     ensures overlaps { is_none result ≡ list_any (overlaps share.now) shares.now }
-    ensures start { IfSome result (λ start. IsStart tree.now (reverse (path_of share.now).0) start) }
+    ensures start { IfSome result (λ start. IsSearchStart tree.now (reverse (path_of share.now).0) start) }
 {
     match tree.walk(share.runs()) {
         Walk::Above(_) => None,
@@ -164,8 +164,8 @@ fn start_of(tree: &Tree, shares: &[Share], share: &Share) -> Option<Start>
 
 /// Whether a share overlaps one of the others, where this is its node and no shorter one begins it.
 fn is_taken(tree: &Tree, shares: &[Share], share: &Share, index: usize) -> bool
-    requires linked { IsLinked tree.now }
-    requires known { IsKnown shares.now (progress_at tree.now) }
+    requires linked { IsTreeLinked tree.now }
+    requires known { IsTreeKnown shares.now (progress_at tree.now) }
     requires place { place (child tree.now) (path_of share.now).0 ≡ Some index }
     requires above { time_above (progress_at tree.now) (path_of share.now).0 ≡ None }
     ensures { result ≡ list_any (overlaps share.now) shares.now }
@@ -183,10 +183,10 @@ fn is_taken(tree: &Tree, shares: &[Share], share: &Share, index: usize) -> bool
 /// The node of a share that overlaps none of the others, made where it is missing, and each one above it too.
 /// Where memory ran out, some of them may be there.
 fn node_for(tree: &mut Tree, shares: &[Share], share: &Share) -> Result<usize, CreditFault>
-    requires linked { IsLinked tree.old }
-    requires known { IsKnown shares.now (progress_at tree.old) }
+    requires linked { IsTreeLinked tree.old }
+    requires known { IsTreeKnown shares.now (progress_at tree.old) }
     ensures grown { IsGrown tree.old tree.new }
-    ensures known { IsKnown shares.now (progress_at tree.new) }
+    ensures known { IsTreeKnown shares.now (progress_at tree.new) }
     ensures place { IfOk result (λ index. place (child tree.new) (path_of share.now).0 ≡ Some index) }
     ensures within { IfOk result (λ index. index < length tree.new.nodes.items) }
     ensures free { OnOk result (list_any (overlaps share.now) shares.now ≡ false) }
@@ -208,10 +208,10 @@ fn add_both(
     first: Share,
     second: Share,
 ) -> Result<(), (Share, Share)>
-    requires linked { IsLinked tree.old }
-    requires known { IsKnown shares.old.items (progress_at tree.old) }
-    ensures linked { IsLinked tree.new }
-    ensures known { IsKnown shares.new.items (progress_at tree.new) }
+    requires linked { IsTreeLinked tree.old }
+    requires known { IsTreeKnown shares.old.items (progress_at tree.old) }
+    ensures linked { IsTreeLinked tree.new }
+    ensures known { IsTreeKnown shares.new.items (progress_at tree.new) }
     ensures added { OnOk result (shares.new.items ≡ shares.old.items ++ first ∷ second ∷ []) }
     ensures unchanged { OnErr result (shares.new.items ≡ shares.old.items) }
     ensures overlaps { IsTrue (overlaps_either first second shares.old.items) → IsErr result }
@@ -236,8 +236,8 @@ fn add_both(
 
 /// Why two shares were given back.
 fn fault_of_both(tree: &Tree, shares: &[Share], first: &Share, second: &Share) -> CreditFault
-    requires linked { IsLinked tree.now }
-    requires known { IsKnown shares.now (progress_at tree.now) }
+    requires linked { IsTreeLinked tree.now }
+    requires known { IsTreeKnown shares.now (progress_at tree.now) }
     ensures { result ≡ (if overlaps_either first.now second.now shares.now
         then CreditFault.Overlap
         else CreditFault.Memory) }
@@ -254,8 +254,8 @@ fn fault_of_both(tree: &Tree, shares: &[Share], first: &Share, second: &Share) -
 
 /// Whether a share overlaps one of the others.
 fn overlaps_one(tree: &Tree, shares: &[Share], share: &Share) -> bool
-    requires linked { IsLinked tree.now }
-    requires known { IsKnown shares.now (progress_at tree.now) }
+    requires linked { IsTreeLinked tree.now }
+    requires known { IsTreeKnown shares.now (progress_at tree.now) }
     ensures { result ≡ list_any (overlaps share.now) shares.now }
 {
     start_of(tree, shares, share).is_none()
@@ -263,14 +263,14 @@ fn overlaps_one(tree: &Tree, shares: &[Share], share: &Share) -> bool
 
 /// Adds a share at its node, where there is room for it.
 fn add(tree: &mut Tree, shares: &mut Vec<Share>, share: Share, index: usize)
-    requires linked { IsLinked tree.old }
-    requires known { IsKnown shares.old.items (progress_at tree.old) }
+    requires linked { IsTreeLinked tree.old }
+    requires known { IsTreeKnown shares.old.items (progress_at tree.old) }
     requires free { list_any (overlaps share) shares.old.items ≡ false }
     requires room { vec_len shares.old < vec_capacity shares.old }
     requires place { place (child tree.old) (path_of share).0 ≡ Some index }
     requires within { index < length tree.old.nodes.items }
-    ensures linked { IsLinked tree.new }
-    ensures known { IsKnown shares.new.items (progress_at tree.new) }
+    ensures linked { IsTreeLinked tree.new }
+    ensures known { IsTreeKnown shares.new.items (progress_at tree.new) }
     ensures added { shares.new.items ≡ shares.old.items ++ share ∷ [] }
     ensures capacity { vec_capacity shares.old ≤ vec_capacity shares.new }
     ensures links { tree.new.links ≡ tree.old.links }
@@ -289,12 +289,12 @@ fn add(tree: &mut Tree, shares: &mut Vec<Share>, share: Share, index: usize)
 /// Marks what is held since the last of the shares was entered, at the node with this index: that node, if
 /// it is, and those above it as far as they are.
 fn settle(tree: &mut Tree, shares: &[Share], runs: &[u64], index: usize)
-    requires linked { IsLinked tree.old }
+    requires linked { IsTreeLinked tree.old }
     requires place { place (child tree.old) (reverse runs.now) ≡ Some index }
     requires settling { IsSettling shares.now (progress_at tree.old) (reverse runs.now) }
     requires within { 0 < length tree.old.nodes.items }
-    ensures linked { IsLinked tree.new }
-    ensures known { IsKnown shares.now (progress_at tree.new) }
+    ensures linked { IsTreeLinked tree.new }
+    ensures known { IsTreeKnown shares.now (progress_at tree.new) }
     ensures links { tree.new.links ≡ tree.old.links }
     ensures nodes { length tree.new.nodes.items ≡ length tree.old.nodes.items }
 {

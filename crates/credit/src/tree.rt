@@ -4,7 +4,7 @@ ghost use Rattle.credit.specs.Shares.{start_share};
 ghost use Rattle.credit.specs.declared.links.Side.{Side};
 ghost use Rattle.credit.specs.declared.links.Spot.{Spot};
 ghost use Rattle.credit.specs.Links.{leaf_link, link_at, spot_of, with_link};
-ghost use Rattle.credit.specs.Trees.{no_progress, empty_node, node_at, child, place, progress_at, time_within, child_since, since_all, with_reach, with_run, with_since, with_child, IsLinked, IsGrown, IsFull, IsStart, IsWalked};
+ghost use Rattle.credit.specs.Trees.{no_progress, empty_node, node_at, child, place, progress_at, time_within, child_since, since_all, with_reach, with_run, with_since, with_held_child, IsTreeLinked, IsGrown, IsFull, IsSearchStart, IsWalked};
 
 use crate::links::{Link, Side, Spot, search};
 use std::alloc::{AllocError, Global};
@@ -107,7 +107,7 @@ impl Node {
 impl Tree {
     /// A tree with no node. Takes no memory.
     pub fn new(alloc: Global) -> Tree
-        ensures linked { IsLinked result }
+        ensures linked { IsTreeLinked result }
         ensures empty { (up : List ℕ) → progress_at result up ≡ no_progress }
     {
         Tree {
@@ -186,9 +186,9 @@ impl Tree {
     /// The node of these runs, made where it is missing, and each one above it too, from the start on. It
     /// searches nothing.
     pub fn make(&mut self, runs: &[u64], start: Start) -> Result<usize, AllocError>
-        requires linked { IsLinked self.old }
+        requires linked { IsTreeLinked self.old }
         requires small { length (start_share runs.now) ≤ 2 ^ 48 }
-        requires start { IsStart self.old runs.now start }
+        requires start { IsSearchStart self.old runs.now start }
         ensures grown { IsGrown self.old self.new }
         ensures made { IfOk result (λ index. place (child self.new) (reverse runs.now) ≡ Some index) }
         ensures within { IfOk result (λ index. index < length self.new.nodes.items) }
@@ -208,7 +208,7 @@ impl Tree {
 
     /// Makes the root where it is missing.
     fn make_root(&mut self) -> Result<(), AllocError>
-        requires { IsLinked self.old }
+        requires { IsTreeLinked self.old }
         ensures grown { IsGrown self.old self.new }
         ensures made { OnOk result (0 < length self.new.nodes.items) }
         ensures spots { (index number : ℕ) → spot_of self.new.links.items index number
@@ -252,7 +252,7 @@ impl Tree {
     /// Adds the child of a node where a search for its number ended, and gives its index. It has no child
     /// itself, so a search for one ends at its first side.
     fn add_child(&mut self, index: usize, number: u64, at: usize, side: Side) -> usize
-        requires linked { IsLinked self.old }
+        requires linked { IsTreeLinked self.old }
         requires within { index < length self.old.nodes.items }
         requires small { number ≤ 2 ^ 48 }
         requires missing { spot_of self.old.links.items index number ≡ Spot.Missing at side }
@@ -331,7 +331,7 @@ impl Tree {
     pub fn count_child(&mut self, index: usize)
         requires within { index < length self.old.nodes.items }
         requires small { (node_at self.old index).progress.held_children < 2 ^ 63 }
-        ensures nodes { self.new.nodes.items ≡ slice_set self.old.nodes.items index (with_child
+        ensures nodes { self.new.nodes.items ≡ slice_set self.old.nodes.items index (with_held_child
             (node_at self.old index)) }
         ensures links { self.new.links ≡ self.old.links }
     {

@@ -12,9 +12,9 @@ use Rattle.credit.specs.Shares.{begins_with, overlaps, start_share}
 use Rattle.credit.proofs.RunLemmas.{begins_with-both, start_share-append}
 use Rattle.credit_ledger.specs.declared.entry.Entry.{Entry}
 use Rattle.credit_ledger.specs.Entries.{part_halves, tree_share, parent_and_number, is_same_path, tree_shares}
-use Rattle.credit_ledger.specs.Codes.{region, tree_code, pool_runs, second_code, codes, all_codes}
-use Rattle.credit_ledger.proofs.RegionLemmas.{IsIn, IsIn-append_left, IsIn-append_right, IsIn-append_cases}
-use Rattle.credit_ledger.proofs.RegionLemmas.{IsShifted, shifted, IsRegion}
+use Rattle.credit_ledger.specs.Codes.{region_code, tree_code, pool_runs, second_code, codes, all_codes}
+use Rattle.credit_ledger.proofs.RegionLemmas.{IsShareIn, IsIn-append_left, IsIn-append_right, IsIn-append_cases}
+use Rattle.credit_ledger.proofs.RegionLemmas.{IsShifted, shifted, AreShifted}
 
 -- ---- regions
 
@@ -40,7 +40,7 @@ start-begun a b runs others y z e =
     (subst (λ v. begins_with (start_share (a ∷ runs) ++ y) v ≡ true) (start-cons b others z) e))
 
 region-begun : (k l r q : ℕ) (y z : List Half) → k < 3 → l < 3
-    → begins_with (start_share (region k r) ++ y) (start_share (region l q) ++ z) ≡ true
+    → begins_with (start_share (region_code k r) ++ y) (start_share (region_code l q) ++ z) ≡ true
     → (k ≡ l) × (r ≡ q) × (begins_with y z ≡ true)
 region-begun k l r q y z small little e =
     let one =
@@ -50,7 +50,7 @@ region-begun k l r q y z small little e =
     (omega (arith, one.0, upper), omega (arith, upper, two.0), two.1)
 
 pub region-overlap : (k l r q : ℕ) (y z : List Half) → k < 3 → l < 3
-    → overlaps (start_share (region k r) ++ y) (start_share (region l q) ++ z) ≡ true
+    → overlaps (start_share (region_code k r) ++ y) (start_share (region_code l q) ++ z) ≡ true
     → (k ≡ l) × (r ≡ q) × (overlaps y z ≡ true)
 region-overlap k l r q y z small little e =
     ⊎_elim
@@ -60,8 +60,8 @@ region-overlap k l r q y z small little e =
     (λ second.
     let h = region-begun l k q r z y little small second in
     (sym h.0, sym h.1, Rattle.std.proofs.lemmas.Bool.or_right (begins_with y z) _ h.2))
-    (or_cases (begins_with (start_share (region k r) ++ y) (start_share (region l q) ++ z))
-    (begins_with (start_share (region l q) ++ z) (start_share (region k r) ++ y)) e)
+    (or_cases (begins_with (start_share (region_code k r) ++ y) (start_share (region_code l q) ++ z))
+    (begins_with (start_share (region_code l q) ++ z) (start_share (region_code k r) ++ y)) e)
 
 -- ---- pools
 
@@ -94,12 +94,12 @@ odd-overlap p q i j y z e =
 
 pub pool_runs-region : (root : ℕ) (parent : List ℕ) (number : ℕ) (y : List Half)
     → start_share (pool_runs root parent number) ++ y
-    ≡ start_share (region 1 root) ++ (start_share (odd_runs parent number) ++ y)
+    ≡ start_share (region_code 1 root) ++ (start_share (odd_runs parent number) ++ y)
 pool_runs-region root parent number y =
     ap (λ runs. start_share runs ++ y)
-    (append_assoc (region 1 root) (map (λ n. 2 * n + 1) parent) (2 * number ∷ []))
-    ∙ ap (λ s. s ++ y) (start_share-append (region 1 root) (odd_runs parent number))
-    ∙ append_assoc (start_share (region 1 root)) (start_share (odd_runs parent number)) y
+    (append_assoc (region_code 1 root) (map (λ n. 2 * n + 1) parent) (2 * number ∷ []))
+    ∙ ap (λ s. s ++ y) (start_share-append (region_code 1 root) (odd_runs parent number))
+    ∙ append_assoc (start_share (region_code 1 root)) (start_share (odd_runs parent number)) y
 
 -- ---- paths
 
@@ -119,8 +119,8 @@ same_path-itself (n ∷ p) = and_from _ _ (eq-eqb n n refl) (same_path-itself p)
 -- ---- entry by entry
 
 pub IsRegion-flat_map : (a s : List Half) (f g : Entry → List (List Half))
-    → ((e : Entry) → IsRegion a s (f e) (g e)) → (es : List Entry)
-    → IsRegion a s (flat_map f es) (flat_map g es)
+    → ((e : Entry) → AreShifted a s (f e) (g e)) → (es : List Entry)
+    → AreShifted a s (flat_map f es) (flat_map g es)
 IsRegion-flat_map a s f g each [] = record { there = λ y h. absurd h; back = λ x h over. absurd h }
 IsRegion-flat_map a s f g each (e ∷ es) = join (IsRegion-flat_map a s f g each es)
   where
@@ -130,23 +130,23 @@ IsRegion-flat_map a s f g each (e ∷ es) = join (IsRegion-flat_map a s f g each
     later_shifted : (x : List Half) → IsShifted a x (flat_map g es) → IsShifted a x (g e ++ flat_map g es)
     later_shifted x (shifted y h same) = shifted y (IsIn-append_right y (g e) (flat_map g es) h) same
 
-    join : IsRegion a s (flat_map f es) (flat_map g es)
-        → IsRegion a s (f e ++ flat_map f es) (g e ++ flat_map g es)
+    join : AreShifted a s (flat_map f es) (flat_map g es)
+        → AreShifted a s (f e ++ flat_map f es) (g e ++ flat_map g es)
     join rest = record {
       there = λ y h. ⊎_elim
-          (λ (here : IsIn y (g e)). IsIn-append_left (a ++ y) (f e) (flat_map f es) ((each e).there y here))
-          (λ (later : IsIn y (flat_map g es)).
+          (λ (here : IsShareIn y (g e)). IsIn-append_left (a ++ y) (f e) (flat_map f es) ((each e).there y here))
+          (λ (later : IsShareIn y (flat_map g es)).
           IsIn-append_right (a ++ y) (f e) (flat_map f es) (rest.there y later))
           (IsIn-append_cases y (g e) (flat_map g es) h);
       back = λ x h over. ⊎_elim
-          (λ (here : IsIn x (f e)). first_shifted x ((each e).back x here over))
-          (λ (later : IsIn x (flat_map f es)). later_shifted x (rest.back x later over))
+          (λ (here : IsShareIn x (f e)). first_shifted x ((each e).back x here over))
+          (λ (later : IsShareIn x (flat_map f es)). later_shifted x (rest.back x later over))
           (IsIn-append_cases x (f e) (flat_map f es) h);
     }
 
 -- the second share stands in a region of its own
 pub second-region : (root : ℕ) (child : Option (List ℕ × ℕ)) (part : Part) (s y : List Half) (k : ℕ) → k < 3
-    → (r : ℕ) → overlaps (second_code root child part s) (start_share (region k r) ++ y) ≡ true
+    → (r : ℕ) → overlaps (second_code root child part s) (start_share (region_code k r) ++ y) ≡ true
     → (0 < k) × (root ≡ r)
 second-region root None part s y k small r e =
     let h = region-overlap 2 k root r s y (omega arith) small e in (omega (arith, h.0), h.1)
@@ -154,33 +154,33 @@ second-region root (Some child) part s y k small r e =
     let h =
     region-overlap 1 k root r (start_share (odd_runs child.0 child.1) ++ part_halves part) y (omega arith)
     small
-    (ap (λ x. overlaps x (start_share (region k r) ++ y))
+    (ap (λ x. overlaps x (start_share (region_code k r) ++ y))
     (sym (pool_runs-region root child.0 child.1 (part_halves part)))
     ∙ e) in
     (omega (arith, h.0), h.1)
 
-pub cond_in : (b : Bool) (y t : List Half) → IsIn y (cond b (t ∷ []) []) → (b ≡ true) × (y ≡ t)
+pub cond_in : (b : Bool) (y t : List Half) → IsShareIn y (cond b (t ∷ []) []) → (b ≡ true) × (y ≡ t)
 cond_in true y t h = ⊎_elim (λ (same : y ≡ t). (refl, same)) (λ none. absurd none) h
 cond_in false y t h = absurd h
 
-pub in_cond : (b : Bool) (t : List Half) → b ≡ true → IsIn t (cond b (t ∷ []) [])
+pub in_cond : (b : Bool) (t : List Half) → b ≡ true → IsShareIn t (cond b (t ∷ []) [])
 in_cond true t e = inl refl
 in_cond false t e = absurd (false≢true e)
 
 tree_entry : (root : ℕ) (s : List Half) (e : Entry)
-    → IsRegion (start_share (region 0 root)) s (codes e) (cond (e.root == root) (tree_share e ∷ []) [])
+    → AreShifted (start_share (region_code 0 root)) s (codes e) (cond (e.root == root) (tree_share e ∷ []) [])
 tree_entry root s e = record {
   there = λ y h.
       let is = cond_in (e.root == root) y (tree_share e) h in
       inl
-      (ap (λ x. start_share (region 0 root) ++ x) is.1
+      (ap (λ x. start_share (region_code 0 root) ++ x) is.1
       ∙ ap (λ r. tree_code r (tree_share e)) (sym (eqb-true e.root root is.0)));
   back = λ x h over.
       ⊎_elim
       (λ (first : x ≡ tree_code e.root (tree_share e)).
       let same =
       region-overlap 0 0 e.root root (tree_share e) s (omega arith) (omega arith)
-      (ap (λ u. overlaps u (start_share (region 0 root) ++ s)) (sym first) ∙ over) in
+      (ap (λ u. overlaps u (start_share (region_code 0 root) ++ s)) (sym first) ∙ over) in
       shifted (tree_share e) (in_cond (e.root == root) (tree_share e) (eq-eqb e.root root same.1))
       (first ∙ ap (λ r. tree_code r (tree_share e)) same.1))
       (λ (rest : (x ≡ second_code e.root (parent_and_number e.path) e.part (tree_share e)) ⊎ ⊥).
@@ -188,7 +188,7 @@ tree_entry root s e = record {
       (λ (second : x ≡ second_code e.root (parent_and_number e.path) e.part (tree_share e)).
       let h =
       second-region e.root (parent_and_number e.path) e.part (tree_share e) s 0 (omega arith) root
-      (ap (λ u. overlaps u (start_share (region 0 root) ++ s)) (sym second) ∙ over) in
+      (ap (λ u. overlaps u (start_share (region_code 0 root) ++ s)) (sym second) ∙ over) in
       absurd (omega (arith, h.0)))
       (λ none. absurd none) rest)
       h;
@@ -196,9 +196,9 @@ tree_entry root s e = record {
 
 -- shares in the tree of a root
 pub tree-region : (root : ℕ) (s : List Half) (entries : List Entry)
-    → IsRegion (start_share (region 0 root)) s (all_codes entries) (tree_shares root entries)
+    → AreShifted (start_share (region_code 0 root)) s (all_codes entries) (tree_shares root entries)
 tree-region root s entries =
-    IsRegion-flat_map (start_share (region 0 root)) s codes
+    IsRegion-flat_map (start_share (region_code 0 root)) s codes
     (λ e. cond (e.root == root) (tree_share e ∷ []) []) (tree_entry root s) entries
 
 -- the halves of one child that came back with these entries
@@ -214,7 +214,7 @@ child_parts root parent number entries =
 
 pub second-here : (root : ℕ) (parent : List ℕ) (number : ℕ) (child : Option (List ℕ × ℕ)) (part : Part)
     (s y : List Half)
-    → IsIn y (child_part parent number child part)
+    → IsShareIn y (child_part parent number child part)
     → start_share (pool_runs root parent number) ++ y ≡ second_code root child part s
 second-here root parent number None part s y h = absurd h
 second-here root parent number (Some c) part s y h =
@@ -234,14 +234,14 @@ pub second-back : (root : ℕ) (parent : List ℕ) (number : ℕ) (own : ℕ) (c
 second-back root parent number own None part s e =
     let h =
     region-overlap 2 1 own root s (start_share (odd_runs parent number) ++ []) (omega arith) (omega arith)
-    (ap (overlaps (start_share (region 2 own) ++ s)) (sym (pool_runs-region root parent number []))
+    (ap (overlaps (start_share (region_code 2 own) ++ s)) (sym (pool_runs-region root parent number []))
     ∙ e) in
     absurd (omega (arith, h.0))
 second-back root parent number own (Some c) part s e =
     let h =
     region-overlap 1 1 own root (start_share (odd_runs c.0 c.1) ++ part_halves part)
     (start_share (odd_runs parent number) ++ []) (omega arith) (omega arith)
-    (ap (overlaps (start_share (region 1 own) ++ (start_share (odd_runs c.0 c.1) ++ part_halves part)))
+    (ap (overlaps (start_share (region_code 1 own) ++ (start_share (odd_runs c.0 c.1) ++ part_halves part)))
     (sym (pool_runs-region root parent number []))
     ∙ ap (λ x. overlaps x (start_share (pool_runs root parent number) ++ []))
     (sym (pool_runs-region own c.0 c.1 (part_halves part)))

@@ -11,7 +11,7 @@ use Rattle.credit_ledger.specs.declared.view.Call.{Call}
 use Rattle.credit_ledger.specs.declared.view.Call.TheVariants.{Enter, Look}
 use Rattle.credit_ledger.specs.declared.view.Step.{Step}
 use Rattle.credit_ledger.specs.declared.view.View.{View}
-use Rattle.credit_ledger.specs.Entries.{is_full}
+use Rattle.credit_ledger.specs.Entries.{is_ledger_full}
 use Rattle.credit_ledger.specs.Histories.{after_call, IsPossible, IsLegalFrom, entries_after}
 use Rattle.credit_ledger.specs.Seats.{StartsWith, Extends, told_of}
 use Rattle.credit_ledger.proofs.LockLemmas.{entries-more}

@@ -16,12 +16,12 @@ use Rattle.credit_ledger.specs.declared.entry.Cover.{Cover}
 use Rattle.credit_ledger.specs.declared.entry.Cover.TheVariants.{Children, Descendants}
 use Rattle.credit_ledger.specs.Entries.{part_halves, tree_share, parent_and_number, pool_share, is_same_path}
 use Rattle.credit_ledger.specs.Entries.{overlaps_in_pool, is_overlap, share_in_pool, tree_shares, pool_shares}
-use Rattle.credit_ledger.specs.Entries.{IsChildHeld, fault_of}
+use Rattle.credit_ledger.specs.Entries.{IsChildHeld, entry_fault}
 use Rattle.credit_ledger.specs.declared.fault.LedgerFault.TheVariants.{Memory, Overlap, Full}
 use Rattle.std.specs.Option.{option_map_or}
-use Rattle.credit_ledger.specs.Codes.{region, tree_code, pool_runs, second_code, codes, all_codes, start_code}
-use Rattle.credit_ledger.proofs.RegionLemmas.{IsIn, IsIn-append_left, IsIn-append_right, list_any-in}
-use Rattle.credit_ledger.proofs.RegionLemmas.{begins_with-shift, IsShifted, shifted, IsRegion, Hold-outside}
+use Rattle.credit_ledger.specs.Codes.{region_code, tree_code, pool_runs, second_code, codes, all_codes, start_code}
+use Rattle.credit_ledger.proofs.RegionLemmas.{IsShareIn, IsIn-append_left, IsIn-append_right, list_any-in}
+use Rattle.credit_ledger.proofs.RegionLemmas.{begins_with-shift, IsShifted, shifted, AreShifted, Hold-outside}
 use Rattle.credit_ledger.proofs.RegionLemmas.{Hold-inside}
 use Rattle.credit_ledger.proofs.CodeLemmas.{start-begun, region-overlap, pool_runs-region, odd_runs}
 use Rattle.credit_ledger.proofs.CodeLemmas.{same_path-true, IsRegion-flat_map, cond_in, in_cond, tree-region}
@@ -34,16 +34,16 @@ IsShifted-under : (b : Bool) (a x : List Half) (ys : List (List Half)) → b ≡
 IsShifted-under true a x ys e h = h
 IsShifted-under false a x ys e h = absurd (false≢true e)
 
-in_under : (b : Bool) (y : List Half) (ys : List (List Half)) → IsIn y (cond b ys []) → (b ≡ true) × IsIn y ys
+in_under : (b : Bool) (y : List Half) (ys : List (List Half)) → IsShareIn y (cond b ys []) → (b ≡ true) × IsShareIn y ys
 in_under true y ys h = (refl, h)
 in_under false y ys h = absurd h
 
-under_in : (b : Bool) (y : List Half) (ys : List (List Half)) → b ≡ true → IsIn y ys → IsIn y (cond b ys [])
+under_in : (b : Bool) (y : List Half) (ys : List (List Half)) → b ≡ true → IsShareIn y ys → IsShareIn y (cond b ys [])
 under_in true y ys e h = h
 under_in false y ys e h = absurd (false≢true e)
 
 pool_entry : (root : ℕ) (parent : List ℕ) (number : ℕ) (e : Entry)
-    → IsRegion (start_share (pool_runs root parent number)) [] (codes e)
+    → AreShifted (start_share (pool_runs root parent number)) [] (codes e)
     (cond (e.root == root) (child_part parent number (parent_and_number e.path) e.part) [])
 pool_entry root parent number e = record {
   there = λ y h.
@@ -79,7 +79,7 @@ pool_entry root parent number e = record {
 }
 
 pool-region : (root : ℕ) (parent : List ℕ) (number : ℕ) (entries : List Entry)
-    → IsRegion (start_share (pool_runs root parent number)) [] (all_codes entries)
+    → AreShifted (start_share (pool_runs root parent number)) [] (all_codes entries)
     (child_parts root parent number entries)
 pool-region root parent number entries =
     IsRegion-flat_map (start_share (pool_runs root parent number)) [] codes
@@ -88,8 +88,8 @@ pool-region root parent number entries =
 
 -- the same without the regions
 own-there : (parent : List ℕ) (number : ℕ) (child : Option (List ℕ × ℕ)) (part : Part) (y : List Half)
-    → IsIn y (child_part parent number child part)
-    → IsIn (start_share (number ∷ []) ++ y) (share_in_pool parent child part)
+    → IsShareIn y (child_part parent number child part)
+    → IsShareIn (start_share (number ∷ []) ++ y) (share_in_pool parent child part)
 own-there parent number None part y h = absurd h
 own-there parent number (Some c) part y h =
     let is = cond_in (is_same_path c.0 parent && (c.1 == number)) y (part_halves part) h in
@@ -97,11 +97,11 @@ own-there parent number (Some c) part y h =
     let same : start_share (number ∷ []) ++ y ≡ pool_share c.1 part =
     ap (λ x. start_share (number ∷ []) ++ x) is.1
     ∙ ap (λ n. pool_share n part) (sym (eqb-true c.1 number both.1)) in
-    subst (λ x. IsIn x (share_in_pool parent (Some c) part)) (sym same)
+    subst (λ x. IsShareIn x (share_in_pool parent (Some c) part)) (sym same)
     (in_cond (is_same_path c.0 parent) (pool_share c.1 part) both.0)
 
 own-back : (parent : List ℕ) (number : ℕ) (child : Option (List ℕ × ℕ)) (part : Part) (x : List Half)
-    → IsIn x (share_in_pool parent child part) → overlaps x (start_share (number ∷ []) ++ []) ≡ true
+    → IsShareIn x (share_in_pool parent child part) → overlaps x (start_share (number ∷ []) ++ []) ≡ true
     → IsShifted (start_share (number ∷ [])) x (child_part parent number child part)
 own-back parent number None part x h over = absurd h
 own-back parent number (Some c) part x h over =
@@ -119,7 +119,7 @@ own-back parent number (Some c) part x h over =
     (is.1 ∙ ap (λ n. pool_share n part) same)
 
 own-region : (root : ℕ) (parent : List ℕ) (number : ℕ) (entries : List Entry)
-    → IsRegion (start_share (number ∷ [])) [] (pool_shares root parent entries)
+    → AreShifted (start_share (number ∷ [])) [] (pool_shares root parent entries)
     (child_parts root parent number entries)
 own-region root parent number entries =
     IsRegion-flat_map (start_share (number ∷ [])) []
@@ -144,9 +144,9 @@ own-region root parent number entries =
 pub Hold-in_tree : (root : ℕ) (s : List Half) (entries : List Entry)
     → Hold (all_codes entries) (tree_code root s) ↔ Hold (tree_shares root entries) s
 Hold-in_tree root s entries = (
-  Hold-outside (start_share (region 0 root)) s (all_codes entries) (tree_shares root entries)
+  Hold-outside (start_share (region_code 0 root)) s (all_codes entries) (tree_shares root entries)
       (tree-region root s entries),
-  Hold-inside (start_share (region 0 root)) s (all_codes entries) (tree_shares root entries)
+  Hold-inside (start_share (region_code 0 root)) s (all_codes entries) (tree_shares root entries)
       (tree-region root s entries),
 )
 
@@ -186,7 +186,7 @@ take-all_codes (e ∷ entries) (suc n) =
 
 IsIn-codes : (f : Entry) (entries : List Entry) (test : Entry → Bool) → list_any test entries ≡ true
     → (P : Entry → Type 0) → ((g : Entry) → test g ≡ true → P g)
-    → (g : Entry) × (P g) × ((x : List Half) → IsIn x (codes g) → IsIn x (all_codes entries))
+    → (g : Entry) × (P g) × ((x : List Half) → IsShareIn x (codes g) → IsShareIn x (all_codes entries))
 IsIn-codes f [] test h P each = absurd (false≢true h)
 IsIn-codes f (g ∷ entries) test h P each =
     ⊎_elim
@@ -249,7 +249,7 @@ overlaps_either-entry e entries h =
     (tree_code g.root (tree_share g)) (all_codes entries)
     (some.2 (tree_code g.root (tree_share g)) (inl refl))
     (ap (λ r. overlaps (tree_code e.root (tree_share e)) (tree_code r (tree_share g))) root
-    ∙ overlaps-shift (start_share (region 0 e.root)) (tree_share e) (tree_share g) ∙ tree))))
+    ∙ overlaps-shift (start_share (region_code 0 e.root)) (tree_share e) (tree_share g) ∙ tree))))
     (λ (pool : overlaps_in_pool (parent_and_number e.path) e.part (parent_and_number g.path) g.part ≡ true).
     or_left _ _ (or_right (list_any (overlaps (tree_code e.root (tree_share e))) (all_codes entries)) _
     (list_any-in (overlaps (second_code e.root (parent_and_number e.path) e.part (tree_share e)))
@@ -334,7 +334,7 @@ since-seen purse entries seen code start since shares view same from upto =
 
 -- why an entry is refused where there is room
 pub fault_of-room : (entries : List Entry) (e : Entry) → length entries < 2 ^ 22
-    → fault_of entries e
+    → entry_fault entries e
     ≡ option_map_or (λ index. Overlap index) (position_from (is_overlap e) 0 entries) Memory
 fault_of-room entries e room =
     cond-false (leb (2 ^ 22) (length entries)) Full

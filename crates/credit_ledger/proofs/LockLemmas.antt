@@ -22,8 +22,8 @@ use Rattle.credit_ledger.specs.declared.view.Stage.TheVariants.{Fresh, Idle, Wai
 use Rattle.credit_ledger.specs.declared.view.View.{View}
 use Rattle.credit_ledger.specs.declared.view.Claim.{Claim}
 use Rattle.credit_ledger.specs.Histories.{after_call, IsPossible, IsLegalFrom, IsLegal, entries_after}
-use Rattle.credit_ledger.specs.Seats.{Slot, calls_of, StartsWith, with_number, with_ticket, with_turn}
-use Rattle.credit_ledger.specs.Seats.{with_call, step_of, has_ticket, Knows, FitsAt, Fits, IsHome, IsKept}
+use Rattle.credit_ledger.specs.Seats.{Slot, seat_calls, StartsWith, with_number, with_ticket, turn_taken}
+use Rattle.credit_ledger.specs.Seats.{with_call, seat_step, has_ticket, Knows, FitsAt, FitsHistory, IsHome, IsRuleKept}
 use Rattle.credit_ledger.specs.Seats.{IsLater, Kept, Settled, Drawn, HasTurn, Served, Looked, Entered}
 use Rattle.credit_ledger.specs.Seats.{Extends, Sat, Told, newcomer, copied, told_of, spent, claim_of}
 use Rattle.credit_ledger.specs.Seats.{with_given, with_claim, AreOfOthers, IsSpentAt, IsHeld, AreSpent}
@@ -55,19 +55,19 @@ pub legal-more : (h : List Step) (s : Step) → IsLegal h → IsPossible (entrie
 legal-more h s legal possible reply = legal_from-more [] h s legal possible reply
 
 pub calls-own : (n : ℕ) (h : List Step) (s : Step) → s.seat ≡ n
-    → calls_of n (h ++ s ∷ []) ≡ calls_of n h ++ s ∷ []
+    → seat_calls n (h ++ s ∷ []) ≡ seat_calls n h ++ s ∷ []
 calls-own n h s is =
     filter-append (λ (x : Step). x.seat == n) h (s ∷ [])
-    ∙ ap (λ l. calls_of n h ++ l) (cond-true (s.seat == n) (s ∷ []) [] (eq-eqb s.seat n is))
+    ∙ ap (λ l. seat_calls n h ++ l) (cond-true (s.seat == n) (s ∷ []) [] (eq-eqb s.seat n is))
 
-pub calls-other : (n : ℕ) (h : List Step) (s : Step) → s.seat ≢ n → calls_of n (h ++ s ∷ []) ≡ calls_of n h
+pub calls-other : (n : ℕ) (h : List Step) (s : Step) → s.seat ≢ n → seat_calls n (h ++ s ∷ []) ≡ seat_calls n h
 calls-other n h s other =
     filter-append (λ (x : Step). x.seat == n) h (s ∷ [])
-    ∙ ap (λ l. calls_of n h ++ l)
+    ∙ ap (λ l. seat_calls n h ++ l)
     (cond-false (s.seat == n) (s ∷ []) []
     (⊎_elim (λ (e : (s.seat == n) ≡ true). absurd (other (eqb-true s.seat n e))) (λ e. e)
     (cases_Bool (s.seat == n))))
-    ∙ append-nil (calls_of n h)
+    ∙ append-nil (seat_calls n h)
 
 pub starts-more : (h first : List Step) (s : Step) → StartsWith h first → StartsWith (h ++ s ∷ []) first
 starts-more h first s starts =
@@ -187,19 +187,19 @@ no_ticket st other is hasnt has = false≢true (sym hasnt ∙ sym (ap has_ticket
 
 -- ---- one view changes
 
-pub kept-changed : (h : List Step) (next serving : ℕ) (s : State Slot View) → IsKept h next serving s
+pub kept-changed : (h : List Step) (next serving : ℕ) (s : State Slot View) → IsRuleKept h next serving s
     → (id : ℕ) (v : View) → get_elem? s.views id ≡ some v
     → (h2 : List Step) (next2 serving2 : ℕ) (words : List ℕ) (homes : List (Maybe Slot)) (w : View)
     → words ≡ next2 ∷ serving2 ∷ [] → serving2 ≤ next2 → IsLegal h2
-    → ((n : ℕ) (u : View) → n ≢ id → get_elem? s.views n ≡ some u → Fits h2 next2 serving2 n u)
-    → Fits h2 next2 serving2 id w
-    → ((n : ℕ) → length s.views ≤ n → calls_of n h2 ≡ [])
+    → ((n : ℕ) (u : View) → n ≢ id → get_elem? s.views n ≡ some u → FitsHistory h2 next2 serving2 n u)
+    → FitsHistory h2 next2 serving2 id w
+    → ((n : ℕ) → length s.views ≤ n → seat_calls n h2 ≡ [])
     → (has_ticket w.stage ≡ true → (n : ℕ) (u : View) → n ≢ id → get_elem? s.views n ≡ some u
     → has_ticket u.stage ≡ true → w.ticket ≡ u.ticket → ⊥)
     → (v.stage ≡ Spent → w.stage ≡ Spent) → AreSpent (set s.views id w) w.claims
     → ((t : ℕ) → serving2 ≤ t → t < next2 → IsHeld (set s.views id w) t) → w.given ≤ length s.views
     → IsHome h2 (record { words = words; homes = homes; views = set s.views id w })
-    → IsKept h2 next2 serving2 (record { words = words; homes = homes; views = set s.views id w })
+    → IsRuleKept h2 next2 serving2 (record { words = words; homes = homes; views = set s.views id w })
 kept-changed h next serving s k id v at h2 next2 serving2 words homes w words_are served legal others mine
     strangers tickets stays claims held given home =
     record {
@@ -209,7 +209,7 @@ kept-changed h next serving s k id v at h2 next2 serving2 words homes w words_ar
       seats = λ n u e.
           ⊎_elim
           (λ (is : (n ≡ id) × (w ≡ u)).
-          subst (λ m. Fits h2 next2 serving2 m u) (sym is.0) (subst (Fits h2 next2 serving2 id) is.1 mine))
+          subst (λ m. FitsHistory h2 next2 serving2 m u) (sym is.0) (subst (FitsHistory h2 next2 serving2 id) is.1 mine))
           (λ (other : (n ≢ id) × (get_elem? s.views n ≡ some u)). others n u other.0 other.1)
           (at_set s.views id n w u e);
       strangers = λ n far. strangers n (omega (arith, far, length-set s.views id w));
@@ -256,25 +256,25 @@ false_true e = false≢true e
 pub idle_turn : Idle ≡ Turn → ⊥
 idle_turn e = false_true (ap has_ticket e)
 
-abbrev is_turn : Stage → Bool
-is_turn Fresh = false
-is_turn Idle = false
-is_turn Waiting = false
-is_turn Turn = true
-is_turn Spent = false
+abbrev has_turn : Stage → Bool
+has_turn Fresh = false
+has_turn Idle = false
+has_turn Waiting = false
+has_turn Turn = true
+has_turn Spent = false
 
 pub fresh_turn : Fresh ≡ Turn → ⊥
-fresh_turn e = false_true (ap is_turn e)
+fresh_turn e = false_true (ap has_turn e)
 
 no_left : (xs ys : List Step) → xs ++ ys ≡ [] → xs ≡ []
 no_left [] ys e = refl
 no_left (x ∷ xs) ys e = absurd (omega (arith, ap length e))
 
 -- a number of no call is that of no call in what a seat has seen
-pub no_calls : (n : ℕ) (h first : List Step) → StartsWith h first → calls_of n h ≡ [] → calls_of n first ≡ []
+pub no_calls : (n : ℕ) (h first : List Step) → StartsWith h first → seat_calls n h ≡ [] → seat_calls n first ≡ []
 no_calls n h first starts free =
-    no_left (calls_of n first) (calls_of n starts.0)
-    (sym (filter-append (λ (x : Step). x.seat == n) first starts.0) ∙ sym (ap (calls_of n) starts.1) ∙ free)
+    no_left (seat_calls n first) (seat_calls n starts.0)
+    (sym (filter-append (λ (x : Step). x.seat == n) first starts.0) ∙ sym (ap (seat_calls n) starts.1) ∙ free)
 
 -- what a seat holds
 abbrev ledger_of : List (ℕ × Slot) → List Entry
@@ -296,7 +296,7 @@ snoc_at (x ∷ xs) a (suc n) b e =
     (λ (last : (a ≡ b) × (n ≡ length xs)). inr (last.0, ap suc last.1)) (snoc_at xs a n b e)
 
 waiting_turn : Waiting ≡ Turn → ⊥
-waiting_turn e = false_true (ap is_turn e)
+waiting_turn e = false_true (ap has_turn e)
 
 -- the ledger is at home or out as before, where the views change at a seat that has the turn after it if it
 -- had before
@@ -331,9 +331,9 @@ below_next h next serving Spent n u has f e = absurd (false_true has)
 -- ---- the steps
 
 -- nothing changes
-pub kept-same : (h : List Step) (next serving : ℕ) (s : State Slot View) → IsKept h next serving s
+pub kept-same : (h : List Step) (next serving : ℕ) (s : State Slot View) → IsRuleKept h next serving s
     → (id : ℕ) (v : View) → get_elem? s.views id ≡ some v → (words : List ℕ) → words ≡ next ∷ serving ∷ []
-    → IsKept h next serving (record { words = words; homes = s.homes; views = set s.views id v })
+    → IsRuleKept h next serving (record { words = words; homes = s.homes; views = set s.views id v })
 kept-same h next serving s k id v at words same =
     kept-changed h next serving s k id v at h next serving words s.homes v same k.served k.legal
     (λ n u other e. k.seats n u e) (k.seats id v at) k.strangers
@@ -367,7 +367,7 @@ draws id old v idle s kept slots at small = by_case (cases_eq (slice_index s.wor
     serving : ℕ
     serving = kept.2
 
-    k : IsKept kept.0 kept.1 kept.2 s
+    k : IsRuleKept kept.0 kept.1 kept.2 s
     k = kept.3
 
     found : slice_index s.words 0 ≡ next
@@ -476,7 +476,7 @@ serves id v waiting s kept slots at small = by_case (cases_eq (slice_index s.wor
     serving : ℕ
     serving = kept.2
 
-    k : IsKept kept.0 kept.1 kept.2 s
+    k : IsRuleKept kept.0 kept.1 kept.2 s
     k = kept.3
 
     found : slice_index s.words 1 ≡ serving
@@ -504,7 +504,7 @@ serves id v waiting s kept slots at small = by_case (cases_eq (slice_index s.wor
     by_case (inl is) =
         let mine : v.ticket ≡ serving = sym is ∙ found in
         let there = at_home mine k.home in
-        let w = with_turn v h in
+        let w = turn_taken v h in
         let homes : set s.homes 0 none ≡ none ∷ [] = ap (λ hs. set hs 0 none) there in (
           w,
           takes 0 (Some (entries_after h)),
@@ -543,7 +543,7 @@ serves id v waiting s kept slots at small = by_case (cases_eq (slice_index s.wor
               legal = k.legal;
               seen = fits.0.seen;
               told = fits.0.told;
-              own = ap (λ n. calls_of n h) fits.0.number ∙ fits.0.own;
+              own = ap (λ n. seat_calls n h) fits.0.number ∙ fits.0.own;
             },
             refl,
           ),
@@ -610,11 +610,11 @@ calls id v call es turn after possible s kept slots at small = (
     serving : ℕ
     serving = kept.2
 
-    k : IsKept kept.0 kept.1 kept.2 s
+    k : IsRuleKept kept.0 kept.1 kept.2 s
     k = kept.3
 
     x : Step
-    x = step_of v call
+    x = seat_step v call
 
     w : View
     w = with_call v call
@@ -661,15 +661,15 @@ serves_as slots id me one waiting empty =
     (serves id me.0 waiting))
 
 pub looks_as : (slots id : ℕ) (me : Me Slot View) (v : View) (t : ℕ) (h : List Step) → slots ≡ 1
-    → me ≡ (with_turn (with_ticket v t) h, (0, Some (entries_after h)) ∷ [])
+    → me ≡ (turn_taken (with_ticket v t) h, (0, Some (entries_after h)) ∷ [])
     → Allows Kept slots id me 1 (λ _. t + 1) (λ _ m. Looked me m)
 looks_as slots id me v t h one is =
     subst (λ k. Allows Kept k id me 1 (λ _. t + 1) (λ _ m. Looked me m)) (sym one)
     (subst (λ (x : Me Slot View). Allows Kept 1 id x 1 (λ _. t + 1) (λ _ m. Looked x m)) (sym is)
-    (looks id (with_turn (with_ticket v t) h) refl))
+    (looks id (turn_taken (with_ticket v t) h) refl))
 
 pub calls_as : (slots id : ℕ) (me : Me Slot View) (v : View) (t : ℕ) (h : List Step) (e : Entry) → slots ≡ 1
-    → me ≡ (with_turn (with_ticket v t) h, (0, Some (entries_after h ++ e ∷ [])) ∷ [])
+    → me ≡ (turn_taken (with_ticket v t) h, (0, Some (entries_after h ++ e ∷ [])) ∷ [])
     → IsPossible (entries_after h) (Enter e)
     → Allows Kept slots id me 1 (λ _. t + 1) (λ _ m. Entered me m)
 calls_as slots id me v t h e one is possible =
@@ -677,53 +677,53 @@ calls_as slots id me v t h e one is possible =
     (subst (λ (x : Me Slot View). Allows Kept 1 id x 1 (λ _. t + 1) (λ _ m. Entered x m)) (sym is)
     (λ s kept count at small.
     let goes =
-    calls id (with_turn (with_ticket v t) h) (Enter e) (entries_after h ++ e ∷ []) refl refl possible s
+    calls id (turn_taken (with_ticket v t) h) (Enter e) (entries_after h ++ e ∷ []) refl refl possible s
     kept count at small in
     (goes.0, goes.1, goes.2, goes.3, (e, refl, goes.4))))
 
 -- what a seat knows after its call
 pub extends : (v : View) (t : ℕ) (h : List Step) (call : Call) (reply : ℕ) → HasTurn (with_ticket v t) h
     → IsPossible (entries_after h) call → reply ≡ length (entries_after h)
-    → Extends v call reply (with_call (with_turn (with_ticket v t) h) call)
+    → Extends v call reply (with_call (turn_taken (with_ticket v t) h) call)
 extends v t h call reply turn possible is =
-    subst (λ r. Extends v call r (with_call (with_turn (with_ticket v t) h) call)) (sym is)
+    subst (λ r. Extends v call r (with_call (turn_taken (with_ticket v t) h) call)) (sym is)
     (record {
       number = refl;
       given = refl;
-      legal = legal-more h (step_of (with_turn (with_ticket v t) h) call) turn.legal possible refl;
+      legal = legal-more h (seat_step (turn_taken (with_ticket v t) h) call) turn.legal possible refl;
       before = h;
       ends = refl;
       seen = turn.seen;
       told = turn.told;
       own = refl;
       alone =
-          calls-own v.number h (step_of (with_turn (with_ticket v t) h) call) refl
-          ∙ ap (λ l. l ++ step_of (with_turn (with_ticket v t) h) call ∷ []) turn.own;
+          calls-own v.number h (seat_step (turn_taken (with_ticket v t) h) call) refl
+          ∙ ap (λ l. l ++ seat_step (turn_taken (with_ticket v t) h) call ∷ []) turn.own;
     })
 
 -- the same, for a Look of a seat that has given the turn back
 pub looked : (v : View) (t : ℕ) (h : List Step) (reply : ℕ) (drawn served given after : Me Slot View)
     → drawn ≡ (with_ticket v t, []) → HasTurn drawn.0 h
-    → served ≡ (with_turn drawn.0 h, (0, Some (entries_after h)) ∷ []) → given ≡ served
+    → served ≡ (turn_taken drawn.0 h, (0, Some (entries_after h)) ∷ []) → given ≡ served
     → Looked given after → reply ≡ length (entries_after h) → Extends v Look reply after.0
 looked v t h reply drawn served given after is turn has same gave count =
     subst (λ (w : View). Extends v Look reply w)
     (sym
     (ap (λ m. m.0) gave
     ∙ ap (λ m. with_call m.0 Look)
-    (same ∙ has ∙ ap (λ m. (with_turn m.0 h, (0, Some (entries_after h)) ∷ [])) is)))
+    (same ∙ has ∙ ap (λ m. (turn_taken m.0 h, (0, Some (entries_after h)) ∷ [])) is)))
     (extends v t h Look reply (subst (λ (m : View). HasTurn m h) (ap (λ m. m.0) is) turn) tt count)
 
 pub looked-list : (given after : Me Slot View) → Looked given after
     → entries_after after.0.seen ≡ entries_after given.0.seen
 looked-list given after gave =
-    ap (λ m. entries_after m.0.seen) gave ∙ entries-more given.0.seen (step_of given.0 Look)
+    ap (λ m. entries_after m.0.seen) gave ∙ entries-more given.0.seen (seat_step given.0 Look)
 
 -- the view of a seat that has the turn
-pub turned : (v : View) (t : ℕ) (h : List Step) (drawn served : Me Slot View) → drawn ≡ (with_ticket v t, [])
-    → served ≡ (with_turn drawn.0 h, (0, Some (entries_after h)) ∷ [])
-    → served ≡ (with_turn (with_ticket v t) h, (0, Some (entries_after h)) ∷ [])
-turned v t h drawn served is has = has ∙ ap (λ m. (with_turn m.0 h, (0, Some (entries_after h)) ∷ [])) is
+pub turn_view : (v : View) (t : ℕ) (h : List Step) (drawn served : Me Slot View) → drawn ≡ (with_ticket v t, [])
+    → served ≡ (turn_taken drawn.0 h, (0, Some (entries_after h)) ∷ [])
+    → served ≡ (turn_taken (with_ticket v t) h, (0, Some (entries_after h)) ∷ [])
+turn_view v t h drawn served is has = has ∙ ap (λ m. (turn_taken m.0 h, (0, Some (entries_after h)) ∷ [])) is
 
 -- what the slot has that a seat holds
 pub has_list : (carried : List (ℕ × Slot)) (es fs : List Entry) (more : List (ℕ × Slot))
@@ -734,15 +734,15 @@ has_list carried es fs more known seen = sym (ap ledger_of known) ∙ ap ledger_
 pub entered : (v : View) (t : ℕ) (h : List Step) (e : Entry) (reply : ℕ)
     (drawn served given after : Me Slot View)
     → drawn ≡ (with_ticket v t, []) → HasTurn drawn.0 h
-    → served ≡ (with_turn drawn.0 h, (0, Some (entries_after h)) ∷ [])
+    → served ≡ (turn_taken drawn.0 h, (0, Some (entries_after h)) ∷ [])
     → given ≡ (served.0, (0, Some (entries_after h ++ e ∷ [])) ∷ []) → Entered given after
     → reply ≡ length (entries_after h) → IsPossible (entries_after h) (Enter e)
     → Extends v (Enter e) reply after.0
 entered v t h e reply drawn served given after is turn has same gave count possible =
-    let carried : given ≡ (with_turn (with_ticket v t) h, (0, Some (entries_after h ++ e ∷ [])) ∷ []) =
+    let carried : given ≡ (turn_taken (with_ticket v t) h, (0, Some (entries_after h ++ e ∷ [])) ∷ []) =
     same
     ∙ ap (λ m. (m.0, (0, Some (entries_after h ++ e ∷ [])) ∷ []))
-    (has ∙ ap (λ m. (with_turn m.0 h, (0, Some (entries_after h)) ∷ [])) is) in
+    (has ∙ ap (λ m. (turn_taken m.0 h, (0, Some (entries_after h)) ∷ [])) is) in
     let entries : entries_after h ++ e ∷ [] ≡ entries_after h ++ gave.0 ∷ [] =
     sym (ap held carried) ∙ ap (λ c. held (given.0, c)) gave.1
     ∙ ap (λ m. entries_after m.0.seen ++ gave.0 ∷ []) carried in

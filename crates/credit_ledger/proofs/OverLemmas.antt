@@ -14,9 +14,9 @@ use Rattle.ompt_events.proofs.ListLemmas.{get_pushed, get_last}
 use Rattle.credit.specs.declared.share.Half.{Half}
 use Rattle.credit.specs.declared.share.Half.TheVariants.{Keep}
 use Rattle.credit.specs.Shares.{begins_with, overlaps, start_share, finish_share, Hold}
-use Rattle.credit.proofs.ShareLemmas.{IsShort, begins_with-longer, length-begins_with}
+use Rattle.credit.proofs.ShareLemmas.{IsAsLong, begins_with-longer, length-begins_with}
 use Rattle.credit.proofs.HoldLemmas.{begins_with-either, span as halves_of, IsShort-span}
-use Rattle.credit.proofs.HoldLaw.{IsWithin, Hold-within}
+use Rattle.credit.proofs.HoldLaw.{HasAllOf, Hold-within}
 use Rattle.credit.proofs.RunLemmas.{start_share-append}
 use Rattle.credit_ledger.specs.declared.entry.Entry.{Entry}
 use Rattle.credit_ledger.specs.declared.entry.Span.{Span}
@@ -26,7 +26,7 @@ use Rattle.credit_ledger.specs.declared.view.Call.TheVariants.{Enter, Look}
 use Rattle.credit_ledger.specs.declared.view.Step.{Step}
 use Rattle.credit_ledger.specs.Entries.{part_halves, tree_share, tree_shares, is_overlap, IsSpanHeld}
 use Rattle.credit_ledger.specs.Histories.{after_call, IsPossible, IsLegalFrom, IsUnder, IsOver}
-use Rattle.credit_ledger.proofs.RegionLemmas.{IsIn, IsIn-append_cases, Passes, passes, Passes-list_any}
+use Rattle.credit_ledger.proofs.RegionLemmas.{IsShareIn, IsIn-append_cases, Passes, passes, Passes-list_any}
 use Rattle.credit_ledger.proofs.CodeLemmas.{cond_in}
 
 -- ---- the shares of a root's entries
@@ -38,7 +38,7 @@ HasEntry entries e = (k : ℕ) × (slice_get entries k ≡ Some e)
 pub has_later : (f e : Entry) (entries : List Entry) → HasEntry entries e → HasEntry (f ∷ entries) e
 has_later f e entries (k, is) = (suc k, is)
 
-pub from_tree : (root : ℕ) (entries : List Entry) (x : List Half) → IsIn x (tree_shares root entries)
+pub from_tree : (root : ℕ) (entries : List Entry) (x : List Half) → IsShareIn x (tree_shares root entries)
     → (e : Entry) × HasEntry entries e × (e.root ≡ root) × (x ≡ tree_share e)
 from_tree root [] x there = absurd there
 from_tree root (f ∷ entries) x there =
@@ -60,7 +60,7 @@ held_begins shares s l held begins long =
     Passes-list_any (λ t. begins_with l t) shares
     (list_any-from_Any (λ t. begins_with l t) shares
     (held l begins
-    (All-from_recursion (IsShort l) (s ∷ shares)
+    (All-from_recursion (IsAsLong l) (s ∷ shares)
     (length-begins_with l s begins, IsShort-span l shares long))))
 
 -- ---- an entry under a held span overlaps another one
@@ -128,12 +128,12 @@ under_overlaps entries s f held under =
 -- ---- more entries hold it too
 
 IsWithin-more : (root : ℕ) (entries : List Entry) (f : Entry)
-    → IsWithin (tree_shares root entries) (tree_shares root (entries ++ f ∷ []))
+    → HasAllOf (tree_shares root entries) (tree_shares root (entries ++ f ∷ []))
 IsWithin-more root [] f = record { any = λ p h. absurd (false≢true h); all = λ l h. tt }
 IsWithin-more root (e ∷ entries) f = grown (e.root == root) (IsWithin-more root entries f)
   where
-    grown : (b : Bool) → IsWithin (tree_shares root entries) (tree_shares root (entries ++ f ∷ []))
-        → IsWithin (cond b (tree_share e ∷ []) [] ++ tree_shares root entries)
+    grown : (b : Bool) → HasAllOf (tree_shares root entries) (tree_shares root (entries ++ f ∷ []))
+        → HasAllOf (cond b (tree_share e ∷ []) [] ++ tree_shares root entries)
         (cond b (tree_share e ∷ []) [] ++ tree_shares root (entries ++ f ∷ []))
     grown false rest = rest
     grown true rest = record {

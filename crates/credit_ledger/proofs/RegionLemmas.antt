@@ -9,41 +9,41 @@ use Rattle.std.proofs.lemmas.List.Elements.{recursion_from_All, All-from_recursi
 use Rattle.credit.specs.declared.share.Half.{Half}
 use Rattle.credit.specs.declared.share.Half.TheVariants.{Keep}
 use Rattle.credit.specs.Shares.{is_same_half, begins_with, overlaps, Hold}
-use Rattle.credit.proofs.ShareLemmas.{same_half, is_same_half-itself, begins_with-append, IsShort}
+use Rattle.credit.proofs.ShareLemmas.{same_half, is_same_half-itself, begins_with-append, IsAsLong}
 use Rattle.credit.proofs.HoldLemmas.{begins_with-either, span, IsShort-span}
 use Rattle.credit.proofs.HeldLemmas.{begins_with-cut}
 
 -- the share is one of these
-abbrev pub IsIn : List Half → List (List Half) → Type 0
-IsIn x [] = ⊥
-IsIn x (y ∷ ys) = (x ≡ y) ⊎ IsIn x ys
+abbrev pub IsShareIn : List Half → List (List Half) → Type 0
+IsShareIn x [] = ⊥
+IsShareIn x (y ∷ ys) = (x ≡ y) ⊎ IsShareIn x ys
 
-pub IsIn-append_left : (x : List Half) (xs ys : List (List Half)) → IsIn x xs → IsIn x (xs ++ ys)
+pub IsIn-append_left : (x : List Half) (xs ys : List (List Half)) → IsShareIn x xs → IsShareIn x (xs ++ ys)
 IsIn-append_left x [] ys h = absurd h
 IsIn-append_left x (y ∷ xs) ys h =
-    ⊎_elim (λ (same : x ≡ y). inl same) (λ (there : IsIn x xs). inr (IsIn-append_left x xs ys there)) h
+    ⊎_elim (λ (same : x ≡ y). inl same) (λ (there : IsShareIn x xs). inr (IsIn-append_left x xs ys there)) h
 
-pub IsIn-append_right : (x : List Half) (xs ys : List (List Half)) → IsIn x ys → IsIn x (xs ++ ys)
+pub IsIn-append_right : (x : List Half) (xs ys : List (List Half)) → IsShareIn x ys → IsShareIn x (xs ++ ys)
 IsIn-append_right x [] ys h = h
 IsIn-append_right x (y ∷ xs) ys h = inr (IsIn-append_right x xs ys h)
 
-pub IsIn-append_cases : (x : List Half) (xs ys : List (List Half)) → IsIn x (xs ++ ys) → IsIn x xs ⊎ IsIn x ys
+pub IsIn-append_cases : (x : List Half) (xs ys : List (List Half)) → IsShareIn x (xs ++ ys) → IsShareIn x xs ⊎ IsShareIn x ys
 IsIn-append_cases x [] ys h = inr h
 IsIn-append_cases x (y ∷ xs) ys h =
     ⊎_elim (λ (same : x ≡ y). inl (inl same))
-    (λ (there : IsIn x (xs ++ ys)).
-    ⊎_elim (λ (first : IsIn x xs). inl (inr first)) (λ (second : IsIn x ys). inr second)
+    (λ (there : IsShareIn x (xs ++ ys)).
+    ⊎_elim (λ (first : IsShareIn x xs). inl (inr first)) (λ (second : IsShareIn x ys). inr second)
     (IsIn-append_cases x xs ys there)) h
 
-pub list_any-in : (test : List Half → Bool) (x : List Half) (xs : List (List Half)) → IsIn x xs
+pub list_any-in : (test : List Half → Bool) (x : List Half) (xs : List (List Half)) → IsShareIn x xs
     → test x ≡ true → list_any test xs ≡ true
 list_any-in test x [] h passes = absurd h
 list_any-in test x (y ∷ xs) h passes =
     ⊎_elim (λ (same : x ≡ y). or_left _ _ (ap test (sym same) ∙ passes))
-    (λ (there : IsIn x xs). or_right (test y) _ (list_any-in test x xs there passes)) h
+    (λ (there : IsShareIn x xs). or_right (test y) _ (list_any-in test x xs there passes)) h
 
 pub data Passes (test : List Half → Bool) (xs : List (List Half)) : Type 0 where
-  passes : (x : List Half) → IsIn x xs → test x ≡ true → Passes test xs
+  passes : (x : List Half) → IsShareIn x xs → test x ≡ true → Passes test xs
 
 pub Passes-list_any : (test : List Half → Bool) (xs : List (List Half)) → list_any test xs ≡ true
     → Passes test xs
@@ -55,17 +55,17 @@ Passes-list_any test (y ∷ xs) h =
     later : Passes test xs → Passes test (y ∷ xs)
     later (passes x there ok) = passes x (inr there) ok
 
-short_from_all : (l : List Half) (xs : List (List Half)) → ((x : List Half) → IsIn x xs → length x ≤ length l)
-    → ByRecursion (IsShort l) xs
+short_from_all : (l : List Half) (xs : List (List Half)) → ((x : List Half) → IsShareIn x xs → length x ≤ length l)
+    → ByRecursion (IsAsLong l) xs
 short_from_all l [] all = tt
 short_from_all l (x ∷ xs) all = (all x (inl refl), short_from_all l xs (λ y there. all y (inr there)))
 
-all_short : (l x : List Half) (xs : List (List Half)) → ByRecursion (IsShort l) xs → IsIn x xs
+all_short : (l x : List Half) (xs : List (List Half)) → ByRecursion (IsAsLong l) xs → IsShareIn x xs
     → length x ≤ length l
 all_short l x [] h there = absurd there
 all_short l x (y ∷ xs) h there =
     ⊎_elim (λ (same : x ≡ y). omega (arith, h.0, ap length same))
-    (λ (rest : IsIn x xs). all_short l x xs h.1 rest) there
+    (λ (rest : IsShareIn x xs). all_short l x xs h.1 rest) there
 
 pub begins_with-shift : (a u v : List Half) → begins_with (a ++ u) (a ++ v) ≡ begins_with u v
 begins_with-shift [] u v = refl
@@ -87,20 +87,20 @@ IsSplit-begun (g ∷ l) (h ∷ a) s e =
     below first (split r same begun) = let k : g ≡ h = same_half g h first in split r (cc) begun
 
 pub data IsShifted (a x : List Half) (ys : List (List Half)) : Type 0 where
-  shifted : (y : List Half) → IsIn y ys → x ≡ a ++ y → IsShifted a x ys
+  shifted : (y : List Half) → IsShareIn y ys → x ≡ a ++ y → IsShifted a x ys
 
 -- shares of which those that overlap one are the others, shifted
-pub record IsRegion (a s : List Half) (xs ys : List (List Half)) : Type 0 where
-  pub there : (y : List Half) → IsIn y ys → IsIn (a ++ y) xs
-  pub back : (x : List Half) → IsIn x xs → overlaps x (a ++ s) ≡ true → IsShifted a x ys
+pub record AreShifted (a s : List Half) (xs ys : List (List Half)) : Type 0 where
+  pub there : (y : List Half) → IsShareIn y ys → IsShareIn (a ++ y) xs
+  pub back : (x : List Half) → IsShareIn x xs → overlaps x (a ++ s) ≡ true → IsShifted a x ys
 
-pub Hold-outside : (a s : List Half) (xs ys : List (List Half)) → IsRegion a s xs ys → Hold xs (a ++ s)
+pub Hold-outside : (a s : List Half) (xs ys : List (List Half)) → AreShifted a s xs ys → Hold xs (a ++ s)
     → Hold ys s
 Hold-outside a s xs ys region held l begins long =
     Any-from_list_any (λ t. begins_with l t) ys (by_share (Passes-list_any (λ t. begins_with far t) xs (
     list_any-from_Any (λ t. begins_with far t) xs
     (held far on_s
-    (All-from_recursion (IsShort far) ((a ++ s) ∷ xs)
+    (All-from_recursion (IsAsLong far) ((a ++ s) ∷ xs)
     (shorter, IsShort-span far xs (omega (arith, length-far))))))))
   where
     pad : List Half
@@ -109,8 +109,8 @@ Hold-outside a s xs ys region held l begins long =
     far : List Half
     far = a ++ (l ++ pad)
 
-    short : ByRecursion (IsShort l) (s ∷ ys)
-    short = recursion_from_All (IsShort l) (s ∷ ys) long
+    short : ByRecursion (IsAsLong l) (s ∷ ys)
+    short = recursion_from_All (IsAsLong l) (s ∷ ys) long
 
     on_s : begins_with far (a ++ s) ≡ true
     on_s = begins_with-shift a (l ++ pad) s ∙ begins_with-append l pad s begins
@@ -136,13 +136,13 @@ Hold-outside a s xs ys region held l begins long =
         (⊎_elim (λ first. or_left _ _ first) (λ second. or_right (begins_with x (a ++ s)) _ second)
         (begins_with-either far x (a ++ s) on on_s)))
 
-pub Hold-inside : (a s : List Half) (xs ys : List (List Half)) → IsRegion a s xs ys → Hold ys s
+pub Hold-inside : (a s : List Half) (xs ys : List (List Half)) → AreShifted a s xs ys → Hold ys s
     → Hold xs (a ++ s)
 Hold-inside a s xs ys region held l begins long =
     Any-from_list_any (λ t. begins_with l t) xs (by_split (IsSplit-begun l a s begins))
   where
-    short : ByRecursion (IsShort l) ((a ++ s) ∷ xs)
-    short = recursion_from_All (IsShort l) ((a ++ s) ∷ xs) long
+    short : ByRecursion (IsAsLong l) ((a ++ s) ∷ xs)
+    short = recursion_from_All (IsAsLong l) ((a ++ s) ∷ xs) long
 
     by_share : (r : List Half) → l ≡ a ++ r → Passes (λ t. begins_with r t) ys
         → list_any (λ t. begins_with l t) xs ≡ true
@@ -154,7 +154,7 @@ Hold-inside a s xs ys region held l begins long =
     by_split (split r same begun) =
         by_share r same (Passes-list_any (λ t. begins_with r t) ys (list_any-from_Any (λ t. begins_with r t)
         ys
-        (held r begun (All-from_recursion (IsShort r) (s ∷ ys) (
+        (held r begun (All-from_recursion (IsAsLong r) (s ∷ ys) (
           omega (arith, short.0, ap length same, length-append a r, length-append a s),
           short_from_all r ys (λ y inside.
               let in_x = all_short l (a ++ y) xs short.1 (region.there y inside) in

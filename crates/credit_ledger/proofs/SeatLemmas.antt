@@ -22,8 +22,8 @@ use Rattle.credit_ledger.specs.declared.view.Stage.TheVariants.{Fresh, Idle, Wai
 use Rattle.credit_ledger.specs.declared.view.View.{View}
 use Rattle.credit_ledger.specs.declared.view.Claim.{Claim}
 use Rattle.credit_ledger.specs.Histories.{after_call, IsPossible, IsLegalFrom, IsLegal, entries_after}
-use Rattle.credit_ledger.specs.Seats.{Slot, calls_of, StartsWith, with_number, with_ticket, with_turn}
-use Rattle.credit_ledger.specs.Seats.{with_call, step_of, has_ticket, Knows, FitsAt, Fits, IsHome, IsKept}
+use Rattle.credit_ledger.specs.Seats.{Slot, seat_calls, StartsWith, with_number, with_ticket, turn_taken}
+use Rattle.credit_ledger.specs.Seats.{with_call, seat_step, has_ticket, Knows, FitsAt, FitsHistory, IsHome, IsRuleKept}
 use Rattle.credit_ledger.specs.Seats.{IsLater, Kept, Settled, Drawn, HasTurn, Served, Looked, Entered}
 use Rattle.credit_ledger.specs.Seats.{Extends, Sat, Told, newcomer, copied, told_of, spent, claim_of}
 use Rattle.credit_ledger.specs.Seats.{with_given, with_claim, AreOfOthers, IsSpentAt, IsHeld, AreSpent}
@@ -51,9 +51,9 @@ begins = (
   },
 )
   where
-    one : (n : ℕ) (v : View) → get_elem? (newcomer ∷ []) n ≡ some v → Fits [] 0 0 n v
+    one : (n : ℕ) (v : View) → get_elem? (newcomer ∷ []) n ≡ some v → FitsHistory [] 0 0 n v
     one zero v e =
-        subst (Fits [] 0 0 0) (some-injective newcomer v e) (record {
+        subst (FitsHistory [] 0 0 0) (some-injective newcomer v e) (record {
           number = refl;
           seen = ([], refl);
           told = ([], refl);
@@ -150,10 +150,10 @@ copies id v idle s kept at = (
     }
 
     seats : (n : ℕ) (u : View) → (get_elem? s.views n ≡ some u) ⊎ ((copied v ≡ u) × (n ≡ length s.views))
-        → Fits kept.0 kept.1 kept.2 n u
+        → FitsHistory kept.0 kept.1 kept.2 n u
     seats n u (inl e) = kept.3.seats n u e
     seats n u (inr new) =
-        subst (Fits kept.0 kept.1 kept.2 n) new.0
+        subst (FitsHistory kept.0 kept.1 kept.2 n) new.0
         (knows.seen, knows.seen, refl, kept.3.strangers n (omega (arith, new.1)), later n new.1)
 
     home : IsHome kept.0 s
@@ -238,7 +238,7 @@ tells id other v w idle idle_too s kept at apart there = (
         subst (λ st. FitsAt st kept.0 kept.1 kept.2 other w) idle_too
         (kept.3.seats other w (sym (set_else s.views id other (told_of v w) apart) ∙ there))
 
-    mid_kept : IsKept kept.0 kept.1 kept.2 (record {
+    mid_kept : IsRuleKept kept.0 kept.1 kept.2 (record {
       words = s.words;
       homes = s.homes;
       views = set s.views id (told_of v w);
@@ -287,7 +287,7 @@ hears id other v w idle fresh s kept at apart there = (
     knows : Knows kept.0 id v
     knows = subst (λ st. FitsAt st kept.0 kept.1 kept.2 id v) idle (kept.3.seats id v at)
 
-    mid_kept : IsKept kept.0 kept.1 kept.2 (record {
+    mid_kept : IsRuleKept kept.0 kept.1 kept.2 (record {
       words = s.words;
       homes = s.homes;
       views = set s.views id (with_given v w.given);
@@ -370,10 +370,10 @@ sits slots s kept count small = (
     }
 
     seats : (n : ℕ) (u : View) → (get_elem? s.views n ≡ some u) ⊎ ((new ≡ u) × (n ≡ length s.views))
-        → Fits kept.0 kept.1 kept.2 n u
+        → FitsHistory kept.0 kept.1 kept.2 n u
     seats n u (inl e) = kept.3.seats n u e
     seats n u (inr is) =
-        subst (Fits kept.0 kept.1 kept.2 n) is.0 (record {
+        subst (FitsHistory kept.0 kept.1 kept.2 n) is.0 (record {
           number = sym is.1;
           seen = (kept.0, refl);
           told = (kept.0, refl);
@@ -392,7 +392,7 @@ gathers id other v w turn idle s kept at apart there = (
   kept.0,
   kept.1,
   kept.2,
-  subst (λ vs. IsKept kept.0 kept.1 kept.2 (record { words = s.words; homes = s.homes; views = vs }))
+  subst (λ vs. IsRuleKept kept.0 kept.1 kept.2 (record { words = s.words; homes = s.homes; views = vs }))
       (set_comm s.views other id spent (with_claim v w) apart) both_kept,
 )
   where
@@ -411,17 +411,17 @@ gathers id other v w turn idle s kept at apart there = (
     knows : Knows kept.0 other w
     knows = subst (λ st. FitsAt st kept.0 kept.1 kept.2 other w) idle (kept.3.seats other w there_too)
 
-    claim : StartsWith v.seen w.seen × (calls_of w.number v.seen ≡ w.own)
+    claim : StartsWith v.seen w.seen × (seat_calls w.number v.seen ≡ w.own)
     claim =
-        subst (λ h. StartsWith h w.seen × (calls_of w.number h ≡ w.own)) (sym fits.3)
-        (knows.seen, ap (λ n. calls_of n kept.0) knows.number ∙ knows.own)
+        subst (λ h. StartsWith h w.seen × (seat_calls w.number h ≡ w.own)) (sym fits.3)
+        (knows.seen, ap (λ n. seat_calls n kept.0) knows.number ∙ knows.own)
 
     others : AreOfOthers w.number v.claims
     others =
         spent-others s.views w.number w (ap (get_elem? s.views) knows.number ∙ there_too)
         (not_spent w.stage Idle idle refl) v.claims (kept.3.gone id v at)
 
-    mid_kept : IsKept kept.0 kept.1 kept.2 (record {
+    mid_kept : IsRuleKept kept.0 kept.1 kept.2 (record {
       words = s.words;
       homes = s.homes;
       views = set s.views other spent;
@@ -448,7 +448,7 @@ gathers id other v w turn idle s kept at apart there = (
       spent-set s.views other w spent there_too (λ _. refl) v.claims (kept.3.gone id v at),
     )
 
-    both_kept : IsKept kept.0 kept.1 kept.2 (record {
+    both_kept : IsRuleKept kept.0 kept.1 kept.2 (record {
       words = s.words;
       homes = s.homes;
       views = set (set s.views other spent) id (with_claim v w);

@@ -13,20 +13,20 @@ use Rattle.credit_ledger.specs.declared.entry.Cover.{Cover}
 use Rattle.credit_ledger.specs.declared.entry.Cover.TheVariants.{Children, Descendants}
 use Rattle.credit_ledger.specs.Entries.{part_halves, tree_share, parent_and_number}
 
-abbrev pub region : ℕ → ℕ → List ℕ
-region kind root = (3 * (root / 2 ^ 32) + kind) ∷ (root % 2 ^ 32) ∷ []
+abbrev pub region_code : ℕ → ℕ → List ℕ
+region_code kind root = (3 * (root / 2 ^ 32) + kind) ∷ (root % 2 ^ 32) ∷ []
 
 -- where a share of the root's credit stands
 abbrev pub tree_code : ℕ → List Half → List Half
-tree_code root s = start_share (region 0 root) ++ s
+tree_code root s = start_share (region_code 0 root) ++ s
 
 -- the share with which a child starts in its parent's pool
 abbrev pub pool_runs : ℕ → List ℕ → ℕ → List ℕ
-pool_runs root parent number = region 1 root ++ map (λ n. 2 * n + 1) parent ++ 2 * number ∷ []
+pool_runs root parent number = region_code 1 root ++ map (λ n. 2 * n + 1) parent ++ 2 * number ∷ []
 
 -- the second share of an entry: of the pool, or for a root, which has no parent, its first one once more
 abbrev pub second_code : ℕ → Option (List ℕ × ℕ) → Part → List Half → List Half
-second_code root None part s = start_share (region 2 root) ++ s
+second_code root None part s = start_share (region_code 2 root) ++ s
 second_code root (Some child) part s = start_share (pool_runs root child.0 child.1) ++ part_halves part
 
 abbrev pub codes : Entry → List (List Half)

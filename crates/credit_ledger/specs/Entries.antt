@@ -81,10 +81,10 @@ IsSpanHeld entries span cover = (number : ℕ) → span.from ≤ number → numb
     → IsChildHeld entries span.root span.path number cover
 
 -- a ledger has at most 2^22 entries
-abbrev pub is_full : List Entry → Bool
-is_full entries = nat_le (2 ^ 22) (length entries)
+abbrev pub is_ledger_full : List Entry → Bool
+is_ledger_full entries = nat_le (2 ^ 22) (length entries)
 
 -- why an entry is refused
-abbrev pub fault_of : List Entry → Entry → LedgerFault
-fault_of entries e = if is_full entries then Full else option_map_or (λ index. Overlap index)
+abbrev pub entry_fault : List Entry → Entry → LedgerFault
+entry_fault entries e = if is_ledger_full entries then Full else option_map_or (λ index. Overlap index)
     (position_from (is_overlap e) 0 entries) Memory

@@ -6,7 +6,7 @@ use Rattle.credit_ledger.specs.declared.entry.Span.{Span}
 use Rattle.credit_ledger.specs.declared.view.Call.{Call}
 use Rattle.credit_ledger.specs.declared.view.Call.TheVariants.{Enter, Look}
 use Rattle.credit_ledger.specs.declared.view.Step.{Step}
-use Rattle.credit_ledger.specs.Entries.{is_full, is_overlap}
+use Rattle.credit_ledger.specs.Entries.{is_ledger_full, is_overlap}
 
 -- the entries after a call
 abbrev pub after_call : List Entry → Call → List Entry
@@ -15,7 +15,7 @@ after_call entries Look = entries
 
 -- the call may be made: there is room for the entry, and it overlaps none
 abbrev pub IsPossible : List Entry → Call → Type 0
-IsPossible entries (Enter entry) = (is_full entries ≡ false) × (list_any (is_overlap entry) entries ≡ false)
+IsPossible entries (Enter entry) = (is_ledger_full entries ≡ false) × (list_any (is_overlap entry) entries ≡ false)
 IsPossible entries Look = Unit {0}
 
 -- each call was possible, and its reply was the length that it met

@@ -21,8 +21,8 @@ abbrev pub Slot : Type 0
 Slot = Option (List Entry)
 
 -- the calls of the seat with this number
-abbrev pub calls_of : ℕ → List Step → List Step
-calls_of number history = filter (λ (s : Step). s.seat == number) history
+abbrev pub seat_calls : ℕ → List Step → List Step
+seat_calls number history = filter (λ (s : Step). s.seat == number) history
 
 -- the history begins with this one
 abbrev pub StartsWith : List Step → List Step → Type 0
@@ -66,8 +66,8 @@ abbrev pub with_ticket : View → ℕ → View
 with_ticket v t = record v { stage = Waiting; ticket = t }
 
 -- the seat has the turn, and has seen all of the history
-abbrev pub with_turn : View → List Step → View
-with_turn v history = record v { seen = history; stage = Turn; claims = [] }
+abbrev pub turn_taken : View → List Step → View
+turn_taken v history = record v { seen = history; stage = Turn; claims = [] }
 
 abbrev pub claim_of : View → Claim
 claim_of v = record { number = v.number; seen = v.seen; own = v.own }
@@ -80,7 +80,7 @@ with_claim v w = record v { claims = claim_of w ∷ v.claims }
 abbrev pub AreClaims : List Step → List Claim → Type 0
 AreClaims history [] = Unit {0}
 AreClaims history (c ∷ claims) =
-    (StartsWith history c.seen × (calls_of c.number history ≡ c.own)) × AreClaims history claims
+    (StartsWith history c.seen × (seat_calls c.number history ≡ c.own)) × AreClaims history claims
 
 -- none of these is of the seat with this number
 abbrev pub AreOfOthers : ℕ → List Claim → Type 0
@@ -88,9 +88,9 @@ AreOfOthers n [] = Unit {0}
 AreOfOthers n (c ∷ claims) = (c.number ≢ n) × AreOfOthers n claims
 
 -- no two of these are of one seat
-abbrev pub AreApart : List Claim → Type 0
-AreApart [] = Unit {0}
-AreApart (c ∷ claims) = AreOfOthers c.number claims × AreApart claims
+abbrev pub AreSeatsApart : List Claim → Type 0
+AreSeatsApart [] = Unit {0}
+AreSeatsApart (c ∷ claims) = AreOfOthers c.number claims × AreSeatsApart claims
 
 -- the seat with this number was joined into another one
 abbrev pub IsSpentAt : List View → ℕ → Type 0
@@ -102,13 +102,13 @@ AreSpent views [] = Unit {0}
 AreSpent views (c ∷ claims) = IsSpentAt views c.number × AreSpent views claims
 
 -- the call that the seat makes where it has the turn
-abbrev pub step_of : View → Call → Step
-step_of v call = record { seat = v.number; call = call; reply = length (entries_after v.seen) }
+abbrev pub seat_step : View → Call → Step
+seat_step v call = record { seat = v.number; call = call; reply = length (entries_after v.seen) }
 
 -- the seat after its call
 abbrev pub with_call : View → Call → View
 with_call v call =
-    record v { seen = v.seen ++ step_of v call ∷ []; own = v.own ++ step_of v call ∷ []; stage = Idle }
+    record v { seen = v.seen ++ seat_step v call ∷ []; own = v.own ++ seat_step v call ∷ []; stage = Idle }
 
 abbrev pub has_ticket : Stage → Bool
 has_ticket Fresh = false
@@ -122,7 +122,7 @@ pub record Knows (history : List Step) (n : ℕ) (v : View) : Type 0 where
   pub number : v.number ≡ n
   pub seen : StartsWith history v.seen
   pub told : StartsWith history v.told
-  pub own : calls_of n history ≡ v.own
+  pub own : seat_calls n history ≡ v.own
 
 -- the number is greater than that of the seat, than each that the seat knows to be given, and than that of
 -- each
@@ -130,23 +130,23 @@ pub record Knows (history : List Step) (n : ℕ) (v : View) : Type 0 where
 pub record IsLater (v : View) (n : ℕ) : Type 0 where
   pub than_given : v.given ≤ n
   pub than_seat : v.number < n
-  pub than_callers : (m : ℕ) → n ≤ m → calls_of m v.seen ≡ []
+  pub than_callers : (m : ℕ) → n ≤ m → seat_calls m v.seen ≡ []
 
 -- what the rule says of the seat with this number, by its stage
 abbrev pub FitsAt : Stage → List Step → ℕ → ℕ → ℕ → View → Type 0
 FitsAt Fresh history next serving n v =
-    StartsWith history v.seen × StartsWith history v.told × (v.own ≡ []) × (calls_of n history ≡ [])
+    StartsWith history v.seen × StartsWith history v.told × (v.own ≡ []) × (seat_calls n history ≡ [])
     × IsLater v n
 FitsAt Idle history next serving n v = Knows history n v
 FitsAt Waiting history next serving n v = Knows history n v × (serving ≤ v.ticket) × (v.ticket < next)
 FitsAt Turn history next serving n v =
     Knows history n v × (v.ticket ≡ serving) × (serving < next) × (v.seen ≡ history)
     × AreClaims v.seen v.claims
-    × AreApart v.claims
+    × AreSeatsApart v.claims
 FitsAt Spent history next serving n v = Unit {0}
 
-abbrev pub Fits : List Step → ℕ → ℕ → ℕ → View → Type 0
-Fits history next serving n v = FitsAt v.stage history next serving n v
+abbrev pub FitsHistory : List Step → ℕ → ℕ → ℕ → View → Type 0
+FitsHistory history next serving n v = FitsAt v.stage history next serving n v
 
 -- a seat has this ticket
 abbrev pub IsHeld : List View → ℕ → Type 0
@@ -160,12 +160,12 @@ IsHome history s =
     ⊎ ((s.homes ≡ none ∷ []) × (n : ℕ) × (v : View) × (get_elem? s.views n ≡ some v) × (v.stage ≡ Turn))
 
 -- the rule, at this history, next ticket, and ticket that is served
-pub record IsKept (history : List Step) (next serving : ℕ) (s : State Slot View) : Type 0 where
+pub record IsRuleKept (history : List Step) (next serving : ℕ) (s : State Slot View) : Type 0 where
   pub words : s.words ≡ next ∷ serving ∷ []
   pub served : serving ≤ next
   pub legal : IsLegal history
-  pub seats : (n : ℕ) (v : View) → get_elem? s.views n ≡ some v → Fits history next serving n v
-  pub strangers : (n : ℕ) → length s.views ≤ n → calls_of n history ≡ []
+  pub seats : (n : ℕ) (v : View) → get_elem? s.views n ≡ some v → FitsHistory history next serving n v
+  pub strangers : (n : ℕ) → length s.views ≤ n → seat_calls n history ≡ []
   pub apart : (m n : ℕ) (v w : View) → get_elem? s.views m ≡ some v → get_elem? s.views n ≡ some w
       → has_ticket v.stage ≡ true → has_ticket w.stage ≡ true → v.ticket ≡ w.ticket → m ≡ n
   -- each ticket from the one that is served up to the next one is held by a seat
@@ -176,12 +176,12 @@ pub record IsKept (history : List Step) (next serving : ℕ) (s : State Slot Vie
 
 -- there is one legal history; the ledger at home is what it leaves, or one seat has the turn
 abbrev pub Kept : State Slot View → Type 0
-Kept s = (history : List Step) × (next : ℕ) × (serving : ℕ) × IsKept history next serving s
+Kept s = (history : List Step) × (next : ℕ) × (serving : ℕ) × IsRuleKept history next serving s
 
 -- a new seat has learned its number, which no call so far has
 abbrev pub Settled : Me Slot View → Me Slot View → Type 0
 Settled before after =
-    (n : ℕ) × (calls_of n before.0.seen ≡ []) × IsLater before.0 n
+    (n : ℕ) × (seat_calls n before.0.seen ≡ []) × IsLater before.0 n
     × (after ≡ (with_number before.0 n, before.1))
 
 -- a new seat, which has seen what this one has, has made no call, and has a number that is later than this
@@ -189,7 +189,7 @@ Settled before after =
 pub record IsCopy (v w : View) : Type 0 where
   pub seen : w.seen ≡ v.seen
   pub own : w.own ≡ []
-  pub alone : calls_of w.number v.seen ≡ []
+  pub alone : seat_calls w.number v.seen ≡ []
   pub later : IsLater v w.number
   pub given : w.given ≡ w.number + 1
 
@@ -204,13 +204,13 @@ pub record HasTurn (v : View) (history : List Step) : Type 0 where
   pub legal : IsLegal history
   pub seen : StartsWith history v.seen
   pub told : StartsWith history v.told
-  pub own : calls_of v.number history ≡ v.own
+  pub own : seat_calls v.number history ≡ v.own
 
 -- the seat has the turn and the ledger, or nothing was changed
 abbrev pub Served : Me Slot View → ℕ → Me Slot View → Type 0
 Served before found after =
     ((found ≡ before.0.ticket) × (history : List Step) × HasTurn before.0 history
-    × (after ≡ (with_turn before.0 history, (0, Some (entries_after history)) ∷ [])))
+    × (after ≡ (turn_taken before.0 history, (0, Some (entries_after history)) ∷ [])))
     ⊎ ((found < before.0.ticket) × (after ≡ before))
 
 abbrev pub Looked : Me Slot View → Me Slot View → Type 0
@@ -235,7 +235,7 @@ pub record Extends (v : View) (call : Call) (reply : ℕ) (w : View) : Type 0 wh
   pub seen : StartsWith before v.seen
   pub told : StartsWith before v.told
   pub own : w.own ≡ v.own ++ record { seat = v.number; call = call; reply = reply } ∷ []
-  pub alone : calls_of v.number w.seen ≡ w.own
+  pub alone : seat_calls v.number w.seen ≡ w.own
 
 -- a new seat
 abbrev pub Sat : Me Slot View → Type 0
@@ -243,4 +243,4 @@ Sat after = after.0.stage ≡ Idle
 
 -- what the seat has taken in is in the history that it has seen, and of one seat each
 abbrev pub Told : Me Slot View → Me Slot View → Type 0
-Told before after = (after ≡ before) × AreClaims before.0.seen before.0.claims × AreApart before.0.claims
+Told before after = (after ≡ before) × AreClaims before.0.seen before.0.claims × AreSeatsApart before.0.claims

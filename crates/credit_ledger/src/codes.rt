@@ -2,7 +2,7 @@
 ghost use Rattle.std.specs.Prelude.{◌≡◌, ◌≤◌, ◌<◌, ◌+◌, ◌*◌, ◌^◌, ◌++◌, ◌∷◌, [], length, map, IfOk, OnOk, Some};
 ghost use Rattle.credit.specs.Shares.{start_share, finish_share};
 ghost use Rattle.credit_ledger.specs.Entries.{part_halves, tree_share, parent_and_number};
-ghost use Rattle.credit_ledger.specs.Codes.{region, tree_code as code_in_tree, second_code as code_besides, pool_runs};
+ghost use Rattle.credit_ledger.specs.Codes.{region_code, tree_code as code_in_tree, second_code as code_besides, pool_runs};
 
 use crate::entry::Entry;
 use credit::Share;
@@ -75,8 +75,8 @@ pub(crate) fn pool_code(
 fn region_runs(alloc: Global, kind: u64, root: u64, more: usize) -> Result<Vec<u64>, AllocError>
     requires kind { kind < 3 }
     requires more { more ≤ 1025 }
-    ensures runs { IfOk result (λ runs. runs.items ≡ region kind root) }
-    ensures small { length (start_share (region kind root)) ≤ 2 ^ 35 }
+    ensures runs { IfOk result (λ runs. runs.items ≡ region_code kind root) }
+    ensures small { length (start_share (region_code kind root)) ≤ 2 ^ 35 }
 {
     let mut runs = Vec::with_capacity(alloc, 2 + more)?;
     runs.push(3 * (root / LOWER) + kind)?;

@@ -3,7 +3,7 @@ ghost use Rattle.std.specs.Prelude.{◌≡◌, ◌≤◌, ◌<◌, ◌^◌, ◌+
 ghost use Rattle.std.specs.List.{list_any};
 ghost use Rattle.std.specs.Option.{option_copied};
 ghost use Rattle.credit.specs.Trees.{is_by};
-ghost use Rattle.credit_ledger.specs.Entries.{is_overlap, is_full, fault_of, IsChildHeld, IsSpanHeld};
+ghost use Rattle.credit_ledger.specs.Entries.{is_overlap, is_ledger_full, entry_fault, IsChildHeld, IsSpanHeld};
 ghost use Rattle.credit_ledger.specs.Codes.{all_codes, start_code};
 
 use crate::codes::{child_code, pool_code, second_code, tree_code};
@@ -76,10 +76,10 @@ impl Ledger {
         ensures index { IfOk result (λ index. index ≡ length self.old) }
         ensures entered { OnOk result (self.new ≡ self.old ++ entry ∷ []) }
         ensures unchanged { OnErr result (self.new ≡ self.old) }
-        ensures full { IsTrue (is_full self.old) → IsErr result }
+        ensures full { IsTrue (is_ledger_full self.old) → IsErr result }
         ensures overlaps { IsTrue (list_any (is_overlap entry) self.old) → IsErr result }
         ensures returned { IfErr result (λ refusal. refusal.0 ≡ entry) }
-        ensures fault { IfErr result (λ refusal. refusal.1 ≡ fault_of self.old entry) }
+        ensures fault { IfErr result (λ refusal. refusal.1 ≡ entry_fault self.old entry) }
     {
         if self.entries.len() >= MOST_ENTRIES {
             return Err((entry, LedgerFault::Full));
@@ -165,7 +165,7 @@ fn start_code(
 /// Why the entry was refused, where there is room.
 fn refusal(entries: &[Entry], entry: &Entry) -> LedgerFault
     requires { length entries.now < 2 ^ 22 }
-    ensures { result ≡ fault_of entries.now entry.now }
+    ensures { result ≡ entry_fault entries.now entry.now }
 {
     'entries: for index in 0..entries.len() {
         if do_overlap(entry, &entries[index]) {

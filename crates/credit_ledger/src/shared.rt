@@ -6,9 +6,9 @@ ghost use Rattle.credit_ledger.specs.declared.view.Stage.{Stage};
 ghost use Rattle.credit_ledger.specs.declared.view.Step.{Step};
 ghost use Rattle.credit_ledger.specs.declared.view.View.{View};
 ghost use Rattle.credit_ledger.specs.declared.entry.Cover.{Cover};
-ghost use Rattle.credit_ledger.specs.Entries.{fault_of, IsSpanHeld};
+ghost use Rattle.credit_ledger.specs.Entries.{entry_fault, IsSpanHeld};
 ghost use Rattle.credit_ledger.specs.Histories.{entries_after, IsPossible, IsLegal, IsOver};
-ghost use Rattle.credit_ledger.specs.Seats.{newcomer, told_of, with_given, with_ticket, with_turn, HasTurn, IsCopy, Extends, AreClaims, AreApart, claim_of};
+ghost use Rattle.credit_ledger.specs.Seats.{newcomer, told_of, with_given, with_ticket, turn_taken, HasTurn, IsCopy, Extends, AreClaims, AreSeatsApart, claim_of};
 
 use crate::entry::{Cover, Entry, Span};
 use crate::fault::LedgerFault;
@@ -88,7 +88,7 @@ impl SharedLedger {
             (length : ℕ) × Extends seat.old.place.me.0 Call.Look length seat.new.place.me.0) }
         ensures returned { IfErr result (λ refusal. refusal.0 ≡ entry) }
         ensures fault { IfErr result (λ refusal.
-            refusal.1 ≡ fault_of (entries_after seat.new.place.me.0.seen) entry) }
+            refusal.1 ≡ entry_fault (entries_after seat.new.place.me.0.seen) entry) }
     {
         let ticket = draw(&self.board, wait, &mut seat.place);
         await_turn(&self.board, wait, &mut seat.place, ticket);
@@ -181,7 +181,7 @@ impl SharedLedger {
         requires seats { All (λ seat. seat.place.table_id ≡ self.board.shared.table_id) seats.items }
         ensures { (history : List Step) × IsLegal history × (result ≡ entries_after history)
             × AreClaims history (map (λ seat. claim_of seat.place.me.0) seats.items)
-            × AreApart (map (λ seat. claim_of seat.place.me.0) seats.items) }
+            × AreSeatsApart (map (λ seat. claim_of seat.place.me.0) seats.items) }
     {
         let (_, mut place) = self.board.shared.load_new_seat::<Sit>(0);
         let ticket = draw(&self.board, wait, &mut place);
@@ -241,7 +241,7 @@ fn await_turn<R: Wait>(board: &Board, wait: &R, place: &mut Place, ticket: u64)
     requires empty { place.old.me.1 ≡ [] }
     ensures place { place.new.table_id ≡ place.old.table_id }
     ensures turn { HasTurn place.old.me.0 place.new.me.0.seen }
-    ensures view { place.new.me ≡ (with_turn place.old.me.0 place.new.me.0.seen, (0, Some (entries_after place.new.me.0.seen)) ∷ []) }
+    ensures view { place.new.me ≡ (turn_taken place.old.me.0 place.new.me.0.seen, (0, Some (entries_after place.new.me.0.seen)) ∷ []) }
 {
     let mut spins = 0;
     'rounds: for _ in wait.forever() {
@@ -290,7 +290,7 @@ fn put(board: &Board, place: &mut Place, entry: Entry) -> Result<u32, (Entry, Le
     ensures possible { OnOk result (IsPossible (entries_after place.old.me.0.seen) (Call.Enter entry)) }
     ensures unchanged { OnErr result (place.new.me ≡ place.old.me) }
     ensures returned { IfErr result (λ refusal. refusal.0 ≡ entry) }
-    ensures fault { IfErr result (λ refusal. refusal.1 ≡ fault_of (entries_after place.old.me.0.seen) entry) }
+    ensures fault { IfErr result (λ refusal. refusal.1 ≡ entry_fault (entries_after place.old.me.0.seen) entry) }
 {
     let Some(ledger) = place.slot_mut(&board.shared, 0) else {
         unreachable!()
@@ -329,7 +329,7 @@ fn gather(board: &Board, place: &mut Place, seats: Vec<Seat>)
     ensures slots { place.new.me.1 ≡ place.old.me.1 }
     ensures seen { place.new.me.0.seen ≡ place.old.me.0.seen }
     ensures claims { AreClaims place.old.me.0.seen (map (λ seat. claim_of seat.place.me.0) seats.items) }
-    ensures apart { AreApart (map (λ seat. claim_of seat.place.me.0) seats.items) }
+    ensures apart { AreSeatsApart (map (λ seat. claim_of seat.place.me.0) seats.items) }
 {
     let mut seats = seats;
     'seats: while let Some(seat) = seats.pop() {

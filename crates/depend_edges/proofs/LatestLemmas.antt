@@ -24,10 +24,10 @@ use Rattle.task_tree.specs.Numbering.{AreApart}
 use Rattle.task_tree.proofs.FamilyLemmas.{parent_noted}
 use Rattle.task_tree.proofs.OnceLemmas.{one_number, creation_made}
 use Rattle.depend_edges.specs.declared.maxima.Maxima.{Maxima}
-use Rattle.depend_edges.specs.Maxima.{maximum_at, AreAlike, AreEntered, IsGreatest}
-use Rattle.depend_edges.specs.Edges.{AreLatest}
+use Rattle.depend_edges.specs.Maxima.{maximum_at, ConflictAlike, AreLengthsEntered, IsGreatest}
+use Rattle.depend_edges.specs.Edges.{ArePredecessorLengths}
 use Rattle.depend_edges.specs.Lists.{AreListed, HasList}
-use Rattle.depend_edges.specs.Latest.{IsUse, AreMaxima, IsLatest, IsPassed, AreLatestSoFar, IsChildAt}
+use Rattle.depend_edges.specs.Latest.{IsUse, AreMaxima, IsGreatestLength, IsChildPassed, AreLatestSoFar, IsChildOfIndex}
 use Rattle.depend_edges.specs.Latest.{AreMaximaAt}
 
 -- ---- the greatest lengths of the children so far
@@ -48,7 +48,7 @@ pub maxima_more : (rs : List Record) (tasks own siblings : List ℕ) (n index ta
     (old new : BTreeMap ℕ Maxima)
     → AreApart tasks → slice_get siblings n ≡ Some task → slice_get tasks index ≡ Some task
     → ((dep : Dep) → Contains items dep ↔ DependsOn rs task dep)
-    → AreEntered old new items (length items) (slice_index own index) → AreMaxima rs tasks own siblings n old
+    → AreLengthsEntered old new items (length items) (slice_index own index) → AreMaxima rs tasks own siblings n old
     → AreMaxima rs tasks own siblings (n + 1) new
 maxima_more rs tasks own siblings n index task items old new apart here is_index depends entered are =
     record {
@@ -108,7 +108,7 @@ pub child_latest : (rs : List Record) (tasks own : List ℕ) (parent number task
     → IsFreeOf rs CreatedTwice → IsChild rs parent number task
     → ((dep : Dep) → Contains items dep ↔ DependsOn rs task dep)
     → AreMaxima rs tasks own (children rs parent) number map → IsGreatest map items (length items) greatest
-    → IsLatest rs tasks own task greatest
+    → IsGreatestLength rs tasks own task greatest
 child_latest rs tasks own parent number task greatest items map once child depends are is = record {
   bound = bound;
   only = elim is.reached [
@@ -129,7 +129,7 @@ child_latest rs tasks own parent number task greatest items map once child depen
   where
     as_predecessor : (item other : Dep) (kind : DepKind) (index : ℕ) → Contains items item
         → conflict kind item.kind ≡ true → (used : IsUse rs tasks (children rs parent) number index other)
-        → other.var ≡ item.var → AreAlike other.kind kind → IsPredecessor rs task used.sibling
+        → other.var ≡ item.var → ConflictAlike other.kind kind → IsPredecessor rs task used.sibling
     as_predecessor item other kind index has conflicts used location alike = record {
       parent = parent;
       number = number;
@@ -203,7 +203,7 @@ latest_next rs tasks own latest up parent is_up are = record {
 -- the next child
 pub latest_more : (rs : List Record) (tasks own old : List ℕ) (up number parent index task latest : ℕ)
     → AreApart tasks → slice_get tasks up ≡ Some parent → IsChild rs parent number task
-    → slice_get tasks index ≡ Some task → IsLatest rs tasks own task latest
+    → slice_get tasks index ≡ Some task → IsGreatestLength rs tasks own task latest
     → AreLatestSoFar rs tasks own up number old
     → AreLatestSoFar rs tasks own up (number + 1) (set old index latest)
 latest_more rs tasks own old up number parent index task latest apart is_up child here is are = record {
@@ -259,8 +259,8 @@ latest_more rs tasks own old up number parent index task latest apart is_up chil
 
     back : (place its predecessor : ℕ) → place ≢ index → slice_get tasks place ≡ Some its
         → (before : IsPredecessor rs its predecessor)
-        → IsPassed tasks up (number + 1) before.parent before.number
-        → IsPassed tasks up number before.parent before.number
+        → IsChildPassed tasks up (number + 1) before.parent before.number
+        → IsChildPassed tasks up number before.parent before.number
     back place its predecessor different stands before (above, is_above, passed) = (
       above,
       is_above,
@@ -291,20 +291,20 @@ child_index rs family parent number task are child =
     (are.noted.each place.0 task (at_within creation rs place.0 (parent, task) place.2)
     (creation_made rs parent task place.0 place.2))
 
-parent_index : (rs : List Record) (family : FamilyView) (parent number task : ℕ) → IsFamilyOf rs family
+parent_indexed : (rs : List Record) (family : FamilyView) (parent number task : ℕ) → IsFamilyOf rs family
     → IsChild rs parent number task → (index : ℕ) × (slice_get family.tasks index ≡ Some parent)
-parent_index rs family parent number task are child =
+parent_indexed rs family parent number task are child =
     let place = child_place rs parent (length rs) number task child in
     contains_get family.tasks parent
     (parent_noted rs family.tasks place.0 parent task are.noted are.rooted place.2)
 
 pub latest_all : (rs : List Record) (family : FamilyView) (own latest : List ℕ) (n : ℕ) → IsFamilyOf rs family
     → length family.tasks ≤ n → AreLatestSoFar rs family.tasks own n 0 latest
-    → AreLatest rs family.tasks own latest
+    → ArePredecessorLengths rs family.tasks own latest
 latest_all rs family own latest n is all are = record {
   all = are.all;
   each = λ index task other predecessor here before at.
-      let up = parent_index rs family before.parent before.number task is before.is_child in
+      let up = parent_indexed rs family before.parent before.number task is before.is_child in
       let within = slice_get_within family.tasks up.0 before.parent up.1 in
       are.bound index task other predecessor here before (up.0, up.1, inl (omega (arith, within, all))) at;
   only = are.only;
@@ -313,7 +313,7 @@ latest_all rs family own latest n is all are = record {
 -- ---- at the index of the parent
 
 pub child_found : (rs : List Record) (family : FamilyView) (up number task : ℕ) → IsFamilyOf rs family
-    → up < length family.tasks → IsChildAt rs family.tasks up number task
+    → up < length family.tasks → IsChildOfIndex rs family.tasks up number task
     → ((index : ℕ) → slice_get family.tasks index ≡ Some task → ⊥) → ⊥
 child_found rs family up number task are within child none =
     let parent = get_or family.tasks up 0 in
@@ -324,9 +324,9 @@ child_found rs family up number task are within child none =
 
 pub maxima_at_more : (rs : List Record) (family : FamilyView) (own : List ℕ) (up n index task : ℕ)
     (items : List Dep) (old new : BTreeMap ℕ Maxima)
-    → IsFamilyOf rs family → IsChildAt rs family.tasks up n task → slice_get family.tasks index ≡ Some task
+    → IsFamilyOf rs family → IsChildOfIndex rs family.tasks up n task → slice_get family.tasks index ≡ Some task
     → ((dep : Dep) → Contains items dep ↔ DependsOn rs task dep)
-    → AreEntered old new items (length items) (slice_index own index)
+    → AreLengthsEntered old new items (length items) (slice_index own index)
     → AreMaximaAt rs family.tasks own up n old → AreMaximaAt rs family.tasks own up (n + 1) new
 maxima_at_more rs family own up n index task items old new is child here depends entered are parent is_up =
     maxima_more rs family.tasks own (children rs parent) n index task items old new is.makers.apart
@@ -334,7 +334,7 @@ maxima_at_more rs family own up n index task items old new is child here depends
 
 pub latest_at_more : (rs : List Record) (family : FamilyView) (own old : List ℕ)
     (up number index task greatest : ℕ) (items : List Dep) (map : BTreeMap ℕ Maxima)
-    → IsFamilyOf rs family → up < length family.tasks → IsChildAt rs family.tasks up number task
+    → IsFamilyOf rs family → up < length family.tasks → IsChildOfIndex rs family.tasks up number task
     → slice_get family.tasks index ≡ Some task → ((dep : Dep) → Contains items dep ↔ DependsOn rs task dep)
     → AreMaximaAt rs family.tasks own up number map → IsGreatest map items (length items) greatest
     → AreLatestSoFar rs family.tasks own up number old
@@ -363,7 +363,7 @@ latest_at_next rs tasks own latest up n within long are =
 pub latest_none : (rs : List Record) (family : FamilyView) (own latest : List ℕ) (lists : List (Option ℕ))
     (listed : Bool)
     → IsFamilyOf rs family → AreListed rs (length rs) family.tasks lists → IsTrue listed ↔ HasList lists
-    → listed ≡ false → latest ≡ replicate (length family.tasks) 0 → AreLatest rs family.tasks own latest
+    → listed ≡ false → latest ≡ replicate (length family.tasks) 0 → ArePredecessorLengths rs family.tasks own latest
 latest_none rs family own latest lists listed is are tells not_listed zeros = record {
   all = ap length zeros ∙ length-replicate (length family.tasks) 0;
   each =

@@ -14,7 +14,7 @@ use Rattle.ompt_events.specs.Names.{conflict}
 use Rattle.ompt_events.proofs.ListLemmas.{get_contains}
 use Rattle.ompt_events.proofs.NumberMaps.{updated_here, updated_there}
 use Rattle.depend_edges.specs.declared.maxima.Maxima.{Maxima}
-use Rattle.depend_edges.specs.Maxima.{maximum, maximum_at, IsRaised, IsAwaited, AreEntered, IsGreatest}
+use Rattle.depend_edges.specs.Maxima.{maximum, maximum_at, IsKindRaised, IsGreatestConflicting, AreLengthsEntered, IsGreatest}
 
 -- the greater of two numbers
 pub max_cases : (a b : ℕ) → (max a b ≡ a) ⊎ (max a b ≡ b)
@@ -25,7 +25,7 @@ max_cases a b = elim (cases_lt b a) [
 
 -- ---- what an item waits for
 
-pub awaited_in : (m : Maxima) (a r : ℕ) → a ≡ max m.writers m.mutexes → r ≡ max a m.sets → IsAwaited m In r
+pub awaited_in : (m : Maxima) (a r : ℕ) → a ≡ max m.writers m.mutexes → r ≡ max a m.sets → IsGreatestConflicting m In r
 awaited_in m a r first second = record {
   bound = bound;
   reached = elim (max_cases a m.sets) [
@@ -45,7 +45,7 @@ awaited_in m a r first second = record {
     bound Inoutset e = omega (arith, first, second)
 
 pub awaited_out : (m : Maxima) (kind : DepKind) (a b r : ℕ) → ((other : DepKind) → conflict other kind ≡ true)
-    → a ≡ max m.writers m.mutexes → b ≡ max a m.sets → r ≡ max b m.readers → IsAwaited m kind r
+    → a ≡ max m.writers m.mutexes → b ≡ max a m.sets → r ≡ max b m.readers → IsGreatestConflicting m kind r
 awaited_out m kind a b r all first second third = record {
   bound = λ other e. bound other;
   reached = elim (max_cases b m.readers) [
@@ -82,7 +82,7 @@ all_inout Mutexinoutset = refl
 all_inout Inoutset = refl
 
 pub awaited_mutex : (m : Maxima) (a r : ℕ) → a ≡ max m.writers m.sets → r ≡ max a m.readers
-    → IsAwaited m Mutexinoutset r
+    → IsGreatestConflicting m Mutexinoutset r
 awaited_mutex m a r first second = record {
   bound = bound;
   reached = elim (max_cases a m.readers) [
@@ -102,7 +102,7 @@ awaited_mutex m a r first second = record {
     bound Inoutset e = omega (arith, first, second)
 
 pub awaited_set : (m : Maxima) (a r : ℕ) → a ≡ max m.writers m.mutexes → r ≡ max a m.readers
-    → IsAwaited m Inoutset r
+    → IsGreatestConflicting m Inoutset r
 awaited_set m a r first second = record {
   bound = bound;
   reached = elim (max_cases a m.readers) [
@@ -141,8 +141,8 @@ raised_there old new var other raised updates apart kind =
 pub entered_more : (start old new : BTreeMap ℕ Maxima) (items : List Dep) (n task_length : ℕ) (item : Dep)
     (was raised : Maxima)
     → slice_get items n ≡ Some item → ((kind : DepKind) → maximum was kind ≡ maximum_at old item.var kind)
-    → IsRaised was raised item.kind task_length → Updates nat_cmp old new item.var (Some raised)
-    → AreEntered start old items n task_length → AreEntered start new items (n + 1) task_length
+    → IsKindRaised was raised item.kind task_length → Updates nat_cmp old new item.var (Some raised)
+    → AreLengthsEntered start old items n task_length → AreLengthsEntered start new items (n + 1) task_length
 entered_more start old new items n task_length item was raised here reads rise updates are = record {
   rises =
       λ var kind.
@@ -204,7 +204,7 @@ entered_more start old new items n task_length item was raised here reads rise u
 pub greatest_more : (map : BTreeMap ℕ Maxima) (items : List Dep) (n old waits new : ℕ) (item : Dep)
     (maxima : Maxima)
     → slice_get items n ≡ Some item → ((kind : DepKind) → maximum maxima kind ≡ maximum_at map item.var kind)
-    → IsAwaited maxima item.kind waits → new ≡ max old waits → IsGreatest map items n old
+    → IsGreatestConflicting maxima item.kind waits → new ≡ max old waits → IsGreatest map items n old
     → IsGreatest map items (n + 1) new
 greatest_more map items n old waits new item maxima here reads awaited is are = record {
   bound = λ k other kind below stands conflicts. elim (cases_lt k n) [

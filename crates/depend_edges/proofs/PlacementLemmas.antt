@@ -18,8 +18,8 @@ use Rattle.ompt_events.proofs.PlaceLemmas.{at_within}
 use Rattle.task_tree.proofs.LinkLemmas.{get_set_same, get_set_other}
 use Rattle.task_tree.specs.Runs.{RunView, IsRun, IsIndexOf, AreDependences}
 use Rattle.task_tree.proofs.SubjectLemmas.{call_task}
-use Rattle.depend_edges.specs.Placement.{IsLast, AreLast, BelongTogether, HasDependences, HasNoneAt, IsMarked}
-use Rattle.depend_edges.specs.Placement.{AreMarked}
+use Rattle.depend_edges.specs.Placement.{IsLastOfThread, AreLastOfThreads, BelongTogether, HasDependences, HasNoneAt, IsListMarked}
+use Rattle.depend_edges.specs.Placement.{AreListsMarked}
 
 -- ---- the last record of each thread
 
@@ -33,7 +33,7 @@ no_slot n k slots are below =
 pub slots_long : (n : ℕ) (slots : List (Option ℕ)) → slots ≡ replicate n None → length slots ≡ n
 slots_long n slots are = ap length are ∙ length-replicate n None
 
-pub last_none : (rs : List Record) (last : List (Option ℕ)) → last ≡ replicate 256 None → AreLast rs 0 last
+pub last_none : (rs : List Record) (last : List (Option ℕ)) → last ≡ replicate 256 None → AreLastOfThreads rs 0 last
 last_none rs last are = record {
   all = slots_long 256 last are;
   each = λ thread a below. (
@@ -43,22 +43,22 @@ last_none rs last are = record {
   );
 }
 
-last_here : (rs : List Record) (i thread : ℕ) → thread_at rs i ≡ Some thread → IsLast rs (i + 1) thread i
+last_here : (rs : List Record) (i thread : ℕ) → thread_at rs i ≡ Some thread → IsLastOfThread rs (i + 1) thread i
 last_here rs i thread runs = record {
   before = omega arith;
   runs = runs;
   last = λ k after before. absurd (omega arith);
 }
 
-last_same : (rs : List Record) (i thread a : ℕ) → thread_at rs i ≡ Some thread → IsLast rs (i + 1) thread a
+last_same : (rs : List Record) (i thread a : ℕ) → thread_at rs i ≡ Some thread → IsLastOfThread rs (i + 1) thread a
     → i ≡ a
 last_same rs i thread a runs is = elim (cases_lt a i) [
   | inl less ↦ absurd (is.last i less (omega arith) runs)
   | inr more ↦ let before = is.before in omega (arith, before)
 ]
 
-last_stays : (rs : List Record) (i thread a : ℕ) → thread_at rs i ≢ Some thread → IsLast rs i thread a
-    → IsLast rs (i + 1) thread a
+last_stays : (rs : List Record) (i thread a : ℕ) → thread_at rs i ≢ Some thread → IsLastOfThread rs i thread a
+    → IsLastOfThread rs (i + 1) thread a
 last_stays rs i thread a apart is = record {
   before = let before = is.before in omega (arith, before);
   runs = is.runs;
@@ -68,8 +68,8 @@ last_stays rs i thread a apart is = record {
   ];
 }
 
-last_back : (rs : List Record) (i thread a : ℕ) → thread_at rs i ≢ Some thread → IsLast rs (i + 1) thread a
-    → IsLast rs i thread a
+last_back : (rs : List Record) (i thread a : ℕ) → thread_at rs i ≢ Some thread → IsLastOfThread rs (i + 1) thread a
+    → IsLastOfThread rs i thread a
 last_back rs i thread a apart is = record {
   before = elim (cases_lt a i) [
     | inl less ↦ less
@@ -82,13 +82,13 @@ last_back rs i thread a apart is = record {
 }
 
 pub last_more : (rs : List Record) (i own : ℕ) (last : List (Option ℕ)) → thread_at rs i ≡ Some own
-    → own < 256 → AreLast rs i last → AreLast rs (i + 1) (set last own (Some i))
+    → own < 256 → AreLastOfThreads rs i last → AreLastOfThreads rs (i + 1) (set last own (Some i))
 last_more rs i own last runs low are = record {
   all = length-set last own (Some i) ∙ are.all;
   each = λ thread a below. elim (cases_eq thread own) [
     | inl same ↦
         let P : ℕ → Type 0 =
-        λ t. (slice_get (set last own (Some i)) t ≡ Some (Some a)) ↔ IsLast rs (i + 1) t a in
+        λ t. (slice_get (set last own (Some i)) t ≡ Some (Some a)) ↔ IsLastOfThread rs (i + 1) t a in
         subst P (sym same) (here a)
     | inr apart ↦
         let other : thread_at rs i ≢ Some thread = λ e. apart (same_Some thread own (sym e ∙ runs)) in (
@@ -105,17 +105,17 @@ last_more rs i own last runs low are = record {
     stood : slice_get (set last own (Some i)) own ≡ Some (Some i)
     stood = get_set_same last own (Some i) (rw are.all low)
 
-    here : (a : ℕ) → (slice_get (set last own (Some i)) own ≡ Some (Some a)) ↔ IsLast rs (i + 1) own a
+    here : (a : ℕ) → (slice_get (set last own (Some i)) own ≡ Some (Some a)) ↔ IsLastOfThread rs (i + 1) own a
     here a = (
       λ stands. let same : i ≡ a =
           same_Some i a (same_Some (Some i) (Some a) (sym stood ∙ stands)) in let P : ℕ → Type 0 =
-          IsLast rs (i + 1) own in subst P same (last_here rs i own runs),
+          IsLastOfThread rs (i + 1) own in subst P same (last_here rs i own runs),
       λ is. stood ∙ ap (λ b. Some (Some b)) (last_same rs i own a runs is),
     )
 
 -- so the record that a thread has next after another is found
 next_last : (rs : List Record) (i own a : ℕ) (last : List (Option ℕ)) → thread_at rs i ≡ Some own → own < 256
-    → AreLast rs i last → IsNextInThread rs a i → slice_get last own ≡ Some (Some a)
+    → AreLastOfThreads rs i last → IsNextInThread rs a i → slice_get last own ≡ Some (Some a)
 next_last rs i own a last runs low are is = (are.each own a low).1 (record {
   before = is.later;
   runs = is.same_thread ∙ runs;
@@ -123,7 +123,7 @@ next_last rs i own a last runs low are is = (are.each own a low).1 (record {
 })
 
 last_next : (rs : List Record) (i own a : ℕ) (last : List (Option ℕ)) → i < length rs
-    → thread_at rs i ≡ Some own → own < 256 → AreLast rs i last → slice_get last own ≡ Some (Some a)
+    → thread_at rs i ≡ Some own → own < 256 → AreLastOfThreads rs i last → slice_get last own ≡ Some (Some a)
     → IsNextInThread rs a i
 last_next rs i own a last within runs low are stands =
     let is = (are.each own a low).0 stands in
@@ -135,7 +135,7 @@ last_next rs i own a last within runs low are stands =
     }
 
 pub next_is : (rs : List Record) (i own : ℕ) (last : List (Option ℕ)) (slot : Option ℕ) → i < length rs
-    → thread_at rs i ≡ Some own → own < 256 → AreLast rs i last → slot ≡ get_or last own slot → (a : ℕ)
+    → thread_at rs i ≡ Some own → own < 256 → AreLastOfThreads rs i last → slot ≡ get_or last own slot → (a : ℕ)
     → (slot ≡ Some a) ↔ IsNextInThread rs a i
 next_is rs i own last slot within runs low are read a =
     let stands : slice_get last own ≡ Some slot = slice_get_read last 256 own slot (sym are.all) low read in (
@@ -146,7 +146,7 @@ next_is rs i own last slot within runs low are read a =
 -- ---- the marks
 
 pub marked_none : (rs : List Record) (marks : List Bool) → marks ≡ replicate (length rs) false
-    → AreMarked rs 0 marks
+    → AreListsMarked rs 0 marks
 marked_none rs marks are = record {
   all = ap length are ∙ length-replicate (length rs) false;
   each = λ a b below. absurd (omega arith);
@@ -164,7 +164,7 @@ marked_none rs marks are = record {
 
 -- a record before which its thread has none that belongs to it
 pub marked_other : (rs : List Record) (i : ℕ) (marks : List Bool) → ((a : ℕ) → AreFollowed rs a i → ⊥)
-    → AreMarked rs i marks → AreMarked rs (i + 1) marks
+    → AreListsMarked rs i marks → AreListsMarked rs (i + 1) marks
 marked_other rs i marks none are = record {
   all = are.all;
   each = λ a b below is. elim (cases_lt b i) [
@@ -176,15 +176,15 @@ marked_other rs i marks none are = record {
   only = are.only;
 }
 
-mark_stays : (marks : List Bool) (i k : ℕ) → IsMarked marks k → IsMarked (set marks i true) k
+mark_stays : (marks : List Bool) (i k : ℕ) → IsListMarked marks k → IsListMarked (set marks i true) k
 mark_stays marks i k stands = elim (cases_eq k i) [
   | inl same ↦
-      let P : ℕ → Type 0 = IsMarked (set marks i true) in
+      let P : ℕ → Type 0 = IsListMarked (set marks i true) in
       subst P (sym same) (get_set_same marks i true (rw (← same) (slice_get_within marks k true stands)))
   | inr apart ↦ get_set_other marks i k true apart ∙ stands
 ]
 
-mark_cases : (marks : List Bool) (i k : ℕ) → IsMarked (set marks i true) k → IsMarked marks k ⊎ (k ≡ i)
+mark_cases : (marks : List Bool) (i k : ℕ) → IsListMarked (set marks i true) k → IsListMarked marks k ⊎ (k ≡ i)
 mark_cases marks i k stands = elim (cases_eq k i) [
   | inl same ↦ inr same
   | inr apart ↦ inl (sym (get_set_other marks i k true apart) ∙ stands)
@@ -192,16 +192,16 @@ mark_cases marks i k stands = elim (cases_eq k i) [
 
 -- a record that lists nothing follows no creation
 pub marked_unlisted : (rs : List Record) (i : ℕ) (marks : List Bool) (listed : Bool)
-    → IsTrue listed ↔ (is_some (at dependences rs i) ≡ true) → listed ≡ false → AreMarked rs i marks
-    → AreMarked rs (i + 1) marks
+    → IsTrue listed ↔ (is_some (at dependences rs i) ≡ true) → listed ≡ false → AreListsMarked rs i marks
+    → AreListsMarked rs (i + 1) marks
 marked_unlisted rs i marks listed tells not_listed are =
     marked_other rs i marks (λ a followed. false≢true (sym not_listed ∙ tells.1 (ap is_some followed.listed)))
     are
 
 -- one that follows the creation of its task
 pub marked_more : (rs : List Record) (i before : ℕ) (marks : List Bool)
-    → ((a : ℕ) → AreFollowed rs a i → before ≡ a) → AreFollowed rs before i → AreMarked rs i marks
-    → AreMarked rs (i + 1) (set (set marks before true) i true)
+    → ((a : ℕ) → AreFollowed rs a i → before ≡ a) → AreFollowed rs before i → AreListsMarked rs i marks
+    → AreListsMarked rs (i + 1) (set (set marks before true) i true)
 marked_more rs i before marks one here are = record {
   all = length-set (set marks before true) i true ∙ length-set marks before true ∙ are.all;
   each = λ a b below is. elim (cases_lt b i) [
@@ -209,7 +209,7 @@ marked_more rs i before marks one here are = record {
     | inr more ↦
         let same : b ≡ i = omega arith in
         let own : before ≡ a = one a (let P : ℕ → Type 0 = AreFollowed rs a in subst P same is) in
-        let P : ℕ → Type 0 = IsMarked (set (set marks before true) i true) in
+        let P : ℕ → Type 0 = IsListMarked (set (set marks before true) i true) in
         (subst P own create, subst P (sym same) list)
   ];
   only = λ k stands. elim (mark_cases (set marks before true) i k stands) [
@@ -221,16 +221,16 @@ marked_more rs i before marks one here are = record {
   ];
 }
   where
-    stays : (k : ℕ) → IsMarked marks k → IsMarked (set (set marks before true) i true) k
+    stays : (k : ℕ) → IsListMarked marks k → IsListMarked (set (set marks before true) i true) k
     stays k stands = mark_stays (set marks before true) i k (mark_stays marks before k stands)
 
     within : i < length marks
     within = let inside = here.next.within in rw are.all inside
 
-    list : IsMarked (set (set marks before true) i true) i
+    list : IsListMarked (set (set marks before true) i true) i
     list = get_set_same (set marks before true) i true (rw (length-set marks before true) within)
 
-    create : IsMarked (set (set marks before true) i true) before
+    create : IsListMarked (set (set marks before true) i true) before
     create =
         mark_stays (set marks before true) i before
         (get_set_same marks before true (let later = here.next.later in omega (arith, later, within)))
@@ -272,8 +272,8 @@ never_both rs i = there (slice_get rs i)
     there None creates lists = false≢true lists
     there (Some r) creates lists = here r.body creates lists
 
-pub misplaced_unmarked : (rs : List Record) (i : ℕ) (marks : List Bool) → AreMarked rs (length rs) marks
-    → HasMisplacedDeps rs i → IsMarked marks i → ⊥
+pub misplaced_unmarked : (rs : List Record) (i : ℕ) (marks : List Bool) → AreListsMarked rs (length rs) marks
+    → HasMisplacedDeps rs i → IsListMarked marks i → ⊥
 misplaced_unmarked rs i marks are (stray lists none) stands = elim (are.only i stands) [
   | inl (a, is) ↦ none a is
   | inr (b, is) ↦ never_both rs i (ap is_some is.is_created) lists
@@ -287,8 +287,8 @@ pub misplaced_says : (rs : List Record) (i : ℕ) → HasMisplacedDeps rs i → 
 misplaced_says rs i (stray lists none) = inr lists
 misplaced_says rs i (missing creates none) = inl creates
 
-pub unmarked_misplaced : (rs : List Record) (i : ℕ) (marks : List Bool) → AreMarked rs (length rs) marks
-    → (IsMarked marks i → ⊥) → HasDependences rs i → HasMisplacedDeps rs i
+pub unmarked_misplaced : (rs : List Record) (i : ℕ) (marks : List Bool) → AreListsMarked rs (length rs) marks
+    → (IsListMarked marks i → ⊥) → HasDependences rs i → HasMisplacedDeps rs i
 unmarked_misplaced rs i marks are none (inl creates) =
     missing creates (λ b is. none (are.each i b is.next.within is).0)
 unmarked_misplaced rs i marks are none (inr lists) =
@@ -335,7 +335,7 @@ none_found rs n before all i has =
 
 -- ---- a mark that was read
 
-pub unmark_here : (marks : List Bool) (i : ℕ) → slice_index_or marks i false ≡ false → IsMarked marks i → ⊥
+pub unmark_here : (marks : List Bool) (i : ℕ) → slice_index_or marks i false ≡ false → IsListMarked marks i → ⊥
 unmark_here marks i read stands =
     let within = slice_get_within marks i true stands in
     let is : slice_index_or marks i false ≡ true =
@@ -343,7 +343,7 @@ unmark_here marks i read stands =
     false≢true (sym read ∙ is)
 
 pub mark_here : (rs : List Record) (marks : List Bool) (i : ℕ) → i < length rs → length marks ≡ length rs
-    → slice_index_or marks i false ≡ true → IsMarked marks i
+    → slice_index_or marks i false ≡ true → IsListMarked marks i
 mark_here rs marks i within all read = slice_get-get_or marks i false (rw all within) ∙ ap Some read
 
 -- ---- no dependences at all

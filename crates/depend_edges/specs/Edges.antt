@@ -17,7 +17,7 @@ pub record ArePredecessors (rs : List Record) (task : ℕ) (predecessors : List 
       → number < greater
 
 -- by index of the task the greatest of the lengths that its predecessors have, 0 where it has none
-pub record AreLatest (rs : List Record) (tasks own latest : List ℕ) : Type 0 where
+pub record ArePredecessorLengths (rs : List Record) (tasks own latest : List ℕ) : Type 0 where
   pub all : length latest ≡ length tasks
   pub each : (index task other predecessor : ℕ) → slice_get tasks index ≡ Some task
       → IsPredecessor rs task predecessor → slice_get tasks other ≡ Some predecessor

@@ -22,28 +22,28 @@ abbrev pub maximum_at : BTreeMap ℕ Maxima → ℕ → DepKind → ℕ
 maximum_at map var kind = option_map_or (λ (maxima : Maxima). maximum maxima kind) (get nat_cmp map var) 0
 
 -- the two kinds conflict with the same
-abbrev pub AreAlike : DepKind → DepKind → Type 0
-AreAlike a b = (kind : DepKind) → conflict a kind ≡ conflict b kind
+abbrev pub ConflictAlike : DepKind → DepKind → Type 0
+ConflictAlike a b = (kind : DepKind) → conflict a kind ≡ conflict b kind
 
 -- a length is entered for the kind
-pub record IsRaised (old new : Maxima) (kind : DepKind) (task_length : ℕ) : Type 0 where
+pub record IsKindRaised (old new : Maxima) (kind : DepKind) (task_length : ℕ) : Type 0 where
   pub rises : (other : DepKind) → maximum old other ≤ maximum new other
   pub entered : task_length ≤ maximum new kind
   pub only : (other : DepKind) → (maximum new other ≡ maximum old other)
-      ⊎ ((maximum new other ≡ task_length) × AreAlike kind other)
+      ⊎ ((maximum new other ≡ task_length) × ConflictAlike kind other)
 
 -- the greatest length of those that conflict with the kind
-pub record IsAwaited (maxima : Maxima) (kind : DepKind) (greatest : ℕ) : Type 0 where
+pub record IsGreatestConflicting (maxima : Maxima) (kind : DepKind) (greatest : ℕ) : Type 0 where
   pub bound : (other : DepKind) → conflict other kind ≡ true → maximum maxima other ≤ greatest
   pub reached : (other : DepKind) × (conflict other kind ≡ true) × (maximum maxima other ≡ greatest)
 
 -- a length is entered for the first n items
-pub record AreEntered (old new : BTreeMap ℕ Maxima) (items : List Dep) (n task_length : ℕ) : Type 0 where
+pub record AreLengthsEntered (old new : BTreeMap ℕ Maxima) (items : List Dep) (n task_length : ℕ) : Type 0 where
   pub rises : (var : ℕ) (kind : DepKind) → maximum_at old var kind ≤ maximum_at new var kind
   pub entered : (k : ℕ) (item : Dep) → k < n → slice_get items k ≡ Some item
       → task_length ≤ maximum_at new item.var item.kind
   pub only : (var : ℕ) (kind : DepKind) → (maximum_at new var kind ≡ maximum_at old var kind)
-      ⊎ ((item : Dep) × Contains items item × (item.var ≡ var) × AreAlike item.kind kind
+      ⊎ ((item : Dep) × Contains items item × (item.var ≡ var) × ConflictAlike item.kind kind
       × (maximum_at new var kind ≡ task_length))
 
 -- the greatest length of those that conflict with one of the first n items, 0 where there is none

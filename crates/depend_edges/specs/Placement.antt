@@ -8,15 +8,15 @@ use Rattle.ompt_events.specs.Places.{at, thread_at}
 use Rattle.ompt_events.specs.Causes.{AreFollowed}
 
 -- of the first n records the one at a is the last of the thread
-pub record IsLast (rs : List Record) (n thread a : ℕ) : Type 0 where
+pub record IsLastOfThread (rs : List Record) (n thread a : ℕ) : Type 0 where
   pub before : a < n
   pub runs : thread_at rs a ≡ Some thread
   pub last : (k : ℕ) → a < k → k < n → thread_at rs k ≢ Some thread
 
 -- by thread the place of the last of its records among the first n
-pub record AreLast (rs : List Record) (n : ℕ) (last : List (Option ℕ)) : Type 0 where
+pub record AreLastOfThreads (rs : List Record) (n : ℕ) (last : List (Option ℕ)) : Type 0 where
   pub all : length last ≡ 256
-  pub each : (thread a : ℕ) → thread < 256 → (slice_get last thread ≡ Some (Some a)) ↔ IsLast rs n thread a
+  pub each : (thread a : ℕ) → thread < 256 → (slice_get last thread ≡ Some (Some a)) ↔ IsLastOfThread rs n thread a
 
 -- the one record creates a task with dependences, and the other lists those of that task
 abbrev pub BelongTogether : List Record → ℕ → ℕ → Type 0
@@ -25,14 +25,14 @@ BelongTogether rs create list =
     × (at dependences rs list ≡ Some (task, items))
 
 -- the record is marked
-abbrev pub IsMarked : List Bool → ℕ → Type 0
-IsMarked marks i = slice_get marks i ≡ Some true
+abbrev pub IsListMarked : List Bool → ℕ → Type 0
+IsListMarked marks i = slice_get marks i ≡ Some true
 
 -- marked are the creations and their lists of which the list is one of the first n records
-pub record AreMarked (rs : List Record) (n : ℕ) (marks : List Bool) : Type 0 where
+pub record AreListsMarked (rs : List Record) (n : ℕ) (marks : List Bool) : Type 0 where
   pub all : length marks ≡ length rs
-  pub each : (a b : ℕ) → b < n → AreFollowed rs a b → IsMarked marks a × IsMarked marks b
-  pub only : (i : ℕ) → IsMarked marks i → ((a : ℕ) × AreFollowed rs a i) ⊎ ((b : ℕ) × AreFollowed rs i b)
+  pub each : (a b : ℕ) → b < n → AreFollowed rs a b → IsListMarked marks a × IsListMarked marks b
+  pub only : (i : ℕ) → IsListMarked marks i → ((a : ℕ) × AreFollowed rs a i) ⊎ ((b : ℕ) × AreFollowed rs i b)
 
 -- the record creates a task with dependences, or lists them
 abbrev pub HasDependences : List Record → ℕ → Type 0

@@ -6,7 +6,7 @@ ghost use Rattle.ompt_events.specs.Causes.{IsFreeOf};
 ghost use Rattle.ompt_events.specs.Faults.{IsFault};
 ghost use Rattle.task_tree.specs.Families.{IsOwnOf};
 ghost use Rattle.task_tree.specs.Paths.{IsTreeOf};
-ghost use Rattle.depend_edges.specs.Edges.{ArePredecessors, AreLatest, IsEdges};
+ghost use Rattle.depend_edges.specs.Edges.{ArePredecessors, ArePredecessorLengths, IsEdges};
 
 use crate::latest::{Lengths, find_latest};
 use crate::lists::find_lists;
@@ -105,7 +105,7 @@ impl<'a> Edges<'a> {
     /// linear in them. Fails only when out of memory.
     pub fn latest(&self, own: &[u64]) -> Result<Vec<u64>, EdgeFault>
         requires { length own.now ≡ length self.now.run.family.tasks }
-        ensures latest { IfOk result (λ found. AreLatest self.now.run.records
+        ensures latest { IfOk result (λ found. ArePredecessorLengths self.now.run.records
             self.now.run.family.tasks own.now found.items) }
         ensures memory_alone { IfErr result (λ fault. fault ≡ Memory) }
     {

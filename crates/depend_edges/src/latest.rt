@@ -5,7 +5,7 @@
 ghost use Rattle.std.specs.Prelude.{ℕ, ◌≡◌, ◌↔◌, ◌<◌, ◌+◌, IsTrue, IfOk, IfErr, OnOk, Contains, length, replicate, slice_get, slice_index};
 ghost use Rattle.ompt_events.specs.declared.fault.Fault.TheVariants.{Memory};
 ghost use Rattle.ompt_events.specs.Dependences.{DependsOn};
-ghost use Rattle.depend_edges.specs.Edges.{AreLatest, IsEdges};
+ghost use Rattle.depend_edges.specs.Edges.{ArePredecessorLengths, IsEdges};
 ghost use Rattle.depend_edges.specs.Lists.{HasList};
 ghost use Rattle.depend_edges.specs.Latest.{IsChildOf, AreMaximaOf, AreLatestUpTo};
 
@@ -26,14 +26,14 @@ pub(crate) struct Lengths<'a> {
 }
 
 impl<'a> Model for Lengths<'a> {
-    ghost use Rattle.depend_edges.specs.Latest.{LengthsView, AreLengths};
+    ghost use Rattle.depend_edges.specs.Latest.{LengthsView, HaveLengths};
 
     ghost Value = { LengthsView };
 
     ghost view = { λ lengths. record { edges = lengths.edges.now; own = lengths.own.now } };
 
     ghost invariant = { λ lengths.
-        AreLengths (record { edges = lengths.edges.now; own = lengths.own.now }) };
+        HaveLengths (record { edges = lengths.edges.now; own = lengths.own.now }) };
 }
 
 impl<'a> Lengths<'a> {
@@ -85,7 +85,7 @@ struct Child {
 
 /// By index of the task the greatest of the lengths of its predecessors, 0 where it has none.
 pub(crate) fn find_latest(alloc: Global, lengths: &Lengths) -> Result<Vec<u64>, Fault>
-    ensures latest { IfOk result (λ found. AreLatest lengths.now.edges.run.records
+    ensures latest { IfOk result (λ found. ArePredecessorLengths lengths.now.edges.run.records
         lengths.now.edges.run.family.tasks lengths.now.own found.items) }
     ensures memory_alone { IfErr result (λ fault. fault ≡ Memory) }
 {

@@ -2,7 +2,7 @@
 ghost use Rattle.std.specs.Prelude.{◌≡◌, OnOk, IfErr, length};
 ghost use Rattle.ompt_events.specs.declared.names.DepKind.{DepKind};
 ghost use Rattle.ompt_events.specs.declared.fault.Fault.TheVariants.{Memory};
-ghost use Rattle.depend_edges.specs.Maxima.{maximum, maximum_at, IsRaised, IsAwaited, AreEntered, IsGreatest};
+ghost use Rattle.depend_edges.specs.Maxima.{maximum, maximum_at, IsKindRaised, IsGreatestConflicting, AreLengthsEntered, IsGreatest};
 
 use ompt_events::{Dep, DepKind, Fault};
 use std::collections::BTreeMap;
@@ -31,7 +31,7 @@ impl Maxima {
 
     /// With one more task of this length.
     fn raise(self, kind: DepKind, task_length: u64) -> Maxima
-        ensures { IsRaised self result kind task_length }
+        ensures { IsKindRaised self result kind task_length }
     {
         let mut raised = self;
         match kind {
@@ -45,7 +45,7 @@ impl Maxima {
 
     /// The greatest length of the tasks that a task with such an item waits for.
     fn awaited(self, kind: DepKind) -> u64
-        ensures { IsAwaited self kind result }
+        ensures { IsGreatestConflicting self kind result }
     {
         match kind {
             DepKind::In => self.writers.max(self.mutexes).max(self.sets),
@@ -77,7 +77,7 @@ pub(crate) fn enter(
     items: &[Dep],
     task_length: u64,
 ) -> Result<(), Fault>
-    ensures entered { OnOk result (AreEntered map.old map.new items.now (length items.now) task_length) }
+    ensures entered { OnOk result (AreLengthsEntered map.old map.new items.now (length items.now) task_length) }
     ensures memory_alone { IfErr result (λ fault. fault ≡ Memory) }
 {
     for at in 0..items.len() {

@@ -5,7 +5,7 @@ ghost use Rattle.ompt_events.specs.Records.{dependences};
 ghost use Rattle.ompt_events.specs.declared.cause.Cause.TheVariants.{DepsPlace};
 ghost use Rattle.ompt_events.specs.Causes.{IsNextInThread, HasMisplacedDeps};
 ghost use Rattle.ompt_events.specs.Faults.{FindsFirst};
-ghost use Rattle.depend_edges.specs.Placement.{AreLast, AreMarked, BelongTogether, HasDependences, HasNoneAt};
+ghost use Rattle.depend_edges.specs.Placement.{AreLastOfThreads, AreListsMarked, BelongTogether, HasDependences, HasNoneAt};
 
 use std::alloc::{AllocError, Global};
 use std::marker::Model;
@@ -37,13 +37,13 @@ pub(crate) struct Marks<'a> {
 impl<'a> Model for Marks<'a> {
     ghost use Rattle.std.specs.Prelude.{length};
     ghost use Rattle.task_tree.specs.Runs.{RunView};
-    ghost use Rattle.depend_edges.specs.Placement.{AreMarked};
+    ghost use Rattle.depend_edges.specs.Placement.{AreListsMarked};
 
     ghost Value = { RunView };
 
     ghost view = { λ marks. marks.run };
 
-    ghost invariant = { λ marks. AreMarked marks.run.records (length marks.run.records) marks.marks.items };
+    ghost invariant = { λ marks. AreListsMarked marks.run.records (length marks.run.records) marks.marks.items };
 }
 
 impl Marks<'_> {
@@ -100,8 +100,8 @@ fn no_marks(alloc: Global, len: usize) -> Result<Vec<bool>, AllocError>
 /// The record becomes the last of its thread.
 fn note_last(last: &mut Vec<Slot>, run: &Run, at: usize)
     requires within { at < length run.now.records }
-    requires last { AreLast run.now.records at last.old.items }
-    ensures { AreLast run.now.records (at + 1) last.new.items }
+    requires last { AreLastOfThreads run.now.records at last.old.items }
+    ensures { AreLastOfThreads run.now.records (at + 1) last.new.items }
 {
     // A run has fewer records than a slot has places.
     let _records = run.len();
@@ -112,9 +112,9 @@ fn note_last(last: &mut Vec<Slot>, run: &Run, at: usize)
 /// Marks the record and the one before it in its thread, where they belong together.
 fn mark(marks: &mut Vec<bool>, run: &Run, last: &[Slot], at: usize)
     requires within { at < length run.now.records }
-    requires last { AreLast run.now.records at last.now }
-    requires marks { AreMarked run.now.records at marks.old.items }
-    ensures { AreMarked run.now.records (at + 1) marks.new.items }
+    requires last { AreLastOfThreads run.now.records at last.now }
+    requires marks { AreListsMarked run.now.records at marks.old.items }
+    ensures { AreListsMarked run.now.records (at + 1) marks.new.items }
 {
     if !lists_items(run, at) {
         return;
@@ -139,7 +139,7 @@ fn lists_items(run: &Run, at: usize) -> bool
 /// The place of the record before it in its thread.
 fn previous(run: &Run, last: &[Slot], at: usize) -> Option<usize>
     requires within { at < length run.now.records }
-    requires last { AreLast run.now.records at last.now }
+    requires last { AreLastOfThreads run.now.records at last.now }
     ensures { (a : ℕ) → (result ≡ Some a) ↔ IsNextInThread run.now.records a at }
 {
     let thread = run.thread(at) as usize;

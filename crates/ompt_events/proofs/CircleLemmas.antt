@@ -286,7 +286,7 @@ longer rs i x y path trail is new = record {
 -- ---- going back from a record
 
 -- a grounded list with the record, which keeps what stood
-pub record Reaches (rs : List Record) (old : List ℕ) (x : ℕ) : Type 0 where
+pub record ReachesRecord (rs : List Record) (old : List ℕ) (x : ℕ) : Type 0 where
   pub order : List ℕ
   pub grounded : IsGrounded rs order
   pub keeps : (a : ℕ) → Contains old a → Contains order a
@@ -300,7 +300,7 @@ record ReachesSteps (rs : List Record) (old : List ℕ) (x m : ℕ) : Type 0 whe
   steps : (a : ℕ) → a < m → IsStep rs a x → Contains order a
 
 steps_before : (rs : List Record) (i x : ℕ)
-    → ((y : ℕ) → IsStep rs y x → (old : List ℕ) → IsGrounded rs old → Circle rs i ⊎ Reaches rs old y)
+    → ((y : ℕ) → IsStep rs y x → (old : List ℕ) → IsGrounded rs old → Circle rs i ⊎ ReachesRecord rs old y)
     → (old : List ℕ) → IsGrounded rs old → (m : ℕ) → Circle rs i ⊎ ReachesSteps rs old x m
 steps_before rs i x visit old grounded zero =
     inr (record {
@@ -337,7 +337,7 @@ steps_before rs i x visit old grounded (suc m) = elim (steps_before rs i x visit
 ]
 
 -- the record itself, where all from which a step leads to it stand
-reach : (rs : List Record) (old : List ℕ) (x : ℕ) → ReachesSteps rs old x (length rs) → Reaches rs old x
+reach : (rs : List Record) (old : List ℕ) (x : ℕ) → ReachesSteps rs old x (length rs) → ReachesRecord rs old x
 reach rs old x all = record {
   order = all.order ++ x ∷ [];
   grounded =
@@ -351,7 +351,7 @@ reach rs old x all = record {
 
 -- either the way back from i passes a place twice, or x and all before it stand in a grounded list
 go_back : (rs : List Record) (i fuel x : ℕ) (path : List ℕ) → IsTrail rs i x path
-    → length rs ≤ length path + fuel → (old : List ℕ) → IsGrounded rs old → Circle rs i ⊎ Reaches rs old x
+    → length rs ≤ length path + fuel → (old : List ℕ) → IsGrounded rs old → Circle rs i ⊎ ReachesRecord rs old x
 go_back rs i zero x path trail enough old grounded =
     let few : length (x ∷ path) ≤ length rs =
     length-le_from_distinct_below (x ∷ path) (length rs) trail.distinct trail.below in
@@ -367,8 +367,8 @@ go_back rs i (suc fuel) x path trail enough old grounded =
   where
     visit :
         ((y : ℕ) → IsTrail rs i y (x ∷ path) → (order : List ℕ) → IsGrounded rs order
-        → Circle rs i ⊎ Reaches rs order y)
-        → (y : ℕ) → IsStep rs y x → (order : List ℕ) → IsGrounded rs order → Circle rs i ⊎ Reaches rs order y
+        → Circle rs i ⊎ ReachesRecord rs order y)
+        → (y : ℕ) → IsStep rs y x → (order : List ℕ) → IsGrounded rs order → Circle rs i ⊎ ReachesRecord rs order y
     visit further y leads order is_grounded = elim (cases_Bool (list_any (eqb y) (x ∷ path))) [
       | inl passed ↦ inl (closes rs i x y path trail leads passed)
       | inr new ↦ further y (longer rs i x y path trail leads new) order is_grounded

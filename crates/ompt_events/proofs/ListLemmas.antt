@@ -4,7 +4,7 @@ use Rattle.std.proofs.Common.{inr, ◌⊎◌, subst, suc, Bool, false, cond, ref
 use Rattle.std.proofs.lemmas.Bool.{cases_lt, false≢true}
 use Rattle.std.proofs.lemmas.Option.{same_Some, slice_get_within, slice_get-get_or, get_or_from_slice_get}
 use Rattle.std.proofs.lemmas.List.{get_or_append_left, get_or_push, length_push}
-use Rattle.std.specs.Prelude.{slice_get, Contains, All, filter, ◌↔◌, take}
+use Rattle.std.specs.Prelude.{slice_get, Contains, All, filter, ◌↔◌, take, ◌||◌}
 use Rattle.std.specs.List.{AllByRecursion, list_any, range_with_len}
 use Rattle.std.proofs.lemmas.List.FromFn.{length-range_with_len, get_or-range_with_len}
 
@@ -84,8 +84,8 @@ range_get n i below =
 pub contains_first : (x : ℕ) (xs : List ℕ) → Contains (x ∷ xs) x
 contains_first x xs = (0, omega arith, refl)
 
-pub turned : {A B : Type 0} → A ↔ B → B ↔ A
-turned (there, back) = (back, there)
+pub iff_flipped : {A B : Type 0} → A ↔ B → B ↔ A
+iff_flipped (there, back) = (back, there)
 
 pub take_past : {X : Type 0} (xs : List X) (n : ℕ) → length xs ≤ n → take n xs ≡ xs
 take_past [] zero past = refl

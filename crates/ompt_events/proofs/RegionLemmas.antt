@@ -88,8 +88,8 @@ pub record IsOwnBegin (rs : List Record) (task n begin : ℕ) : Type 0 where
   pub kind : SyncKind
   pub begins : at region rs begin ≡ Some (task, kind, Begin)
 
-later : (rs : List Record) (task n begin : ℕ) → IsOwnBegin rs task n begin → IsOwnBegin rs task (n + 1) begin
-later rs task n begin is = record {
+own_begin_later : (rs : List Record) (task n begin : ℕ) → IsOwnBegin rs task n begin → IsOwnBegin rs task (n + 1) begin
+own_begin_later rs task n begin is = record {
   before = let h = is.before in omega arith;
   kind = is.kind;
   begins = is.begins;
@@ -102,7 +102,7 @@ own_begins_more rs task n all = more (at region rs n) refl
   where
     so_far : All (IsOwnBegin rs task (n + 1)) (open_regions rs task n)
     so_far =
-        All-weaker (IsOwnBegin rs task n) (IsOwnBegin rs task (n + 1)) (later rs task n)
+        All-weaker (IsOwnBegin rs task n) (IsOwnBegin rs task (n + 1)) (own_begin_later rs task n)
         (open_regions rs task n) all
 
     after : (kind : SyncKind) (endpoint : Endpoint) → at region rs n ≡ Some (task, kind, endpoint)

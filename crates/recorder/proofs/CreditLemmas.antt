@@ -20,7 +20,7 @@ use Rattle.credit.specs.declared.share.Half.{Half}
 use Rattle.credit.specs.Shares.{finish_share, give_half, keep_half}
 use Rattle.credit.specs.Credits as credits
 use Rattle.credit.specs.Credits.{Credit, Holder, entered_credit, detached_halves}
-use Rattle.recorder.specs.Tasks.{TaskView, nature, state_moved, stopped, in_state, is_detached, share_of}
+use Rattle.recorder.specs.Tasks.{TaskView, nature, state_moved, after_stop, in_state, is_detached, share_of}
 use Rattle.recorder.specs.Tasks.{credit_of, entry_of_part, entered_credit_of, MovesCredit}
 use Rattle.recorder.specs.Recorders.{RecorderView}
 use Rattle.recorder.specs.Schedules.{ScheduleView, may_schedule}
@@ -160,7 +160,7 @@ first false b is = is
 pub moves_credit : (r : RecorderView) (s : ScheduleView) (part : Part) → may_schedule r s ≡ true
     → status_part s.status ≡ Some part
     → MovesCredit part (credit_of s.prior) (entered_credit_of (entry_of_part r.thread part s.prior))
-    (credit_of (stopped s.prior s.status))
+    (credit_of (after_stop s.prior s.status))
 moves_credit r s part allowed is_part =
     let found = reached s.prior s.status (first _ _ (first _ _ (first _ _ allowed))) in
     subst (λ t. MovesCredit part (credit_of s.prior)

@@ -9,7 +9,7 @@ use Rattle.ompt_events.specs.Limits.{max_records}
 use Rattle.ompt_events.specs.Traces.{IsSoundIn, IsInRange}
 use Rattle.ompt_events.proofs.ListLemmas.{pushed_cases}
 use Rattle.recorder.specs.declared.standing.Standing.{Standing}
-use Rattle.recorder.specs.Standing.{at_start, next_standing, allows}
+use Rattle.recorder.specs.Standing.{standing_at_start, next_standing, allows}
 use Rattle.recorder.specs.Logs.{LogView, standing_of, known_from, known_of, Follows, AreOrderly, AreRecorded}
 
 take-all : (own : List Record) → take (length own) own ≡ own
@@ -33,7 +33,7 @@ orderly-pushed thread own r orderly follows i x is = elim (pushed_cases own r x 
 
 pub standing-pushed : (own : List Record) (r : Record)
     → standing_of (own ++ r ∷ []) ≡ next_standing (standing_of own) r.body
-standing-pushed own r = fold_push (λ s (q : Record). next_standing s q.body) at_start own r
+standing-pushed own r = fold_push (λ s (q : Record). next_standing s q.body) standing_at_start own r
 
 pub known-pushed : (own : List Record) (r : Record) → known_of (own ++ r ∷ []) ≡ known_from r.seen r.body
 known-pushed own r = fold_push (λ k (q : Record). known_from q.seen q.body) 0 own r

@@ -21,12 +21,12 @@ use Rattle.atomic_table.specs.Seated.{TableId}
 use Rattle.credit_ledger.specs.Entries as ledger
 use Rattle.recorder.specs.declared.fault.CallFault.{CallFault}
 use Rattle.recorder.specs.Calls.{ledger_refusal}
-use Rattle.recorder.specs.Recorders.{RecorderView, entries_of, AreEntered, IsBacked, entry_by, IsRefused}
+use Rattle.recorder.specs.Recorders.{RecorderView, entries_of, HaveEntries, IsBacked, entry_by, IsFinishRefused}
 use Rattle.recorder.specs.Recorders.{by_ledger}
 
-entered-pushed : (own : List Record) (r : Record) (first later : List Entry) → AreEntered own first
+entered-pushed : (own : List Record) (r : Record) (first later : List Entry) → HaveEntries own first
     → GoOn first later → ((e : Entry) → entry_of r ≡ Some e → slice_get later r.seen ≡ Some e)
-    → AreEntered (own ++ r ∷ []) later
+    → HaveEntries (own ++ r ∷ []) later
 entered-pushed own r first later entered on here i x e is makes = elim (pushed_cases own r x i is) [
   | inl old ↦ on.kept x.seen e (entered i x e old makes)
   | inr last ↦ subst (λ (q : Record). slice_get later q.seen ≡ Some e) last.1
@@ -159,8 +159,8 @@ pub refused-late : (old : RecorderView) (log kept : LogView) (first id : TableId
     → record { thread = log.thread; records = log.records; known = log.known; ledger = first; seat = v }
     ≡ old
     → IsSameLog log kept → id ≡ first
-    → Extends v Look seen w → fault ≡ ledger_refusal (ledger.fault_of (entries_of w) entry)
-    → IsRefused old None (Some entry) (record {
+    → Extends v Look seen w → fault ≡ ledger_refusal (ledger.entry_fault (entries_of w) entry)
+    → IsFinishRefused old None (Some entry) (record {
       thread = kept.thread;
       records = kept.records;
       known = kept.known;
@@ -168,7 +168,7 @@ pub refused-late : (old : RecorderView) (log kept : LogView) (first id : TableId
       seat = w;
     }) fault
 refused-late old log kept first id v w entry seen fault is same same_id looked fault_is =
-    subst (λ (o : RecorderView). IsRefused o None (Some entry)
+    subst (λ (o : RecorderView). IsFinishRefused o None (Some entry)
     (record {
       thread = kept.thread;
       records = kept.records;

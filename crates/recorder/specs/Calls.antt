@@ -24,8 +24,8 @@ refusal may deep full =
     else None
 
 -- the fault of a call that is refused: where there is no such reason, it is memory
-abbrev pub fault_of : Option CallFault → CallFault
-fault_of found = option_map_or (λ fault. fault) found Memory
+abbrev pub call_fault : Option CallFault → CallFault
+call_fault found = option_map_or (λ fault. fault) found Memory
 
 -- the flags are those of a cancellation that discards no task
 abbrev pub may_cancel : ℕ → Bool

@@ -7,7 +7,7 @@ use Rattle.ompt_events.specs.Limits.{max_records}
 use Rattle.ompt_events.specs.Records.{finish}
 use Rattle.ompt_events.specs.Traces.{IsSoundIn, IsInRange}
 use Rattle.recorder.specs.declared.standing.Standing.{Standing}
-use Rattle.recorder.specs.Standing.{at_start, next_standing, allows}
+use Rattle.recorder.specs.Standing.{standing_at_start, next_standing, allows}
 
 -- what clauses see of a thread's records: the thread's number, the records, the ledger length that the
 -- thread knew last, and for how many more records there is room
@@ -19,7 +19,7 @@ pub record LogView : Type 0 where
 
 -- where the thread stands after its records
 abbrev pub standing_of : List Record → Standing
-standing_of own = fold (λ s (r : Record). next_standing s r.body) at_start own
+standing_of own = fold (λ s (r : Record). next_standing s r.body) standing_at_start own
 
 -- the ledger length that is known after a record that names `seen`: one more where it makes the entry with
 -- that index

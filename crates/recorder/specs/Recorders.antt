@@ -16,7 +16,7 @@ use Rattle.trace_ledger.specs.Entries.{claimed_entry, entry_of}
 use Rattle.recorder.specs.declared.fault.CallFault.{CallFault}
 use Rattle.recorder.specs.Standing.{allows}
 use Rattle.recorder.specs.Logs.{standing_of, known_from}
-use Rattle.recorder.specs.Calls.{fault_of, refusal, ledger_refusal}
+use Rattle.recorder.specs.Calls.{call_fault, refusal, ledger_refusal}
 
 -- what clauses see of a recorder: the thread's number, its records, the ledger length that it knew last,
 -- which ledger it is of, and what its seat has seen of that
@@ -37,15 +37,15 @@ abbrev pub entries_of : View → List Entry
 entries_of seat = entries_after seat.seen
 
 -- each finishing record made the entry that stands where it says
-abbrev pub AreEntered : List Record → List Entry → Type 0
-AreEntered own entries =
+abbrev pub HaveEntries : List Record → List Entry → Type 0
+HaveEntries own entries =
     (i : ℕ) (r : Record) (entry : Entry) → slice_get own i ≡ Some r → entry_of r ≡ Some entry
     → slice_get entries r.seen ≡ Some entry
 
 -- the thread's seat has seen what its records say of the ledger
 pub record IsBacked (own : List Record) (known : ℕ) (seat : View) : Type 0 where
   pub seen : known ≤ length (entries_of seat)
-  pub entered : AreEntered own (entries_of seat)
+  pub entered : HaveEntries own (entries_of seat)
 
 -- ---- one more record
 
@@ -60,8 +60,8 @@ recorded r seen seat body = record {
 }
 
 -- a record of a call that asks no ledger names what the recorder knew last
-abbrev pub with_record : RecorderView → Body → RecorderView
-with_record r body = recorded r r.known r.seat body
+abbrev pub recorded_alone : RecorderView → Body → RecorderView
+recorded_alone r body = recorded r r.known r.seat body
 
 -- the ledger was looked at, and the record names its length
 abbrev pub IsObserved : RecorderView → ℕ → Body → RecorderView → Type 0
@@ -82,20 +82,20 @@ pub record IsRefusedByLedger (old : RecorderView) (entry : Entry) (new : Recorde
   pub seen : ℕ
   pub looked : Extends old.seat Look seen new.seat
   pub unchanged : new ≡ record old { seat = new.seat }
-  pub fault_is : fault ≡ ledger_refusal (ledger.fault_of (entries_of new.seat) entry)
+  pub fault_is : fault ≡ ledger_refusal (ledger.entry_fault (entries_of new.seat) entry)
 
 -- a call that finishes a task is refused: before the ledger is asked, so that nothing is changed, or by the
 -- ledger
-pub data IsRefused (old : RecorderView) (found : Option CallFault) (entry : Option Entry)
+pub data IsFinishRefused (old : RecorderView) (found : Option CallFault) (entry : Option Entry)
     (new : RecorderView) (fault : CallFault) : Type 0 where
-  before : new ≡ old → fault ≡ fault_of found → IsRefused old found entry new fault
+  before : new ≡ old → fault ≡ call_fault found → IsFinishRefused old found entry new fault
   by_ledger : (e : Entry) → found ≡ None → entry ≡ Some e → IsRefusedByLedger old e new fault
-      → IsRefused old found entry new fault
+      → IsFinishRefused old found entry new fault
 
 -- ---- when a call is refused
 
-abbrev pub is_full : RecorderView → Bool
-is_full r = nat_le max_records (length r.records)
+abbrev pub is_log_full : RecorderView → Bool
+is_log_full r = nat_le max_records (length r.records)
 
 -- the thread's records show no reason against a record with this body
 abbrev pub allowed : RecorderView → Body → Bool
@@ -104,4 +104,4 @@ allowed r body = allows (standing_of r.records) body
 -- why a call that would add a record with this body is refused before it needs memory; what its tasks allow,
 -- how deep they are and whether they have room for more is given
 unfoldable pub refusal_at : RecorderView → Bool → Bool → Bool → Body → Option CallFault
-refusal_at r may deep full body = refusal (may && allowed r body) deep (full || is_full r)
+refusal_at r may deep full body = refusal (may && allowed r body) deep (full || is_log_full r)

@@ -24,8 +24,8 @@ use Rattle.recorder.specs.declared.fault.CallFault.{CallFault}
 use Rattle.recorder.specs.declared.fault.CallFault.TheVariants.{WrongState}
 use Rattle.recorder.specs.Standing.{innermost}
 use Rattle.recorder.specs.Logs.{standing_of}
-use Rattle.recorder.specs.Tasks.{TaskView, parent_of, place_of, is_root_on, state_moved, turn_of, next_turn}
-use Rattle.recorder.specs.Tasks.{stopped, entry_of_part}
+use Rattle.recorder.specs.Tasks.{TaskView, parent_of, place_of, is_root_on, state_moved, current_turn, turn_after}
+use Rattle.recorder.specs.Tasks.{after_stop, entry_of_part}
 use Rattle.recorder.specs.Recorders.{RecorderView, IsObserved, IsConcluded, refusal_at}
 
 -- a task stops or is fulfilled with a status, and another one runs next, if there is one
@@ -37,8 +37,8 @@ pub record ScheduleView : Type 0 where
 -- the turn of the prior task, which ends, and that of the next one, which begins
 abbrev pub turns_of : TaskView → TaskView → Turns
 turns_of prior next = record {
-  prior = turn_of prior;
-  next = option_map_or (λ turn. turn) (next_turn next) 0;
+  prior = current_turn prior;
+  next = option_map_or (λ turn. turn) (turn_after next) 0;
 }
 
 -- its record, with what is claimed of a task that it finishes
@@ -76,7 +76,7 @@ may_schedule r s =
 
 -- the next task has no further turn
 abbrev pub is_last_turn : ScheduleView → Bool
-is_last_turn s = option_map_or (λ n. is_none (next_turn n)) s.next false
+is_last_turn s = option_map_or (λ n. is_none (turn_after n)) s.next false
 
 -- why it is refused before it needs memory
 abbrev pub schedule_refusal : RecorderView → ScheduleView → Option CallFault
@@ -108,7 +108,7 @@ comes_back _ = false
 
 -- what comes back of the prior task
 abbrev pub left_of : TaskView → Status → Option TaskView
-left_of prior status = if comes_back status then Some (stopped prior status) else None
+left_of prior status = if comes_back status then Some (after_stop prior status) else None
 
 -- the schedule of these tasks
 abbrev pub schedule_of : TaskView → Status → Option TaskView → ScheduleView

@@ -17,8 +17,8 @@ use Rattle.ompt_events.specs.States.{is_task}
 use Rattle.recorder.specs.declared.standing.Standing.{Standing}
 
 -- a thread that has recorded nothing
-abbrev pub at_start : Standing
-at_start = record { initial = None; member = None; current = None; awaited = None }
+abbrev pub standing_at_start : Standing
+standing_at_start = record { initial = None; member = None; current = None; awaited = None }
 
 -- the innermost open root: the member of a team stands above the initial task
 abbrev pub innermost : Standing → Option ℕ

@@ -80,12 +80,12 @@ state_moved t move = state_after (nature t) (Some t.state) (0, move)
 -- ---- its turns
 
 -- the turn in which the task is; 0 where it has begun none
-abbrev pub turn_of : TaskView → ℕ
-turn_of t = option_map_or (λ turn. turn) t.turn 0
+abbrev pub current_turn : TaskView → ℕ
+current_turn t = option_map_or (λ turn. turn) t.turn 0
 
 -- the turn that it begins next, where it is a number of 32 bits
-abbrev pub next_turn : TaskView → Option ℕ
-next_turn t =
+abbrev pub turn_after : TaskView → Option ℕ
+turn_after t =
     option_map_or (λ turn. if nat_lt (turn + 1) (2 ^ 32) then Some (turn + 1) else None) t.turn (Some 0)
 
 -- ---- its regions
@@ -155,8 +155,8 @@ abbrev pub in_state : TaskView → State → TaskView
 in_state t state = record t { state = state }
 
 -- the task after it stopped or was fulfilled with a status, if it may
-abbrev pub stopped : TaskView → Status → TaskView
-stopped t status = option_map_or (in_state t) (state_moved t (states.Stopped status)) t
+abbrev pub after_stop : TaskView → Status → TaskView
+after_stop t status = option_map_or (in_state t) (state_moved t (states.Stopped status)) t
 
 -- the task, running in this state and turn
 abbrev pub running_in : TaskView → State → ℕ → TaskView
@@ -168,8 +168,8 @@ started_in t None turn = t
 started_in t (Some state) None = t
 
 -- the task after it ran next, if it may, which begins its next turn
-abbrev pub started : TaskView → TaskView
-started t = started_in t (state_moved t states.Started) (next_turn t)
+abbrev pub after_start : TaskView → TaskView
+after_start t = started_in t (state_moved t states.Started) (turn_after t)
 
 -- the record with which a root ends: its flags and its place in the team are those with which it began
 abbrev pub end_of_root : TaskView → ℕ → Body

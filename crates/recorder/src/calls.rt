@@ -6,10 +6,10 @@ ghost use Rattle.ompt_events.specs.Flags.{task_flags, are_named};
 ghost use Rattle.ompt_events.specs.Records.{dependences, finish};
 ghost use Rattle.ompt_events.specs.Traces.{IsSoundIn};
 ghost use Rattle.credit.specs.Credits as credits;
-ghost use Rattle.credit.specs.Credits.{shared_halves, whole_of};
+ghost use Rattle.credit.specs.Credits.{shared_halves, whole_credit};
 ghost use Rattle.recorder.specs.Tasks.{is_initial_task, is_root_on, end_of_root, is_deep, is_crowded, root_of, child_of, with_child, credit_of, holder_in};
-ghost use Rattle.recorder.specs.Calls.{fault_of, may_cancel};
-ghost use Rattle.recorder.specs.Recorders.{with_record, refusal_at};
+ghost use Rattle.recorder.specs.Calls.{call_fault, may_cancel};
+ghost use Rattle.recorder.specs.Recorders.{recorded_alone, refusal_at};
 
 use crate::fault::CallFault;
 use crate::recording::Recorder;
@@ -20,22 +20,22 @@ use ompt_events::{Body, CancelFlags, Dep, Deps, Endpoint, MAX_DEPENDENCES, TaskF
 impl Recorder {
     /// A thread begins (OpenMP 5.2, 19.5.2.1).
     pub fn ompt_callback_thread_begin(&mut self, kind: ThreadKind) -> Result<(), CallFault>
-        ensures made { OnOk result (self.new ≡ with_record self.old (ThreadBegin kind)) }
+        ensures made { OnOk result (self.new ≡ recorded_alone self.old (ThreadBegin kind)) }
         ensures unchanged { OnErr result (self.new ≡ self.old) }
         ensures refused { IsSome (refusal_at self.old true false false (ThreadBegin kind)) → IsErr result }
         ensures fault { IfErr result (λ fault. fault
-            ≡ fault_of (refusal_at self.old true false false (ThreadBegin kind))) }
+            ≡ call_fault (refusal_at self.old true false false (ThreadBegin kind))) }
     {
         self.record(true, Body::ThreadBegin { kind })
     }
 
     /// A thread ends (19.5.2.2).
     pub fn ompt_callback_thread_end(&mut self) -> Result<(), CallFault>
-        ensures made { OnOk result (self.new ≡ with_record self.old ThreadEnd) }
+        ensures made { OnOk result (self.new ≡ recorded_alone self.old ThreadEnd) }
         ensures unchanged { OnErr result (self.new ≡ self.old) }
         ensures refused { IsSome (refusal_at self.old true false false ThreadEnd) → IsErr result }
         ensures fault { IfErr result (λ fault. fault
-            ≡ fault_of (refusal_at self.old true false false ThreadEnd)) }
+            ≡ call_fault (refusal_at self.old true false false ThreadEnd)) }
     {
         self.record(true, Body::ThreadEnd)
     }
@@ -48,13 +48,13 @@ impl Recorder {
         parallel: u64,
         requested: u32,
     ) -> Result<(), CallFault>
-        ensures made { OnOk result (self.new ≡ with_record self.old
+        ensures made { OnOk result (self.new ≡ recorded_alone self.old
             (ParallelBegin requested task.now.id parallel)) }
         ensures unchanged { OnErr result (self.new ≡ self.old) }
         ensures refused { IsSome (refusal_at self.old (is_initial_task task.now) false false
             (ParallelBegin requested task.now.id parallel)) → IsErr result }
         ensures fault { IfErr result (λ fault. fault
-            ≡ fault_of (refusal_at self.old (is_initial_task task.now) false false
+            ≡ call_fault (refusal_at self.old (is_initial_task task.now) false false
             (ParallelBegin requested task.now.id parallel))) }
     {
         let body = Body::ParallelBegin {
@@ -71,11 +71,11 @@ impl Recorder {
         task: &TaskData,
         parallel: u64,
     ) -> Result<(), CallFault>
-        ensures made { OnOk result (self.new ≡ with_record self.old (ParallelEnd task.now.id parallel)) }
+        ensures made { OnOk result (self.new ≡ recorded_alone self.old (ParallelEnd task.now.id parallel)) }
         ensures unchanged { OnErr result (self.new ≡ self.old) }
         ensures refused { IsSome (refusal_at self.old true false false (ParallelEnd task.now.id parallel))
             → IsErr result }
-        ensures fault { IfErr result (λ fault. fault ≡ fault_of (refusal_at self.old true false false
+        ensures fault { IfErr result (λ fault. fault ≡ call_fault (refusal_at self.old true false false
             (ParallelEnd task.now.id parallel))) }
     {
         let body = Body::ParallelEnd {
@@ -96,16 +96,16 @@ impl Recorder {
         index: u32,
         flags: TaskFlags,
     ) -> Result<TaskData, CallFault>
-        ensures made { OnOk result (self.new ≡ with_record self.old
+        ensures made { OnOk result (self.new ≡ recorded_alone self.old
             (ImplicitTask Begin actual index flags parallel id)) }
         ensures task { IfOk result (λ task. task
             ≡ root_of id (record { home = self.old.thread; actual = actual; index = index }) flags) }
-        ensures credit { IfOk result (λ task. credit_of task ≡ whole_of id) }
+        ensures credit { IfOk result (λ task. credit_of task ≡ whole_credit id) }
         ensures unchanged { OnErr result (self.new ≡ self.old) }
         ensures refused { IsSome (refusal_at self.old (are_named task_flags flags.0) false false
             (ImplicitTask Begin actual index flags parallel id)) → IsErr result }
         ensures fault { IfErr result (λ fault. fault
-            ≡ fault_of (refusal_at self.old (are_named task_flags flags.0) false false
+            ≡ call_fault (refusal_at self.old (are_named task_flags flags.0) false false
             (ImplicitTask Begin actual index flags parallel id))) }
     {
         let body = Body::ImplicitTask {
@@ -132,12 +132,12 @@ impl Recorder {
         task: TaskData,
         parallel: u64,
     ) -> Result<(), (TaskData, CallFault)>
-        ensures made { OnOk result (self.new ≡ with_record self.old (end_of_root task parallel)) }
+        ensures made { OnOk result (self.new ≡ recorded_alone self.old (end_of_root task parallel)) }
         ensures unchanged { OnErr result (self.new ≡ self.old) }
         ensures returned { IfErr result (λ refused. refused.0 ≡ task) }
         ensures refused { IsSome (refusal_at self.old (is_root_on self.old.thread task) false false
             (end_of_root task parallel)) → IsErr result }
-        ensures fault { IfErr result (λ refused. refused.1 ≡ fault_of (refusal_at self.old
+        ensures fault { IfErr result (λ refused. refused.1 ≡ call_fault (refusal_at self.old
             (is_root_on self.old.thread task) false false (end_of_root task parallel))) }
     {
         let may = task.is_root_on(self.thread());
@@ -156,7 +156,7 @@ impl Recorder {
         flags: TaskFlags,
         deps: bool,
     ) -> Result<TaskData, CallFault>
-        ensures made { OnOk result (self.new ≡ with_record self.old (TaskCreate deps flags task.old.id id)) }
+        ensures made { OnOk result (self.new ≡ recorded_alone self.old (TaskCreate deps flags task.old.id id)) }
         ensures child { IfOk result (λ child. child ≡ child_of task.old id flags) }
         ensures task { OnOk result (task.new ≡ with_child task.old) }
         ensures credit { IfOk result (λ child. holder_in task.old.state ≡ credits.Running
@@ -166,7 +166,7 @@ impl Recorder {
         ensures refused { IsSome (refusal_at self.old (are_named task_flags flags.0) (is_deep task.old)
             (is_crowded task.old) (TaskCreate deps flags task.old.id id)) → IsErr result }
         ensures fault { IfErr result (λ fault. fault
-            ≡ fault_of (refusal_at self.old (are_named task_flags flags.0)
+            ≡ call_fault (refusal_at self.old (are_named task_flags flags.0)
             (is_deep task.old) (is_crowded task.old) (TaskCreate deps flags task.old.id id))) }
     {
         let body = Body::TaskCreate {
@@ -193,12 +193,12 @@ impl Recorder {
         task: &TaskData,
         list: Vec<Dep>,
     ) -> Result<(), (Vec<Dep>, CallFault)>
-        ensures made { OnOk result (self.new ≡ with_record self.old (Dependences task.now.id list.items)) }
+        ensures made { OnOk result (self.new ≡ recorded_alone self.old (Dependences task.now.id list.items)) }
         ensures unchanged { OnErr result (self.new ≡ self.old) }
         ensures returned { IfErr result (λ refused. refused.0.items ≡ list.items) }
         ensures refused { IsSome (refusal_at self.old true false (nat_lt 64 (length list.items))
             (Dependences task.now.id list.items)) → IsErr result }
-        ensures fault { IfErr result (λ refused. refused.1 ≡ fault_of (refusal_at self.old true false
+        ensures fault { IfErr result (λ refused. refused.1 ≡ call_fault (refusal_at self.old true false
             (nat_lt 64 (length list.items)) (Dependences task.now.id list.items))) }
     {
         let is_long = list.len() > MAX_DEPENDENCES;
@@ -222,13 +222,13 @@ impl Recorder {
         task: &TaskData,
         flags: CancelFlags,
     ) -> Result<(), CallFault>
-        ensures made { OnOk result (self.new ≡ with_record self.old (Cancel flags task.now.id None)) }
+        ensures made { OnOk result (self.new ≡ recorded_alone self.old (Cancel flags task.now.id None)) }
         ensures unchanged { OnErr result (self.new ≡ self.old) }
         ensures refused { IsSome (refusal_at self.old (may_cancel flags.0) false false
             (Cancel flags task.now.id None))
             → IsErr result }
         ensures fault { IfErr result (λ fault. fault
-            ≡ fault_of (refusal_at self.old (may_cancel flags.0) false false
+            ≡ call_fault (refusal_at self.old (may_cancel flags.0) false false
             (Cancel flags task.now.id None))) }
     {
         let body = Body::Cancel {
@@ -246,10 +246,10 @@ impl Recorder {
         requires sound { may ≡ true → IsSoundIn 2 body }
         requires unfinished { may ≡ true → finish body ≡ None }
         ensures may { OnOk result (may ≡ true) }
-        ensures made { OnOk result (self.new ≡ with_record self.old body) }
+        ensures made { OnOk result (self.new ≡ recorded_alone self.old body) }
         ensures unchanged { OnErr result (self.new ≡ self.old) }
         ensures refused { IsSome (refusal_at self.old may false false body) → IsErr result }
-        ensures fault { IfErr result (λ fault. fault ≡ fault_of (refusal_at self.old may false false body)) }
+        ensures fault { IfErr result (λ fault. fault ≡ call_fault (refusal_at self.old may false false body)) }
     {
         self.test(may, false, false, &body)?;
         match self.append(body) {

@@ -4,14 +4,14 @@ ghost use Rattle.ompt_events.specs.Limits.{max_records};
 ghost use Rattle.ompt_events.specs.Records.{finish};
 ghost use Rattle.ompt_events.specs.Traces.{IsSoundIn};
 ghost use Rattle.credit_ledger.specs.declared.view.Call.TheVariants.{Enter, Look};
-ghost use Rattle.credit_ledger.specs.Entries.{fault_of};
+ghost use Rattle.credit_ledger.specs.Entries.{entry_fault};
 ghost use Rattle.credit_ledger.specs.Seats.{Extends, IsCopy, told_of, with_given};
 ghost use Rattle.credit_ledger.specs.Places.{ledger_id, seat_id, view_of};
 ghost use Rattle.recorder.specs.declared.fault.CallFault.TheVariants.{Memory};
 ghost use Rattle.recorder.specs.Calls.{ledger_refusal};
 ghost use Rattle.recorder.specs.Standing.{innermost};
 ghost use Rattle.recorder.specs.Logs.{AreRecorded, standing_of};
-ghost use Rattle.recorder.specs.Recorders.{IsBacked, entries_of, with_record, IsObserved, IsConcluded, IsRefused, entry_by, allowed, refusal_at};
+ghost use Rattle.recorder.specs.Recorders.{IsBacked, entries_of, recorded_alone, IsObserved, IsConcluded, IsFinishRefused, entry_by, allowed, refusal_at};
 
 use crate::fault::{CallFault, of_ledger};
 use crate::log::Log;
@@ -205,7 +205,7 @@ impl Recorder {
         requires allowed { allowed self.old body ≡ true }
         requires sound { IsSoundIn 2 body }
         requires unfinished { finish body ≡ None }
-        ensures made { OnOk result (self.new ≡ with_record self.old body) }
+        ensures made { OnOk result (self.new ≡ recorded_alone self.old body) }
         ensures unchanged { OnErr result (self.new ≡ self.old) }
         ensures returned { IfErr result (λ back. back ≡ body) }
     {
@@ -256,7 +256,7 @@ impl Recorder {
         requires short { length entry.path ≤ 1024 }
         ensures ledger { self.new.ledger ≡ self.old.ledger }
         ensures made { IfOk result (λ index. IsConcluded self.old entry index body self.new) }
-        ensures fault { IfErr result (IsRefused self.old None (Some entry) self.new) }
+        ensures fault { IfErr result (IsFinishRefused self.old None (Some entry) self.new) }
     {
         self.log.reserve()?;
         let index = enter(ledger, wait, &mut self.seat, entry)?;
@@ -280,7 +280,7 @@ fn enter<R: Wait>(
     ensures looked { IfErr result (λ fault.
         (seen : ℕ) × Extends (view_of seat.old) Look seen (view_of seat.new)) }
     ensures fault { IfErr result (λ fault.
-        fault ≡ ledger_refusal (fault_of (entries_of (view_of seat.new)) entry)) }
+        fault ≡ ledger_refusal (entry_fault (entries_of (view_of seat.new)) entry)) }
 {
     match ledger.enter(wait, seat, entry) {
         Ok(receipt) => Ok(receipt.index),

@@ -4,8 +4,8 @@ ghost use Rattle.ompt_events.specs.declared.records.Body.TheVariants.{SyncRegion
 ghost use Rattle.ompt_events.specs.declared.names.Endpoint.TheVariants.{Begin, End, BeginEnd};
 ghost use Rattle.credit_ledger.specs.Places.{ledger_id};
 ghost use Rattle.recorder.specs.Tasks.{is_barred, is_innermost_region, with_region, without_region};
-ghost use Rattle.recorder.specs.Calls.{fault_of};
-ghost use Rattle.recorder.specs.Recorders.{with_record, refusal_at, IsObserved};
+ghost use Rattle.recorder.specs.Calls.{call_fault};
+ghost use Rattle.recorder.specs.Recorders.{recorded_alone, refusal_at, IsObserved};
 
 use crate::fault::CallFault;
 use crate::recording::Recorder;
@@ -22,7 +22,7 @@ impl Recorder {
         kind: SyncKind,
         parallel: Option<u64>,
     ) -> Result<(), CallFault>
-        ensures made { OnOk result (self.new ≡ with_record self.old
+        ensures made { OnOk result (self.new ≡ recorded_alone self.old
             (SyncRegion kind Begin parallel task.old.id)) }
         ensures task { OnOk result (task.new ≡ with_region task.old kind) }
         ensures unchanged { OnErr result (self.new ≡ self.old) }
@@ -30,7 +30,7 @@ impl Recorder {
         ensures refused { IsSome (refusal_at self.old (not (is_barred task.old kind)) false false
             (SyncRegion kind Begin parallel task.old.id)) → IsErr result }
         ensures fault { IfErr result (λ fault. fault
-            ≡ fault_of (refusal_at self.old (not (is_barred task.old kind)) false false
+            ≡ call_fault (refusal_at self.old (not (is_barred task.old kind)) false false
             (SyncRegion kind Begin parallel task.old.id))) }
     {
         let body = region_body(task, kind, Endpoint::Begin, parallel);
@@ -66,7 +66,7 @@ impl Recorder {
         ensures refused { IsSome (refusal_at self.old
             (is_innermost_region task.old kind && not (is_barred task.old kind)) false false
             (SyncRegion kind End parallel task.old.id)) → IsErr result }
-        ensures fault { IfErr result (λ fault. fault ≡ fault_of (refusal_at self.old
+        ensures fault { IfErr result (λ fault. fault ≡ call_fault (refusal_at self.old
             (is_innermost_region task.old kind && not (is_barred task.old kind)) false false
             (SyncRegion kind End parallel task.old.id))) }
     {
@@ -98,7 +98,7 @@ impl Recorder {
         ensures refused { IsSome (refusal_at self.old (not (is_barred task.old kind)) false false
             (SyncRegion kind BeginEnd parallel task.old.id)) → IsErr result }
         ensures fault { IfErr result (λ fault. fault
-            ≡ fault_of (refusal_at self.old (not (is_barred task.old kind)) false false
+            ≡ call_fault (refusal_at self.old (not (is_barred task.old kind)) false false
             (SyncRegion kind BeginEnd parallel task.old.id))) }
     {
         let body = region_body(task, kind, Endpoint::BeginEnd, parallel);

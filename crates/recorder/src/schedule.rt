@@ -8,9 +8,9 @@ ghost use Rattle.ompt_events.specs.Flags.{cancel_flags, are_named};
 ghost use Rattle.ompt_events.specs.Limits.{max_records};
 ghost use Rattle.ompt_events.specs.Names.{status_part};
 ghost use Rattle.credit_ledger.specs.Places.{ledger_id};
-ghost use Rattle.recorder.specs.Tasks.{TaskView, started, stopped, entry_of_part, credit_of, entered_credit_of, MovesCredit};
-ghost use Rattle.recorder.specs.Calls.{fault_of};
-ghost use Rattle.recorder.specs.Recorders.{IsConcluded, IsRefused, allowed};
+ghost use Rattle.recorder.specs.Tasks.{TaskView, after_start, after_stop, entry_of_part, credit_of, entered_credit_of, MovesCredit};
+ghost use Rattle.recorder.specs.Calls.{call_fault};
+ghost use Rattle.recorder.specs.Recorders.{IsConcluded, IsFinishRefused, allowed};
 ghost use Rattle.recorder.specs.Schedules.{turns_of, schedule_body, may_start, may_schedule, is_by_parent, has_its_next, is_last_turn, schedule_refusal, IsStopped, IsStoppedBy, stopped_entry, left_of, schedule_of, switch_refusal, is_pause, LeavesNext, with_discarded, discard_body, may_discard, discard_refusal};
 
 use crate::fault::CallFault;
@@ -155,7 +155,7 @@ impl Recorder {
         ensures stopped { OnOk result (IsStopped self.old schedule.now self.new) }
         ensures may { OnOk result (may_schedule self.old schedule.now ≡ true) }
         ensures refused { IsSome (schedule_refusal self.old schedule.now) → IsErr result }
-        ensures fault { IfErr result (IsRefused self.old (schedule_refusal self.old schedule.now)
+        ensures fault { IfErr result (IsFinishRefused self.old (schedule_refusal self.old schedule.now)
             (stopped_entry self.old schedule.now) self.new) }
     {
         let body = schedule.body(None);
@@ -185,7 +185,7 @@ impl Recorder {
         requires part { status_part schedule.now.status ≡ Some part }
         ensures ledger { self.new.ledger ≡ self.old.ledger }
         ensures stopped { OnOk result (IsStoppedBy (Some part) self.old schedule.now self.new) }
-        ensures fault { IfErr result (IsRefused self.old None
+        ensures fault { IfErr result (IsFinishRefused self.old None
             (Some (entry_of_part self.old.thread part schedule.now.prior)) self.new) }
     {
         let Ok((entry, claim)) = schedule.prior.finish(self.thread(), part) else {
@@ -212,7 +212,7 @@ impl Recorder {
             (schedule_of prior.now status (Some next.now)) ≡ true) }
         ensures refused { IsSome (schedule_refusal self.old (schedule_of prior.now status (Some next.now)))
             → IsErr result }
-        ensures fault { IfErr result (IsRefused self.old
+        ensures fault { IfErr result (IsFinishRefused self.old
             (schedule_refusal self.old (schedule_of prior.now status (Some next.now)))
             (stopped_entry self.old (schedule_of prior.now status (Some next.now))) self.new) }
     {
@@ -239,13 +239,13 @@ impl Recorder {
             (schedule_of prior status (Some next.old)) self.new) }
         ensures may { OnOk result (may_schedule self.old
             (schedule_of prior status (Some next.old)) ≡ true) }
-        ensures started { OnOk result (next.new ≡ started next.old) }
+        ensures started { OnOk result (next.new ≡ after_start next.old) }
         ensures unchanged { OnErr result (next.new ≡ next.old) }
         ensures back { IfOk result (λ back. back ≡ left_of prior status) }
         ensures returned { IfErr result (λ refused. refused.0 ≡ prior) }
         ensures refused { IsSome (schedule_refusal self.old
             (schedule_of prior status (Some next.old))) → IsErr result }
-        ensures fault { IfErr result (λ refused. IsRefused self.old
+        ensures fault { IfErr result (λ refused. IsFinishRefused self.old
             (schedule_refusal self.old (schedule_of prior status (Some next.old)))
             (stopped_entry self.old (schedule_of prior status (Some next.old))) self.new refused.1) }
     {
@@ -274,7 +274,7 @@ impl Recorder {
         ensures returned { IfErr result (λ refused. refused.0 ≡ prior) }
         ensures refused { IsSome (schedule_refusal self.old (schedule_of prior status None))
             → IsErr result }
-        ensures fault { IfErr result (λ refused. IsRefused self.old
+        ensures fault { IfErr result (λ refused. IsFinishRefused self.old
             (schedule_refusal self.old (schedule_of prior status None))
             (stopped_entry self.old (schedule_of prior status None)) self.new refused.1) }
     {
@@ -311,18 +311,18 @@ impl Recorder {
         ensures returned { IfErr result (λ refused. refused.0 ≡ prior) }
         ensures refused { IsSome (schedule_refusal self.old
             (schedule_of prior status (option_map (λ n. n.now) next.entry))) → IsErr result }
-        ensures fault { IfErr result (λ refused. IsRefused self.old
+        ensures fault { IfErr result (λ refused. IsFinishRefused self.old
             (schedule_refusal self.old (schedule_of prior status (option_map (λ n. n.now) next.entry)))
             (stopped_entry self.old (schedule_of prior status (option_map (λ n. n.now) next.entry)))
             self.new refused.1) }
         ensures started { (n : MutBor TaskView) → next.entry ≡ Some n
-            → OnOk result (LeavesNext next.exit (λ left. left ≡ started n.now)) }
+            → OnOk result (LeavesNext next.exit (λ left. left ≡ after_start n.now)) }
         ensures unchanged { (n : MutBor TaskView) → next.entry ≡ Some n
             → OnErr result (LeavesNext next.exit (λ left. left ≡ n.now)) }
         ensures credit { OnOk result ((part : Part) → status_part status ≡ Some part
             → MovesCredit part (credit_of prior)
             (entered_credit_of (entry_of_part self.old.thread part prior))
-            (credit_of (stopped prior status))) }
+            (credit_of (after_stop prior status))) }
     {
         match next {
             Some(next) => self.switch(ledger, wait, prior, status, next),
@@ -345,15 +345,15 @@ impl Recorder {
         ensures ledger { self.new.ledger ≡ self.old.ledger }
         ensures stopped { OnOk result (IsStopped self.old
             (schedule_of prior.old status (Some next.old)) self.new) }
-        ensures prior { OnOk result (prior.new ≡ stopped prior.old status) }
-        ensures next { OnOk result (next.new ≡ started next.old) }
+        ensures prior { OnOk result (prior.new ≡ after_stop prior.old status) }
+        ensures next { OnOk result (next.new ≡ after_start next.old) }
         ensures unchanged { OnErr result (self.new ≡ self.old) }
         ensures same_prior { OnErr result (prior.new ≡ prior.old) }
         ensures same_next { OnErr result (next.new ≡ next.old) }
         ensures refused { IsSome (switch_refusal self.old (schedule_of prior.old status (Some next.old)))
             → IsErr result }
         ensures fault { IfErr result (λ fault. fault
-            ≡ fault_of (switch_refusal self.old (schedule_of prior.old status (Some next.old)))) }
+            ≡ call_fault (switch_refusal self.old (schedule_of prior.old status (Some next.old)))) }
     {
         if !is_pause(status) {
             return Err(CallFault::WrongState);
@@ -384,7 +384,7 @@ impl Recorder {
             (entered_credit_of (entry_of_part self.old.thread Whole task)) (credit_of task)) }
         ensures returned { IfErr result (λ refused. refused.0 ≡ task) }
         ensures refused { IsSome (discard_refusal self.old task flags) → IsErr result }
-        ensures fault { IfErr result (λ refused. IsRefused self.old (discard_refusal self.old task flags)
+        ensures fault { IfErr result (λ refused. IsFinishRefused self.old (discard_refusal self.old task flags)
             (Some (entry_of_part self.old.thread Whole task)) self.new refused.1) }
     {
         match self.discard(ledger, wait, &task, flags) {
@@ -408,7 +408,7 @@ impl Recorder {
             (discard_body task.now flags (Some task.now.claim)) self.new) }
         ensures may { OnOk result (may_discard task.now flags ≡ true) }
         ensures refused { IsSome (discard_refusal self.old task.now flags) → IsErr result }
-        ensures fault { IfErr result (IsRefused self.old (discard_refusal self.old task.now flags)
+        ensures fault { IfErr result (IsFinishRefused self.old (discard_refusal self.old task.now flags)
             (Some (entry_of_part self.old.thread Whole task.now)) self.new) }
     {
         let flags = flags.union(CancelFlags::DISCARDED_TASK);

@@ -1,7 +1,7 @@
 //! Where a thread stands while it records.
 ghost use Rattle.std.specs.Prelude.{◌≡◌};
 ghost use Rattle.ompt_events.specs.States.{is_task};
-ghost use Rattle.recorder.specs.Standing.{at_start, innermost, next_standing, with_root, without_root, is_same, is_in_place, runs_its_task, ends_innermost, is_outside, is_on_host, allows};
+ghost use Rattle.recorder.specs.Standing.{standing_at_start, innermost, next_standing, with_root, without_root, is_same, is_in_place, runs_its_task, ends_innermost, is_outside, is_on_host, allows};
 
 use bitflags::Flags;
 use ompt_events::{Body, Endpoint, TaskFlags};
@@ -23,7 +23,7 @@ pub struct Standing {
 impl Standing {
     /// A thread that has recorded nothing.
     pub(crate) fn at_start() -> Standing
-        ensures { result ≡ at_start }
+        ensures { result ≡ standing_at_start }
     {
         Standing {
             initial: None,

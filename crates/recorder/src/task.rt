@@ -5,7 +5,7 @@ ghost use Rattle.ompt_events.specs.Flags.{task_flags, are_named};
 ghost use Rattle.ompt_events.specs.States as states;
 ghost use Rattle.ompt_events.specs.Traces.{IsSoundIn};
 ghost use Rattle.task_states.specs.Progress.{the_nature, the_move};
-ghost use Rattle.recorder.specs.Tasks.{parent_of, place_of, is_initial_task, is_root_on, end_of_root, started, stopped, nature, state_moved, turn_of, next_turn, innermost_region, is_innermost_region, is_barred, is_deep, is_crowded, root_of, child_of, with_child, in_state, running_in, with_region, without_region, entry_of_part};
+ghost use Rattle.recorder.specs.Tasks.{parent_of, place_of, is_initial_task, is_root_on, end_of_root, after_start, after_stop, nature, state_moved, current_turn, turn_after, innermost_region, is_innermost_region, is_barred, is_deep, is_crowded, root_of, child_of, with_child, in_state, running_in, with_region, without_region, entry_of_part};
 
 use bitflags::Flags;
 use credit_ledger::Entry;
@@ -157,7 +157,7 @@ impl TaskData {
 
     /// The task stops or is fulfilled with this status, if it may.
     pub(crate) fn stop(&mut self, status: Status)
-        ensures { self.new ≡ stopped self.old status }
+        ensures { self.new ≡ after_stop self.old status }
     {
         if let Some(state) = self.state_stopped(status) {
             self.state = state;
@@ -166,7 +166,7 @@ impl TaskData {
 
     /// The task runs in its next turn, if it may.
     pub(crate) fn start(&mut self)
-        ensures { self.new ≡ started self.old }
+        ensures { self.new ≡ after_start self.old }
     {
         let state = self.state_started();
         let turn = self.next_turn();
@@ -307,14 +307,14 @@ impl TaskData {
 
     /// The turn in which the task is; 0 where it has begun none.
     pub(crate) fn turn(&self) -> u32
-        ensures { result ≡ turn_of self.now }
+        ensures { result ≡ current_turn self.now }
     {
         self.turn.unwrap_or(0)
     }
 
     /// The turn that the task begins next, where there is one more number for it.
     pub(crate) fn next_turn(&self) -> Option<u32>
-        ensures { result ≡ next_turn self.now }
+        ensures { result ≡ turn_after self.now }
     {
         match self.turn {
             Some(turn) => turn.checked_add(1),

@@ -17,9 +17,9 @@ use Rattle.thread_buffers.specs.Buffers.{BufferView}
 use Rattle.recorder.specs.Logs.{AreOrderly}
 use Rattle.recorder.specs.Recorders.{RecorderView}
 use Rattle.callbacks.specs.Closed.{ClosedView, IsBuffer, AreClosed, thread_of, recorded_by}
-use Rattle.callbacks.specs.Gathered.{gathered, AreApart}
-use Rattle.script_runs.specs.Calls.{records_of, recorded_calls, calls_of}
-use Rattle.script_runs.specs.Parts.{HasRun, HaveRun, IsAmong}
+use Rattle.callbacks.specs.Gathered.{gathered, HaveOwnThreads}
+use Rattle.script_runs.specs.Calls.{thread_records, recorded_calls, calls_of}
+use Rattle.script_runs.specs.Parts.{HasRecorded, HaveRun, IsAmong}
 
 -- ---- lists
 
@@ -47,19 +47,19 @@ abbrev AreOwn : List BufferView → Type 0
 AreOwn buffers = (i : ℕ) (b : BufferView) → slice_get buffers i ≡ Some b → AreOrderly b.thread b.records
 
 records_more : (b : BufferView) (buffers : List BufferView) (thread : ℕ)
-    → records_of (gathered (b ∷ buffers)) thread
-    ≡ records_of b.records thread ++ records_of (gathered buffers) thread
+    → thread_records (gathered (b ∷ buffers)) thread
+    ≡ thread_records b.records thread ++ thread_records (gathered buffers) thread
 records_more b buffers thread =
-    ap (λ rs. records_of rs thread) (flat_map-cons (λ (it : BufferView). it.records) b buffers)
+    ap (λ rs. thread_records rs thread) (flat_map-cons (λ (it : BufferView). it.records) b buffers)
     ∙ filter-append (λ (r : Record). r.thread == thread) b.records (gathered buffers)
 
 of_thread : (b : BufferView) (thread : ℕ) → AreOrderly b.thread b.records → b.thread ≡ thread
-    → records_of b.records thread ≡ b.records
+    → thread_records b.records thread ≡ b.records
 of_thread b thread orderly same = filter_all (λ (r : Record). r.thread == thread) b.records
     (λ i r is. eq-eqb r.thread thread ((orderly i r is).thread_is ∙ same))
 
 of_another : (b : BufferView) (thread : ℕ) → AreOrderly b.thread b.records → b.thread ≢ thread
-    → records_of b.records thread ≡ []
+    → thread_records b.records thread ≡ []
 of_another b thread orderly apart = filter_none (λ (r : Record). r.thread == thread) b.records
     (λ i r is. ne_eqb r.thread thread (λ e. apart (sym (orderly i r is).thread_is ∙ e)))
 
@@ -68,11 +68,11 @@ abbrev IsNowhere : List BufferView → ℕ → Type 0
 IsNowhere buffers thread = (i : ℕ) (b : BufferView) → slice_get buffers i ≡ Some b → b.thread ≢ thread
 
 of_nowhere : (buffers : List BufferView) (thread : ℕ) → AreOwn buffers → IsNowhere buffers thread
-    → records_of (gathered buffers) thread ≡ []
+    → thread_records (gathered buffers) thread ≡ []
 of_nowhere [] thread own nowhere = refl
 of_nowhere (b ∷ buffers) thread own nowhere =
     records_more b buffers thread
-    ∙ ap (λ l. l ++ records_of (gathered buffers) thread)
+    ∙ ap (λ l. l ++ thread_records (gathered buffers) thread)
     (of_another b thread (own 0 b refl) (nowhere 0 b refl))
     ∙ of_nowhere buffers thread (λ i it is. own (suc i) it is) (λ i it is. nowhere (suc i) it is)
 
@@ -80,10 +80,10 @@ of_nowhere (b ∷ buffers) thread own nowhere =
 abbrev IsFound : List BufferView → ℕ → Type 0
 IsFound buffers thread =
     ((i : ℕ) × (b : BufferView) × (slice_get buffers i ≡ Some b) × (b.thread ≡ thread)
-    × (records_of (gathered buffers) thread ≡ b.records))
+    × (thread_records (gathered buffers) thread ≡ b.records))
     ⊎ IsNowhere buffers thread
 
-find_thread : (buffers : List BufferView) (thread : ℕ) → AreOwn buffers → AreApart buffers
+find_thread : (buffers : List BufferView) (thread : ℕ) → AreOwn buffers → HaveOwnThreads buffers
     → IsFound buffers thread
 find_thread [] thread own apart = inr (λ i b is. absurd (none-some b is))
 find_thread (b ∷ buffers) thread own apart = elim (eqb_tells b.thread thread) [
@@ -96,7 +96,7 @@ find_thread (b ∷ buffers) thread own apart = elim (eqb_tells b.thread thread) 
         refl,
         same.1,
         records_more b buffers thread
-            ∙ ap (λ l. l ++ records_of (gathered buffers) thread) (of_thread b thread (own 0 b refl) same.1)
+            ∙ ap (λ l. l ++ thread_records (gathered buffers) thread) (of_thread b thread (own 0 b refl) same.1)
             ∙ ap (λ l. b.records ++ l) (of_nowhere buffers thread (λ i it is. own (suc i) it is) others)
             ∙ append-nil b.records,
       )
@@ -111,7 +111,7 @@ find_thread (b ∷ buffers) thread own apart = elim (eqb_tells b.thread thread) 
       found.2,
       found.3,
       records_more b buffers thread
-          ∙ ap (λ l. l ++ records_of (gathered buffers) thread) (of_another b thread (own 0 b refl) other)
+          ∙ ap (λ l. l ++ thread_records (gathered buffers) thread) (of_another b thread (own 0 b refl) other)
           ∙ found.4,
     )
     further other (inr nowhere) = inr (λ i. further_on i)
@@ -125,8 +125,8 @@ find_thread (b ∷ buffers) thread own apart = elim (eqb_tells b.thread thread) 
 -- the records of each thread are its steps
 pub gathered_calls : (steps : List Step) (recorders : List RecorderView) (closed : ClosedView)
     → HaveRun steps 0 recorders → IsPermutation (map recorded_by recorders) (map thread_of closed.buffers)
-    → AreClosed closed → AreApart closed.buffers → (thread : ℕ)
-    → recorded_calls (records_of (gathered closed.buffers) thread) ≡ calls_of steps thread
+    → AreClosed closed → HaveOwnThreads closed.buffers → (thread : ℕ)
+    → recorded_calls (thread_records (gathered closed.buffers) thread) ≡ calls_of steps thread
 gathered_calls steps recorders closed run same are apart thread =
     elim (find_thread closed.buffers thread own apart) [
       | inl found ↦
@@ -137,7 +137,7 @@ gathered_calls steps recorders closed run same are apart thread =
           (IsPermutation-sym (map recorded_by recorders) (map thread_of closed.buffers) same) there) in
           let (k, has) = contains_get recorders r among in
           ap recorded_calls (records ∙ sym (ap (λ (p : ℕ × List Record). p.1) by))
-          ∙ all_get (HasRun steps) recorders k r run.each has
+          ∙ all_get (HasRecorded steps) recorders k r run.each has
           ∙ ap (calls_of steps) (ap (λ (p : ℕ × List Record). p.0) by ∙ of)
       | inr nowhere ↦ ap recorded_calls (of_nowhere closed.buffers thread own nowhere)
           ∙ sym (none nowhere (run.all thread (omega arith)))

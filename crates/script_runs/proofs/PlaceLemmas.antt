@@ -12,7 +12,7 @@ use Rattle.task_states.specs.Rows.{row_at}
 use Rattle.recorder.specs.Recorders.{RecorderView}
 use Rattle.callbacks.proofs.KnownLaw.{take_next}
 use Rattle.script_runs.specs.Calls.{called, step_calls, steps_of, calls_of, recorded_calls}
-use Rattle.script_runs.specs.Parts.{call_at, ArePlaces, IsCalled, IsPlaceAdded, IsTaken, HasRun, HasRunTo}
+use Rattle.script_runs.specs.Parts.{call_at, ArePlaces, IsCalled, IsPlaceAdded, IsStepTaken, HasRecorded, HasRunTo}
 
 -- ---- lists of what is there
 
@@ -74,7 +74,7 @@ places_next steps n s before after is are added thread = elim (eqb_tells s.threa
 -- all are
 pub run_all : (steps : List Step) (threads : List (Vec ℕ)) (thread k : ℕ) (row : List ℕ) (r : RecorderView)
     → ArePlaces steps (length steps) threads → row ≡ row_at threads thread → r.thread ≡ thread
-    → HasRunTo steps (take k row) r → length row ≤ k → HasRun steps r
+    → HasRunTo steps (take k row) r → length row ≤ k → HasRecorded steps r
 run_all steps threads thread k row r are is own before all =
     same_somes (recorded_calls r.records) (calls_of steps r.thread)
     (before ∙ ap (map (call_at steps)) (take_all k row all ∙ is)
@@ -93,7 +93,7 @@ no_places steps threads thread are none =
 pub taken_here : (steps : List Step) (at : ℕ) (s : Step) (old met after new : RecorderView)
     → slice_get steps at ≡ Some s → met.records ≡ old.records → met.thread ≡ old.thread
     → IsCalled met s.body after → new.records ≡ after.records → new.thread ≡ after.thread
-    → IsTaken steps at old new
+    → IsStepTaken steps at old new
 taken_here steps at s old met after new is same same_thread by left left_thread = record {
   thread = left_thread ∙ by.thread ∙ same_thread;
   calls = ap (λ rs. map Some (recorded_calls rs)) left

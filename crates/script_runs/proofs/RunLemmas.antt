@@ -11,7 +11,7 @@ use Rattle.scripts.specs.declared.script.Step.{Step}
 use Rattle.task_states.specs.Rows.{row_items}
 use Rattle.recorder.specs.Recorders.{RecorderView}
 use Rattle.script_runs.specs.Calls.{calls_of}
-use Rattle.script_runs.specs.Parts.{ArePlaces, HasRun, HaveRun, IsAmong}
+use Rattle.script_runs.specs.Parts.{ArePlaces, HasRecorded, HaveRun, IsAmong}
 use Rattle.script_runs.proofs.PlaceLemmas.{no_places}
 
 -- past the last thread that has a step none is left
@@ -19,7 +19,7 @@ pub no_more : (steps : List Step) (threads : List (Vec ℕ)) (first : ℕ)
     → ArePlaces steps (length steps) threads
     → length threads ≤ first → HaveRun steps first []
 no_more steps threads first are past = record {
-  each = All-nil (HasRun steps);
+  each = All-nil (HasRecorded steps);
   all = λ thread from. inl (no_places steps threads thread are
       (ap row_items (slice_get_past threads thread (omega (arith, past, from)))));
 }
@@ -34,12 +34,12 @@ from_here first thread from = elim (cases_order first thread) [
 
 -- the recorder of a thread comes to those of the later ones
 pub one_more : (steps : List Step) (first : ℕ) (recorders : List RecorderView) (r : RecorderView)
-    → HasRun steps r → r.thread ≡ first → HaveRun steps (first + 1) recorders
+    → HasRecorded steps r → r.thread ≡ first → HaveRun steps (first + 1) recorders
     → HaveRun steps first (recorders ++ r ∷ [])
 one_more steps first recorders r own of run = record {
   each =
-      All-append (HasRun steps) recorders (r ∷ []) run.each
-      (All-cons (HasRun steps) r [] own (All-nil (HasRun steps)));
+      All-append (HasRecorded steps) recorders (r ∷ []) run.each
+      (All-cons (HasRecorded steps) r [] own (All-nil (HasRecorded steps)));
   all = λ thread from. elim (from_here first thread from) [
     | inl same ↦ inr (r, Contains-append_right recorders (r ∷ []) r (0, omega arith, refl), of ∙ same)
     | inr above ↦ further thread (run.all thread above)

@@ -18,8 +18,8 @@ called (ImplicitTask End actual index given parallel task) =
 called body = body
 
 -- the records of one thread, and the steps of one thread
-abbrev pub records_of : List Record → ℕ → List Record
-records_of rs thread = filter (λ (r : Record). r.thread == thread) rs
+abbrev pub thread_records : List Record → ℕ → List Record
+thread_records rs thread = filter (λ (r : Record). r.thread == thread) rs
 
 abbrev pub steps_of : List Step → ℕ → List Step
 steps_of steps thread = filter (λ (s : Step). s.thread == thread) steps

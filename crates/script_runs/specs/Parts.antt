@@ -21,7 +21,7 @@ abbrev pub call_at : List Step → ℕ → Option Body
 call_at steps at = option_map (λ (s : Step). called s.body) (slice_get steps at)
 
 -- the recorder has one record more, with the call of the step at this place
-pub record IsTaken (steps : List Step) (at : ℕ) (old new : RecorderView) : Type 0 where
+pub record IsStepTaken (steps : List Step) (at : ℕ) (old new : RecorderView) : Type 0 where
   pub thread : new.thread ≡ old.thread
   pub calls : map Some (recorded_calls new.records)
       ≡ map Some (recorded_calls old.records) ++ call_at steps at ∷ []
@@ -45,14 +45,14 @@ pub record IsPlaceAdded (before after : List (Vec ℕ)) (thread place : ℕ) : T
 -- ---- the recorders of the threads
 
 -- the recorder has recorded the calls of its thread
-abbrev pub HasRun : List Step → RecorderView → Type 0
-HasRun steps r = recorded_calls r.records ≡ calls_of steps r.thread
+abbrev pub HasRecorded : List Step → RecorderView → Type 0
+HasRecorded steps r = recorded_calls r.records ≡ calls_of steps r.thread
 
 -- the recorder is of this ledger and this thread, and has recorded the calls of its thread
 pub record HasRunFor (ledger : TableId) (steps : List Step) (thread : ℕ) (r : RecorderView) : Type 0 where
   pub of_ledger : r.ledger ≡ ledger
   pub of_thread : r.thread ≡ thread
-  pub run : HasRun steps r
+  pub run : HasRecorded steps r
 
 -- one of the recorders is of the thread
 abbrev pub IsAmong : List RecorderView → ℕ → Type 0
@@ -61,5 +61,5 @@ IsAmong recorders thread = (r : RecorderView) × Contains recorders r × (r.thre
 -- each of the recorders has recorded the calls of its thread, and each thread from this one on has no call or
 -- one of them
 pub record HaveRun (steps : List Step) (first : ℕ) (recorders : List RecorderView) : Type 0 where
-  pub each : All (HasRun steps) recorders
+  pub each : All (HasRecorded steps) recorders
   pub all : (thread : ℕ) → first ≤ thread → (calls_of steps thread ≡ []) ⊎ IsAmong recorders thread

@@ -7,21 +7,21 @@ use Rattle.ompt_events.specs.Causes.{IsFreeOf}
 use Rattle.ompt_events.specs.Traces.{TraceView}
 use Rattle.scripts.specs.declared.script.Step.{Step}
 use Rattle.callbacks.specs.Closed.{ClosedView, AreClosed}
-use Rattle.callbacks.specs.Gathered.{gathered, AreApart, ArePaired, AreHandedOver}
-use Rattle.script_runs.specs.Calls.{records_of, recorded_calls, calls_of}
+use Rattle.callbacks.specs.Gathered.{gathered, HaveOwnThreads, ArePaired, AreHandedOver}
+use Rattle.script_runs.specs.Calls.{thread_records, recorded_calls, calls_of}
 use Rattle.script_runs.specs.declared.fault.RunFault.{RunFault}
 use Rattle.script_runs.specs.declared.fault.RunFault.TheVariants.{Memory, Thread, Call}
 
 -- the trace is gathered from the recorders of a run of the script: the records of each thread are its steps,
 -- in
 -- their order, and the finishing records pair off with the entries of the one ledger
-pub record IsRun (steps : List Step) (trace : TraceView) : Type 0 where
+pub record IsRunOf (steps : List Step) (trace : TraceView) : Type 0 where
   pub version : trace.version ≡ 2
-  pub calls : (thread : ℕ) → recorded_calls (records_of trace.records thread) ≡ calls_of steps thread
+  pub calls : (thread : ℕ) → recorded_calls (thread_records trace.records thread) ≡ calls_of steps thread
   pub closed : ClosedView
   pub are_closed : AreClosed closed
   pub gathered_from : trace.records ≡ gathered closed.buffers
-  pub apart : AreApart closed.buffers
+  pub apart : HaveOwnThreads closed.buffers
   pub paired : ArePaired closed
   pub numbered : IsFreeOf trace.records SeqGap
   pub outside : IsFreeOf trace.records CreatedTwice → IsFreeOf trace.records NestedParallel
@@ -31,11 +31,11 @@ pub record IsRun (steps : List Step) (trace : TraceView) : Type 0 where
   pub rising : AreHandedOver trace.records → IsFreeOf trace.records LengthBack
 
 -- the line of a fault; 0 where it is of no line
-abbrev pub line_of : RunFault → ℕ
-line_of (Call line fault) = line
-line_of Memory = 0
-line_of Thread = 0
+abbrev pub line_of_fault : RunFault → ℕ
+line_of_fault (Call line fault) = line
+line_of_fault Memory = 0
+line_of_fault Thread = 0
 
 -- a refused call stands on a line of the script: line 1 is the header
 abbrev pub IsOfLine : List Step → RunFault → Type 0
-IsOfLine steps fault = line_of fault ≤ length steps + 1
+IsOfLine steps fault = line_of_fault fault ≤ length steps + 1

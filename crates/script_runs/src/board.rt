@@ -2,7 +2,7 @@
 ghost use Rattle.std.specs.Prelude.{◌≡◌, ◌≤◌, ◌+◌, List, [], IfSome, length};
 ghost use Rattle.std.specs.Option.{option_map_or};
 ghost use Rattle.atomic_table.specs.Seated.{TableId};
-ghost use Rattle.script_runs.specs.Runs.{line_of, IsOfLine};
+ghost use Rattle.script_runs.specs.Runs.{line_of_fault, IsOfLine};
 ghost use Rattle.scripts.specs.declared.script.Step.{Step};
 
 use crate::fault::RunFault;
@@ -81,7 +81,7 @@ pub(crate) struct Board<C: Context> {
     threads: Vec<Progress>,
     /// Why the run ends without a trace, if it does.
     fault: Option<RunFault>,
-    ghost of_a_line: { option_map_or line_of fault 0 ≤ length C.steps + 1 },
+    ghost of_a_line: { option_map_or line_of_fault fault 0 ≤ length C.steps + 1 },
 }
 
 impl<C: Context> Board<C> {

@@ -1,7 +1,7 @@
 //! Why a run of a script has no trace.
 ghost use Rattle.std.specs.Prelude.{◌≡◌, ◌≤◌, ◌+◌, List, length};
 ghost use Rattle.scripts.specs.declared.script.Step.{Step};
-ghost use Rattle.script_runs.specs.Runs.{line_of, IsOfLine};
+ghost use Rattle.script_runs.specs.Runs.{line_of_fault, IsOfLine};
 ghost use Rattle.script_runs.specs.declared.fault.RunFault.TheVariants.{Memory};
 
 use callbacks::CallFault;
@@ -35,7 +35,7 @@ impl RunFault {
 
     /// The line from which on no step is taken any more.
     pub(crate) fn line(self) -> u32
-        ensures { result ≡ line_of self }
+        ensures { result ≡ line_of_fault self }
     {
         match self {
             RunFault::Memory | RunFault::Thread => 0,

@@ -2,7 +2,7 @@
 ghost use Rattle.std.specs.Prelude.{◌≡◌, All, IfOk, IfErr, IfSome};
 ghost use Rattle.std.specs.Thread.{IsSync};
 ghost use Rattle.credit_ledger.specs.Places.{ledger_id, seat_id};
-ghost use Rattle.script_runs.specs.Runs.{IsRun, IsOfLine};
+ghost use Rattle.script_runs.specs.Runs.{IsRunOf, IsOfLine};
 ghost use Rattle.script_runs.specs.Parts.{HasRunFor, HaveRun};
 
 use crate::board::Context;
@@ -27,7 +27,7 @@ pub fn run<R: Threads + Wait + Sync>(
     alloc: Global,
     script: Script,
 ) -> Result<Trace, (Script, RunFault)>
-    ensures trace { IfOk result (IsRun script) }
+    ensures trace { IfOk result (IsRunOf script) }
     ensures returned { IfErr result (λ refused. refused.0 ≡ script) }
     ensures line { IfErr result (λ refused. IsOfLine script refused.1) }
 {

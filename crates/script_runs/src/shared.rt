@@ -3,7 +3,7 @@ ghost use Rattle.std.specs.Prelude.{◌≡◌, ◌≤◌, IfOk, IfErr, IsTrue, l
 ghost use Rattle.credit_ledger.specs.Places.{ledger_id};
 ghost use Rattle.ompt_events.specs.Limits.{max_records};
 ghost use Rattle.script_runs.specs.Runs.{IsOfLine};
-ghost use Rattle.script_runs.specs.Parts.{ArePlaces, IsTaken};
+ghost use Rattle.script_runs.specs.Parts.{ArePlaces, IsStepTaken};
 
 use crate::board::{Board, Context, Held, Pair, RunNote};
 use crate::calling::{Values, call};
@@ -68,7 +68,7 @@ impl<C: Context> Shared<C> {
     pub(crate) fn take_step<R: Wait>(&self, rt: &R, recorder: &mut Recorder, at: usize) -> bool
         requires { recorder.old.ledger ≡ C.ledger }
         ensures ledger { recorder.new.ledger ≡ recorder.old.ledger }
-        ensures taken { IsTrue result → IsTaken C.steps at recorder.old recorder.new }
+        ensures taken { IsTrue result → IsStepTaken C.steps at recorder.old recorder.new }
     {
         let Some(step) = self.script.steps().get(at) else {
             return false;

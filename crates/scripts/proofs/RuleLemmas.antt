@@ -20,9 +20,9 @@ use Rattle.ompt_events.specs.Records.{made, named, claim, told_turns}
 use Rattle.scripts.specs.declared.script.Step.{Step}
 use Rattle.scripts.specs.declared.lives.Life.{Life}
 use Rattle.scripts.specs.declared.lives.Life.TheVariants.{Live, Over}
-use Rattle.scripts.specs.Scripts.{is_call, ended, life_after, life, steps_of, tasks_of, is_earlier, has_twice}
+use Rattle.scripts.specs.Scripts.{is_call, ended, life_after, life, step_count, task_count, is_earlier, has_twice}
 use Rattle.scripts.specs.Scripts.{is_made, may_be_named, may_follow, IsScript}
-use Rattle.scripts.specs.Rules.{IsMade, IsEnded, MayFollow}
+use Rattle.scripts.specs.Rules.{IsMadeByStep, IsEnded, MayFollow}
 use Rattle.scripts.proofs.CallLemmas.{making_ends_none, made_is_named, ended_is_named, apart_from_test}
 use Rattle.scripts.proofs.CallLemmas.{apart_to_test}
 
@@ -30,18 +30,18 @@ use Rattle.scripts.proofs.CallLemmas.{apart_to_test}
 
 -- which steps make and end a task of which this has become
 abbrev IsLife : List Step → ℕ → Option Life → Type 0
-IsLife steps task None = (IsMade steps task → ⊥) × (IsEnded steps task → ⊥)
-IsLife steps task (Some Live) = IsMade steps task × (IsEnded steps task → ⊥)
-IsLife steps task (Some Over) = IsMade steps task × IsEnded steps task
+IsLife steps task None = (IsMadeByStep steps task → ⊥) × (IsEnded steps task → ⊥)
+IsLife steps task (Some Live) = IsMadeByStep steps task × (IsEnded steps task → ⊥)
+IsLife steps task (Some Over) = IsMadeByStep steps task × IsEnded steps task
 
-made_stays : (steps : List Step) (s : Step) (task : ℕ) → IsMade steps task → IsMade (steps ++ s ∷ []) task
+made_stays : (steps : List Step) (s : Step) (task : ℕ) → IsMadeByStep steps task → IsMadeByStep (steps ++ s ∷ []) task
 made_stays steps s task (x, has, says) = (x, Contains-append_left steps (s ∷ []) x has, says)
 
 ended_stays : (steps : List Step) (s : Step) (task : ℕ) → IsEnded steps task → IsEnded (steps ++ s ∷ []) task
 ended_stays steps s task (x, has, says) = (x, Contains-append_left steps (s ∷ []) x has, says)
 
 made_before : (steps : List Step) (s : Step) (task : ℕ) → (made s.body ≡ Some task → ⊥)
-    → (IsMade steps task → ⊥) → IsMade (steps ++ s ∷ []) task → ⊥
+    → (IsMadeByStep steps task → ⊥) → IsMadeByStep (steps ++ s ∷ []) task → ⊥
 made_before steps s task other none (x, has, says) = elim (Contains-push_cases steps s x has) [
   | inl old ↦ none (x, old, says)
   | inr same ↦ other (subst (λ (y : Step). made y.body ≡ Some task) (sym same) says)
@@ -64,10 +64,10 @@ life_same steps s task (Some Over) other over is =
     (made_stays steps s task is.0, ended_stays steps s task is.1)
 
 -- what a call may name by its test
-may_name : (steps : List Step) (after : Option (ℕ × ℕ)) (body : Body) (task : ℕ)
+name_allowed : (steps : List Step) (after : Option (ℕ × ℕ)) (body : Body) (task : ℕ)
     → may_follow steps after body ≡ true → Contains (named body) task
     → may_be_named (is_made (made body) task) (life steps task) ≡ true
-may_name steps after body task follows has =
+name_allowed steps after body task follows has =
     let all =
     and_parts (is_call body && is_earlier steps after && not (has_twice (named body)))
     (list_all (λ t. may_be_named (is_made (made body) t) (life steps t)) (named body)) follows in
@@ -115,7 +115,7 @@ life_more steps s task follows are =
           new_by_test (life steps task)
           (ap (λ (b : Bool). may_be_named b (life steps task))
           (sym (is_made_yes (made s.body) task name))
-          ∙ may_name steps s.after s.body task follows (made_is_named task s.body name)) in
+          ∙ name_allowed steps s.after s.body task follows (made_is_named task s.body name)) in
           let none : IsLife steps task None = subst (IsLife steps task) new (are task) in
           let live : life_by_call (life steps task) (Some t) e task ≡ Some Live =
           ap (λ (b : Bool). cond b (Some Live) (life steps task)) (eq-eqb t task same) in
@@ -137,7 +137,7 @@ life_more steps s task follows are =
           let test : may_be_named false (life steps task) ≡ true =
           ap (λ (b : Bool). may_be_named b (life steps task))
           (sym (is_made_no (made s.body) task (λ name. none-some task (sym makes ∙ name))))
-          ∙ may_name steps s.after s.body task follows (ended_is_named task s.body over) in
+          ∙ name_allowed steps s.after s.body task follows (ended_is_named task s.body over) in
           let live : IsLife steps task (Some Live) =
           subst (IsLife steps task) (live_by_test (life steps task) test) (are task) in
           let gone : life_by_call (life steps task) None (Some t) task ≡ Some Over =
@@ -186,14 +186,14 @@ none_by_test None is = refl
 none_by_test (Some x) is = absurd (false≢true is)
 
 earlier_from : (steps : List Step) (after : Option (ℕ × ℕ)) → is_earlier steps after ≡ true
-    → IfSome after (λ (a : ℕ × ℕ). a.1 < steps_of steps a.0)
+    → IfSome after (λ (a : ℕ × ℕ). a.1 < step_count steps a.0)
 earlier_from steps None is = tt
-earlier_from steps (Some (thread, number)) is = ltb-true number (steps_of steps thread) is
+earlier_from steps (Some (thread, number)) is = ltb-true number (step_count steps thread) is
 
 earlier_to : (steps : List Step) (after : Option (ℕ × ℕ))
-    → IfSome after (λ (a : ℕ × ℕ). a.1 < steps_of steps a.0) → is_earlier steps after ≡ true
+    → IfSome after (λ (a : ℕ × ℕ). a.1 < step_count steps a.0) → is_earlier steps after ≡ true
 earlier_to steps None is = refl
-earlier_to steps (Some (thread, number)) is = lt-ltb number (steps_of steps thread) is
+earlier_to steps (Some (thread, number)) is = lt-ltb number (step_count steps thread) is
 
 pub rules_from : (steps : List Step) (after : Option (ℕ × ℕ)) (body : Body) → IsScript steps
     → may_follow steps after body ≡ true → MayFollow steps after body
@@ -212,12 +212,12 @@ rules_from steps after body script follows =
       live = λ task has other.
           let test : may_be_named false (life steps task) ≡ true =
           ap (λ (b : Bool). may_be_named b (life steps task)) (sym (is_made_no (made body) task other))
-          ∙ may_name steps after body task follows has in
+          ∙ name_allowed steps after body task follows has in
           subst (IsLife steps task) (live_by_test (life steps task) test) (life_is steps script task);
       new = λ task makes.
           let test : may_be_named true (life steps task) ≡ true =
           ap (λ (b : Bool). may_be_named b (life steps task)) (sym (is_made_yes (made body) task makes))
-          ∙ may_name steps after body task follows (made_is_named task body makes) in
+          ∙ name_allowed steps after body task follows (made_is_named task body makes) in
           let none : IsLife steps task None =
           subst (IsLife steps task) (new_by_test (life steps task) test) (life_is steps script task) in
           none.0;
@@ -240,13 +240,13 @@ rules_to steps after body script rules =
     (list_all-from_AllPass (λ t. may_be_named (is_made (made body) t) (life steps t)) (named body)
     (λ k d within. may (get_or (named body) k d) (Contains-get_or (named body) k d within)))
   where
-    none_made : (task : ℕ) (o : Option Life) → (IsMade steps task → ⊥) → IsLife steps task o
+    none_made : (task : ℕ) (o : Option Life) → (IsMadeByStep steps task → ⊥) → IsLife steps task o
         → may_be_named true o ≡ true
     none_made task None none is = refl
     none_made task (Some Live) none is = absurd (none is.0)
     none_made task (Some Over) none is = absurd (none is.0)
 
-    is_live : (task : ℕ) (o : Option Life) → IsMade steps task → (IsEnded steps task → ⊥)
+    is_live : (task : ℕ) (o : Option Life) → IsMadeByStep steps task → (IsEnded steps task → ⊥)
         → IsLife steps task o → may_be_named false o ≡ true
     is_live task None has none is = absurd (is.0 has)
     is_live task (Some Live) has none is = refl
@@ -287,9 +287,9 @@ take_stands steps n i s low is =
 
 IsScript-take : (steps : List Step) (n : ℕ) → n ≤ length steps → IsScript steps → IsScript (take n steps)
 IsScript-take steps n low script =
-    let both : tasks_of (take n steps) + tasks_of (drop n steps) ≡ tasks_of steps =
+    let both : task_count (take n steps) + task_count (drop n steps) ≡ task_count steps =
     sym (sum_by-append (λ (x : Step). cond (is_some (made x.body)) 1 0) (take n steps) (drop n steps))
-    ∙ ap (λ (xs : List Step). tasks_of xs) (take-append-drop n steps) in
+    ∙ ap (λ (xs : List Step). task_count xs) (take-append-drop n steps) in
     record {
       few_steps = omega (arith, length-take-le n steps low, script.few_steps);
       few_tasks = omega (arith, both, script.few_tasks);

@@ -14,29 +14,29 @@ use Rattle.ompt_events.specs.Limits.{max_records, max_tasks}
 use Rattle.ompt_events.proofs.ListLemmas.{pushed_cases}
 use Rattle.scripts.specs.declared.script.Step.{Step}
 use Rattle.scripts.specs.declared.lives.Life.{Life}
-use Rattle.scripts.specs.Scripts.{life_after, tasks_of, may_follow, is_full, IsScript}
+use Rattle.scripts.specs.Scripts.{life_after, task_count, may_follow, is_full, IsScript}
 use Rattle.scripts.specs.Keeping.{AreLives}
 
 -- ---- the limits
 
-has_room : (steps : List Step) (body : Body) → is_full steps body ≡ false → length steps < max_records
-has_room steps body room =
+steps_room : (steps : List Step) (body : Body) → is_full steps body ≡ false → length steps < max_records
+steps_room steps body room =
     leb-false max_records (length steps)
-    (left (nat_le max_records (length steps)) (is_some (made body) && nat_le max_tasks (tasks_of steps))
+    (left (nat_le max_records (length steps)) (is_some (made body) && nat_le max_tasks (task_count steps))
     room)
   where
     left : (a b : Bool) → (a || b) ≡ false → a ≡ false
     left false b e = refl
     left true b e = e
 
-has_task_room : (steps : List Step) (body : Body) → is_full steps body ≡ false → tasks_of steps ≤ max_tasks
-    → tasks_of steps + cond (is_some (made body)) 1 0 ≤ max_tasks
+has_task_room : (steps : List Step) (body : Body) → is_full steps body ≡ false → task_count steps ≤ max_tasks
+    → task_count steps + cond (is_some (made body)) 1 0 ≤ max_tasks
 has_task_room steps body room few = by_cases (is_some (made body)) (nat_le max_records (length steps)) room
   where
-    by_cases : (makes full : Bool) → (full || (makes && nat_le max_tasks (tasks_of steps))) ≡ false
-        → tasks_of steps + cond makes 1 0 ≤ max_tasks
+    by_cases : (makes full : Bool) → (full || (makes && nat_le max_tasks (task_count steps))) ≡ false
+        → task_count steps + cond makes 1 0 ≤ max_tasks
     by_cases false full e = omega (arith, few)
-    by_cases true false e = let less = leb-false max_tasks (tasks_of steps) e in omega (arith, less)
+    by_cases true false e = let less = leb-false max_tasks (task_count steps) e in omega (arith, less)
     by_cases true true e = absurd (true≢false e)
 
 -- ---- one step more
@@ -49,9 +49,9 @@ before_stays steps s i low = take-append-le i steps (s ∷ []) low
 pub IsScript-more : (steps : List Step) (s : Step) → IsScript steps → is_full steps s.body ≡ false
     → s.line ≡ length steps + 2 → may_follow steps s.after s.body ≡ true → IsScript (steps ++ s ∷ [])
 IsScript-more steps s script room line follows = record {
-  few_steps = omega (arith, length_push steps s, has_room steps s.body room);
+  few_steps = omega (arith, length_push steps s, steps_room steps s.body room);
   few_tasks =
-      let more : tasks_of (steps ++ s ∷ []) ≡ tasks_of steps + cond (is_some (made s.body)) 1 0 =
+      let more : task_count (steps ++ s ∷ []) ≡ task_count steps + cond (is_some (made s.body)) 1 0 =
       sum_by_push (λ (x : Step). cond (is_some (made x.body)) 1 0) steps s in
       omega (arith, more, has_task_room steps s.body room script.few_tasks);
   lines = λ i x is. elim (pushed_cases steps s x i is) [

@@ -7,7 +7,7 @@ use Rattle.ompt_events.specs.Limits.{max_threads}
 use Rattle.scripts.specs.declared.script.Step.{Step}
 use Rattle.scripts.specs.declared.tally.Tally.{Tally}
 use Rattle.scripts.specs.declared.lives.Life.{Life}
-use Rattle.scripts.specs.Scripts.{life, steps_of, tasks_of, is_earlier, is_made, may_be_named, IsScript}
+use Rattle.scripts.specs.Scripts.{life, step_count, task_count, is_earlier, is_made, may_be_named, IsScript}
 
 -- the table has what has become of each task
 abbrev pub AreLives : List Step → BTreeMap ℕ Life → Type 0
@@ -21,17 +21,17 @@ all_may_be_named lives made tasks =
 -- the numbers of steps by thread, and the number of tasks
 pub record IsTally (steps : List Step) (tally : Tally) : Type 0 where
   pub threads : length tally.steps ≡ max_threads
-  pub counted : (thread : ℕ) → thread < max_threads → get_or tally.steps thread 0 ≡ steps_of steps thread
-  pub beyond : (thread : ℕ) → max_threads ≤ thread → steps_of steps thread ≡ 0
-  pub tasks : tally.tasks ≡ tasks_of steps
+  pub counted : (thread : ℕ) → thread < max_threads → get_or tally.steps thread 0 ≡ step_count steps thread
+  pub beyond : (thread : ℕ) → max_threads ≤ thread → step_count steps thread ≡ 0
+  pub tasks : tally.tasks ≡ task_count steps
 
 -- the answer to a search for a step that is named, if one is
-abbrev pub IsFound : List Step → Option (ℕ × ℕ) → Option (Option (ℕ × ℕ)) → Type 0
-IsFound steps named None = is_earlier steps named ≡ false
-IsFound steps named (Some found) = (is_earlier steps named ≡ true) × (found ≡ named)
+abbrev pub IsStepFound : List Step → Option (ℕ × ℕ) → Option (Option (ℕ × ℕ)) → Type 0
+IsStepFound steps named None = is_earlier steps named ≡ false
+IsStepFound steps named (Some found) = (is_earlier steps named ≡ true) × (found ≡ named)
 
 -- the steps are a script, and the rest is of them
-pub record IsKept (steps : List Step) (lives : BTreeMap ℕ Life) (tally : Tally) : Type 0 where
+pub record IsScriptKept (steps : List Step) (lives : BTreeMap ℕ Life) (tally : Tally) : Type 0 where
   pub script : IsScript steps
   pub are_lives : AreLives steps lives
   pub is_tally : IsTally steps tally

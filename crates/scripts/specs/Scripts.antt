@@ -51,16 +51,16 @@ life steps task = fold (λ before (s : Step). life_after before s.body task) Non
 -- ---- where a call may stand
 
 -- how many of the steps the thread has, and how many tasks the steps make
-abbrev pub steps_of : List Step → ℕ → ℕ
-steps_of steps thread = count_by (λ (s : Step). s.thread == thread) steps
+abbrev pub step_count : List Step → ℕ → ℕ
+step_count steps thread = count_by (λ (s : Step). s.thread == thread) steps
 
-abbrev pub tasks_of : List Step → ℕ
-tasks_of steps = count_by (λ (s : Step). is_some (made s.body)) steps
+abbrev pub task_count : List Step → ℕ
+task_count steps = count_by (λ (s : Step). is_some (made s.body)) steps
 
 -- the step named by its thread and its number there is one of these; or none is named
 abbrev pub is_earlier : List Step → Option (ℕ × ℕ) → Bool
 is_earlier steps None = true
-is_earlier steps (Some (thread, number)) = nat_lt number (steps_of steps thread)
+is_earlier steps (Some (thread, number)) = nat_lt number (step_count steps thread)
 
 -- whether a number is in the list twice
 abbrev pub has_twice : List ℕ → Bool
@@ -92,7 +92,7 @@ may_name steps body = is_call body && not (has_twice (named body))
 -- the steps are a script
 pub record IsScript (steps : List Step) : Type 0 where
   pub few_steps : length steps ≤ max_records
-  pub few_tasks : tasks_of steps ≤ max_tasks
+  pub few_tasks : task_count steps ≤ max_tasks
   pub lines : (i : ℕ) (s : Step) → slice_get steps i ≡ Some s → s.line ≡ i + 2
   pub follows : (i : ℕ) (s : Step) → slice_get steps i ≡ Some s
       → may_follow (take i steps) s.after s.body ≡ true
@@ -107,9 +107,9 @@ step_of steps thread after body =
 -- whether there are as many steps as there may be, or tasks where the call makes one
 abbrev pub is_full : List Step → Body → Bool
 is_full steps body =
-    nat_le max_records (length steps) || (is_some (made body) && nat_le max_tasks (tasks_of steps))
+    nat_le max_records (length steps) || (is_some (made body) && nat_le max_tasks (task_count steps))
 
 -- why the call cannot be added
-abbrev pub fault_of : List Step → Option (ℕ × ℕ) → Body → ScriptFault
-fault_of steps after body =
+abbrev pub step_fault : List Step → Option (ℕ × ℕ) → Body → ScriptFault
+step_fault steps after body =
     if may_follow steps after body then (if is_full steps body then Full else Memory) else Misplaced

@@ -1,6 +1,6 @@
 //! A script and its steps.
 ghost use Rattle.std.specs.Prelude.{◌≡◌, ◌+◌, ◌++◌, ◌∷◌, [], false, true, IfErr, IfSome, IsErr, OnOk, OnErr, is_some};
-ghost use Rattle.scripts.specs.Scripts.{may_follow, may_name, is_full, fault_of, step_of, IsScript};
+ghost use Rattle.scripts.specs.Scripts.{may_follow, may_name, is_full, step_fault, step_of, IsScript};
 
 use crate::calls::{has_twice, is_call};
 use crate::fault::ScriptFault;
@@ -35,13 +35,13 @@ pub struct Script {
 impl Model for Script {
     ghost use Rattle.std.specs.Prelude.{List};
     ghost use Rattle.scripts.specs.declared.script.Step.{Step};
-    ghost use Rattle.scripts.specs.Keeping.{IsKept};
+    ghost use Rattle.scripts.specs.Keeping.{IsScriptKept};
 
     ghost Value = { List Step };
 
     ghost view = { λ script. script.steps.items };
 
-    ghost invariant = { λ script. IsKept script.steps.items script.lives script.tally };
+    ghost invariant = { λ script. IsScriptKept script.steps.items script.lives script.tally };
 }
 
 impl Script {
@@ -84,7 +84,7 @@ impl Script {
         ensures returned { IfErr result (λ refusal. refusal.0 ≡ body) }
         ensures misplaced { may_follow self.old after body ≡ false → IsErr result }
         ensures full { is_full self.old body ≡ true → IsErr result }
-        ensures fault { IfErr result (λ refusal. refusal.1 ≡ fault_of self.old after body) }
+        ensures fault { IfErr result (λ refusal. refusal.1 ≡ step_fault self.old after body) }
     {
         let Some(after) = self.place_of(after, &body) else {
             return Err((body, ScriptFault::Misplaced));

@@ -2,7 +2,7 @@
 ghost use Rattle.std.specs.Prelude.{◌≡◌, ◌<◌, List, ◌++◌, ◌∷◌, [], get_or};
 ghost use Rattle.ompt_events.specs.Limits.{max_records};
 ghost use Rattle.scripts.specs.declared.script.Step.{Step};
-ghost use Rattle.scripts.specs.Keeping.{IsTally, IsFound};
+ghost use Rattle.scripts.specs.Keeping.{IsTally, IsStepFound};
 
 use crate::script::Step;
 
@@ -34,7 +34,7 @@ impl Tally {
     /// The step that is named by its thread and its number there, if there is such a step; where none is named,
     /// that none is.
     pub(crate) fn find(&self, named: Option<(u64, u64)>) -> Option<Option<(u8, u32)>>
-        ensures { (steps : List Step) → IsTally steps self.now → IsFound steps named result }
+        ensures { (steps : List Step) → IsTally steps self.now → IsStepFound steps named result }
     {
         let Some((thread, number)) = named else {
             return Some(None);

@@ -63,7 +63,7 @@ HasRun rs n task (On thread) = RanOn rs n task thread
 HasRun rs n task Many = RanOff rs n task
 
 -- at the index of each explicit task stands where it ran before n
-pub record AreHomes (rs : List Record) (n : ℕ) (tasks : List ℕ) (homes : List Home) : Type 0 where
+pub record AreHomesBelow (rs : List Record) (n : ℕ) (tasks : List ℕ) (homes : List Home) : Type 0 where
   pub all : length homes ≡ length tasks
   pub each : (index task : ℕ) → slice_get tasks index ≡ Some task → IsExplicit rs task
       → (home : Home) × (slice_get homes index ≡ Some home) × HasRun rs n task home
@@ -161,8 +161,8 @@ ran_still rs n task (On thread) none ran = record {
 ran_still rs n task Many none ran = off_longer rs n task ran
 
 -- a record that starts no explicit task changes nothing
-pub homes_other : (rs : List Record) (i : ℕ) (tasks : List ℕ) (homes : List Home) → AreHomes rs i tasks homes
-    → ((task : ℕ) → at started rs i ≡ Some task → IsExplicit rs task → ⊥) → AreHomes rs (i + 1) tasks homes
+pub homes_other : (rs : List Record) (i : ℕ) (tasks : List ℕ) (homes : List Home) → AreHomesBelow rs i tasks homes
+    → ((task : ℕ) → at started rs i ≡ Some task → IsExplicit rs task → ⊥) → AreHomesBelow rs (i + 1) tasks homes
 homes_other rs i tasks homes are none = record {
   all = are.all;
   each = λ index task stands explicit.
@@ -244,9 +244,9 @@ ran_more rs i task thread told Many new once explicit starts runs tells ran goes
 
 pub homes_more : (rs : List Record) (i index thread : ℕ) (told : Bool) (home new : Home) (tasks : List ℕ)
     (homes : List Home)
-    → IsFreeOf rs CreatedTwice → AreApart tasks → AreHomes rs i tasks homes → IsExplicitStart rs tasks i index
+    → IsFreeOf rs CreatedTwice → AreApart tasks → AreHomesBelow rs i tasks homes → IsExplicitStart rs tasks i index
     → thread_at rs i ≡ Some thread → told ≡ is_some (at told_turns rs i) → slice_get homes index ≡ Some home
-    → home_after home thread told ≡ Some new → AreHomes rs (i + 1) tasks (set homes index new)
+    → home_after home thread told ≡ Some new → AreHomesBelow rs (i + 1) tasks (set homes index new)
 homes_more rs i index thread told home new tasks homes once apart_all are start runs tells old goes = record {
   all = length-set homes index new ∙ are.all;
   each = λ other task stands explicit. elim (cases_eq other index) [
@@ -278,7 +278,7 @@ homes_more rs i index thread told home new tasks homes once apart_all are start 
 
 -- the entry that was read is where the task ran
 ran_there : (rs : List Record) (i index : ℕ) (home : Home) (tasks : List ℕ) (homes : List Home)
-    → AreHomes rs i tasks homes → (start : IsExplicitStart rs tasks i index)
+    → AreHomesBelow rs i tasks homes → (start : IsExplicitStart rs tasks i index)
     → slice_get homes index ≡ Some home → HasRun rs i start.task home
 ran_there rs i index home tasks homes are start old =
     let (before, there, ran) = are.each index start.task start.indexed start.explicit in
@@ -344,7 +344,7 @@ moves_from rs i task thread told Many explicit starts runs tells ran stops =
 
 pub moves_here : (rs : List Record) (i index thread : ℕ) (told : Bool) (home : Home) (tasks : List ℕ)
     (homes : List Home)
-    → ((k : ℕ) → k < i → IsMoved rs k → ⊥) → AreHomes rs i tasks homes → IsExplicitStart rs tasks i index
+    → ((k : ℕ) → k < i → IsMoved rs k → ⊥) → AreHomesBelow rs i tasks homes → IsExplicitStart rs tasks i index
     → thread_at rs i ≡ Some thread → told ≡ is_some (at told_turns rs i) → slice_get homes index ≡ Some home
     → home_after home thread told ≡ None → IsFirstWith rs Moved i
 moves_here rs i index thread told home tasks homes free are start runs tells old stops = record {
@@ -378,7 +378,7 @@ stays rs i task k thread told Many new below starts elsewhere silent runs tells 
 
 pub moves_not : (rs : List Record) (i index thread : ℕ) (told : Bool) (home new : Home) (tasks : List ℕ)
     (homes : List Home)
-    → AreHomes rs i tasks homes → IsExplicitStart rs tasks i index → thread_at rs i ≡ Some thread
+    → AreHomesBelow rs i tasks homes → IsExplicitStart rs tasks i index → thread_at rs i ≡ Some thread
     → told ≡ is_some (at told_turns rs i) → slice_get homes index ≡ Some home
     → home_after home thread told ≡ Some new → IsMoved rs i → ⊥
 moves_not rs i index thread told home new tasks homes are start runs tells old goes
@@ -462,7 +462,7 @@ ran_all rs n task Many once explicit all ran =
     sym (ap (λ b. home_told b (home_of rs task)) moves)
 
 pub homes_end : (rs : List Record) (n : ℕ) (tasks : List ℕ) (homes : List Home) → IsFreeOf rs CreatedTwice
-    → length rs ≤ n → AreHomes rs n tasks homes → AreRunOn rs tasks homes
+    → length rs ≤ n → AreHomesBelow rs n tasks homes → AreRunOn rs tasks homes
 homes_end rs n tasks homes once all are index task is explicit =
     let (home, there, ran) = are.each index task is explicit in
     there ∙ ap Some (ran_all rs n task home once explicit all ran)

@@ -32,7 +32,7 @@ use Rattle.task_tree.specs.declared.run.ThreadEvent.{ThreadEvent}
 use Rattle.task_tree.specs.declared.run.ThreadEvent.TheVariants.{Scheduled, RootBegin, RootEnd, Running}
 use Rattle.task_tree.proofs.OnceLemmas.{made_once}
 use Rattle.task_tree.proofs.SubjectLemmas.{call_index, call_task, call_none}
-use Rattle.task_states.specs.Nesting.{IsRootEvent, IsNoRootEvent, IsMemberAt, ForksInside, BeginsInside}
+use Rattle.task_states.specs.Nesting.{IsRootEvent, IsNoRootEvent, IsMemberIndex, ForksInside, BeginsInside}
 use Rattle.task_states.specs.Walks.{after_event}
 use Rattle.task_states.proofs.WalkLemmas.{AreCalled, called_push, called_drop, called_there, uncalled_there}
 use Rattle.task_states.proofs.WalkLemmas.{begin_after, end_after, thread_there, thread_low, stands_none}
@@ -118,7 +118,7 @@ initial_at run index task place found is is_made stands calls =
 
 pub member_at : (run : RunView) (index place : ℕ) (found : Option Membership) → IsRun run
     → index < length run.family.tasks → at made run.records place ≡ slice_get run.family.tasks index
-    → found ≡ at joined run.records place → (is_some found ≡ true) ↔ IsMemberAt run index
+    → found ≡ at joined run.records place → (is_some found ≡ true) ↔ IsMemberIndex run index
 member_at run index place found is within is_made joins =
     let task = get_or run.family.tasks index 0 in
     let stands = slice_get-get_or run.family.tasks index 0 within in
@@ -136,14 +136,14 @@ member_at run index place found is within is_made joins =
 
 -- each of these walks has the open roots of its thread after the first i records, by indices; the task that
 -- runs may be another
-pub record AreRoots (run : RunView) (i : ℕ) (walks : List Walk) : Type 0 where
+pub record AreOpenRoots (run : RunView) (i : ℕ) (walks : List Walk) : Type 0 where
   pub all : length walks ≡ 256
   pub whole : List Walk
   pub walked : AreWalks run.records i whole
   pub each : (thread : ℕ) → thread < 256
       → AreCalled run.family.tasks (get_or walks thread at_start).roots (get_or whole thread at_start).roots
 
-pub roots_none : (run : RunView) (walks : List Walk) → walks ≡ replicate 256 at_start → AreRoots run 0 walks
+pub roots_none : (run : RunView) (walks : List Walk) → walks ≡ replicate 256 at_start → AreOpenRoots run 0 walks
 roots_none run walks fresh =
     let are = stands_none run walks fresh in
     record {
@@ -187,14 +187,14 @@ roots_kept w _ no_begin no_end = refl
 -- the thread of a record goes on by it
 pub roots_more : (run : RunView) (i thread : ℕ) (event : ThreadEvent) (old new : List Walk) → IsRun run
     → i < length run.records → thread_at run.records i ≡ Some thread → IsRootEvent run i event
-    → AreRoots run i old → new ≡ set old thread (after_event (get_or old thread at_start) event)
-    → AreRoots run (i + 1) new
+    → AreOpenRoots run i old → new ≡ set old thread (after_event (get_or old thread at_start) event)
+    → AreOpenRoots run (i + 1) new
 roots_more run i thread event old new is_run within runs tells are is = more (get_within run.records i within)
   where
     next : Walk
     next = after_event (get_or old thread at_start) event
 
-    more : (r : Record) × (slice_get run.records i ≡ Some r) → AreRoots run (i + 1) new
+    more : (r : Record) × (slice_get run.records i ≡ Some r) → AreOpenRoots run (i + 1) new
     more (r, stands) = record {
       all = ap length is ∙ length-set old thread next ∙ are.all;
       whole = set are.whole r.thread after;
@@ -246,10 +246,10 @@ roots_more run i thread event old new is_run within runs tells are is = more (ge
 
 -- and need not where the record leaves its roots
 pub roots_same : (run : RunView) (i : ℕ) (walks : List Walk) → IsRun run → i < length run.records
-    → IsNoRootEvent run i → AreRoots run i walks → AreRoots run (i + 1) walks
+    → IsNoRootEvent run i → AreOpenRoots run i walks → AreOpenRoots run (i + 1) walks
 roots_same run i walks is_run within (no_begin, no_end) are = still (get_within run.records i within)
   where
-    still : (r : Record) × (slice_get run.records i ≡ Some r) → AreRoots run (i + 1) walks
+    still : (r : Record) × (slice_get run.records i ≡ Some r) → AreOpenRoots run (i + 1) walks
     still (r, stands) = record {
       all = are.all;
       whole = set are.whole r.thread after;
@@ -289,7 +289,7 @@ roots_same run i walks is_run within (no_begin, no_end) are = still (get_within 
 
 -- the walk that was read has the open roots of its thread
 pub roots_read : (run : RunView) (i thread : ℕ) (walks : List Walk) (walk : Walk) → thread < 256
-    → AreRoots run i walks → walk ≡ get_or walks thread walk
+    → AreOpenRoots run i walks → walk ≡ get_or walks thread walk
     → AreCalled run.family.tasks walk.roots (walk_of thread (take i run.records)).roots
 roots_read run i thread walks walk low are read =
     let P : Walk → Walk → Type 0 = λ v w. AreCalled run.family.tasks v.roots w.roots in
@@ -339,9 +339,9 @@ begins_nested run i thread walk within runs are (inl h) =
     let w = walk_of thread (take i run.records) in
     let (m, says, opened) =
     some_and (at joined run.records i)
-    (λ (m : Membership). IsSomeAnd (slice_get walk.roots 0) (IsMemberAt run)) h in
+    (λ (m : Membership). IsSomeAnd (slice_get walk.roots 0) (IsMemberIndex run)) h in
     let (index, is_first, (task, stands, member)) =
-    some_and (slice_get walk.roots 0) (IsMemberAt run) opened in
+    some_and (slice_get walk.roots 0) (IsMemberIndex run) opened in
     let (own, named, there) =
     call_task run.family.tasks (slice_get w.roots 0) (slice_get walk.roots 0) index (are 0) is_first in
     let P : ℕ → Type 0 = IsMember run.records in
@@ -380,8 +380,8 @@ nested_cases run i thread walk runs are nested = cases nested
         inr
         (inl
         (and_some (at joined run.records i)
-        (λ (x : Membership). IsSomeAnd (slice_get walk.roots 0) (IsMemberAt run)) m says
-        (and_some (slice_get walk.roots 0) (IsMemberAt run) index there
+        (λ (x : Membership). IsSomeAnd (slice_get walk.roots 0) (IsMemberIndex run)) m says
+        (and_some (slice_get walk.roots 0) (IsMemberIndex run) index there
         (outer, indexed, member))))
     cases (initial_inside task other says stands full) =
         let P : Walk → Type 0 = λ v. is_some (slice_get v.roots 0) ≡ true in

@@ -11,28 +11,28 @@ use Rattle.ompt_events.specs.declared.cause.Cause.TheVariants.{SeqGap}
 use Rattle.ompt_events.specs.Causes.{HasCause, HasSeqGap, seq_gap, IsFirstWith, IsFreeOf}
 
 -- how many records of the thread stand before i
-abbrev pub earlier : List Record → ℕ → ℕ → ℕ
-earlier rs i thread = count_by (λ (q : Record). q.thread == thread) (take i rs)
+abbrev pub thread_records_before : List Record → ℕ → ℕ → ℕ
+thread_records_before rs i thread = count_by (λ (q : Record). q.thread == thread) (take i rs)
 
 pub is_seq_gap : (rs : List Record) (i : ℕ) → HasCause rs i SeqGap → HasSeqGap rs i
 is_seq_gap rs i (seq_gap has) = has
 
 -- the record that was read has the number of its thread's earlier ones
 pub no_seq_gap : (rs : List Record) (i : ℕ) (r : Record) → i < length rs → r ≡ get_or rs i r
-    → r.seq ≡ earlier rs i r.thread → HasSeqGap rs i → ⊥
+    → r.seq ≡ thread_records_before rs i r.thread → HasSeqGap rs i → ⊥
 no_seq_gap rs i r within read numbered (q, found, apart) =
     let same : q ≡ r = same_Some q r (sym found ∙ read_get rs i r within read) in
-    apart (subst (λ (x : Record). x.seq ≡ earlier rs i x.thread) (sym same) numbered)
+    apart (subst (λ (x : Record). x.seq ≡ thread_records_before rs i x.thread) (sym same) numbered)
 
 -- one record more is counted for its own thread
 pub counted_more : (rs : List Record) (i : ℕ) (r : Record) (counts : List ℕ) → i < length rs
-    → r ≡ get_or rs i r → r.thread < length counts → ((t : ℕ) → t < 256 → get_or counts t 0 ≡ earlier rs i t)
+    → r ≡ get_or rs i r → r.thread < length counts → ((t : ℕ) → t < 256 → get_or counts t 0 ≡ thread_records_before rs i t)
     → (t : ℕ) → t < 256
-    → get_or (set counts r.thread (get_or counts r.thread 0 + 1)) t 0 ≡ earlier rs (i + 1) t
+    → get_or (set counts r.thread (get_or counts r.thread 0 + 1)) t 0 ≡ thread_records_before rs (i + 1) t
 counted_more rs i r counts within read fits counted t below = elim (cases_eq t r.thread) [
   | inl same ↦
       let here : (get_or rs i r).thread ≡ t = ap (λ (q : Record). q.thread) (sym read) ∙ sym same in
-      let more : earlier rs (i + 1) t ≡ earlier rs i t + 1 =
+      let more : thread_records_before rs (i + 1) t ≡ thread_records_before rs i t + 1 =
       count_by_more_yes (λ (q : Record). q.thread == t) rs i r within
       (eq-eqb (get_or rs i r).thread t here) in
       ap (λ j. get_or (set counts r.thread (get_or counts r.thread 0 + 1)) j 0) same
@@ -42,7 +42,7 @@ counted_more rs i r counts within read fits counted t below = elim (cases_eq t r
       ∙ sym more
   | inr apart ↦
       let here : (get_or rs i r).thread ≢ t = λ e. apart (sym e ∙ ap (λ (q : Record). q.thread) (sym read)) in
-      let same : earlier rs (i + 1) t ≡ earlier rs i t =
+      let same : thread_records_before rs (i + 1) t ≡ thread_records_before rs i t =
       count_by_more_no (λ (q : Record). q.thread == t) rs i r within
       (ne_eqb (get_or rs i r).thread t here) in
       get_or-set_other counts r.thread t (get_or counts r.thread 0 + 1) 0 apart
@@ -52,7 +52,7 @@ counted_more rs i r counts within read fits counted t below = elim (cases_eq t r
 
 -- the first record with another number
 pub first_gap : (rs : List Record) (i : ℕ) (r : Record) → i < length rs → r ≡ get_or rs i r
-    → r.seq ≢ earlier rs i r.thread → ((k : ℕ) → k < i → HasSeqGap rs k → ⊥) → IsFirstWith rs SeqGap i
+    → r.seq ≢ thread_records_before rs i r.thread → ((k : ℕ) → k < i → HasSeqGap rs k → ⊥) → IsFirstWith rs SeqGap i
 first_gap rs i r within read apart free = record {
   within = within;
   has = seq_gap (r, read_get rs i r within read, apart);

@@ -25,7 +25,7 @@ use Rattle.ompt_events.specs.Names.{demands_next}
 use Rattle.ompt_events.specs.Turns.{turns_in}
 use Rattle.ompt_events.proofs.PlaceLemmas.{range_more, at_within, at_get, get_at}
 use Rattle.ompt_events.proofs.ListLemmas.{get_within}
-use Rattle.task_tree.specs.Runs.{RunView, IsRun, IsIndexOf, status as says_status}
+use Rattle.task_tree.specs.Runs.{RunView, IsRun, IsIndexOf, schedule_status as says_status}
 use Rattle.task_tree.proofs.SubjectLemmas.{call_task}
 use Rattle.task_states.specs.declared.moves.Nature as code
 use Rattle.task_states.specs.declared.moves.Move as steps
@@ -212,14 +212,14 @@ moves_there rs i task r stands =
     map (λ move. (i, move)) (option_map_or (λ (q : Record). moves_by task q.body) o []))
     stands
 
-two : (before : List (ℕ × Move)) (i : ℕ) (u v : Move) (reads a b : Bool)
+two_moves : (before : List (ℕ × Move)) (i : ℕ) (u v : Move) (reads a b : Bool)
     → before ++ cond reads (map (λ move. (i, move)) ((cond a (u ∷ []) [] ++ cond b (v ∷ []) []) ++ [])) []
     ≡ (before ++ cond (reads && a) ((i, u) ∷ []) []) ++ cond (reads && b) ((i, v) ∷ []) []
-two before i u v true true true = sym (append_assoc before ((i, u) ∷ []) ((i, v) ∷ []))
-two before i u v true true false = sym (append-nil (before ++ (i, u) ∷ []))
-two before i u v true false true = ap (λ l. l ++ (i, v) ∷ []) (sym (append-nil before))
-two before i u v true false false = sym (append-nil (before ++ []))
-two before i u v false a b = sym (append-nil (before ++ []))
+two_moves before i u v true true true = sym (append_assoc before ((i, u) ∷ []) ((i, v) ∷ []))
+two_moves before i u v true true false = sym (append-nil (before ++ (i, u) ∷ []))
+two_moves before i u v true false true = ap (λ l. l ++ (i, v) ∷ []) (sym (append-nil before))
+two_moves before i u v true false false = sym (append-nil (before ++ []))
+two_moves before i u v false a b = sym (append-nil (before ++ []))
 
 one : (before : List (ℕ × Move)) (i : ℕ) (u : Move) (reads a : Bool)
     → before ++ cond reads (map (λ move. (i, move)) (cond a (u ∷ []) [])) []
@@ -252,7 +252,7 @@ schedule_moves pass rs i r status prior next moves stands says task =
         (and_move pass rs i (Some prior) (step.Stopped status) moves) task
     of (TaskSchedule s turns p n share) is =
         let same : (s, p, n) ≡ (status, prior, next) = same_Some (s, p, n) (status, prior, next) is in
-        two (moves task) i (Stopped s) Started reads (p == task) (is_task task n)
+        two_moves (moves task) i (Stopped s) Started reads (p == task) (is_task task n)
         ∙ ap
         (λ (t : Status × ℕ × Option ℕ).
         and_move pass rs i t.2 step.Started (and_move pass rs i (Some t.1) (step.Stopped t.0) moves)

@@ -20,13 +20,13 @@ use Rattle.task_tree.proofs.LinkLemmas.{get_set_same, get_set_other}
 use Rattle.task_states.specs.declared.moves.Nature as code
 use Rattle.task_states.specs.declared.moves.Move as steps
 use Rattle.task_states.specs.Progress.{the_nature, the_move, is_read, and_move, ProgressView, HasCome}
-use Rattle.task_states.specs.Progress.{IsRefused, earlier, refused_after}
+use Rattle.task_states.specs.Progress.{IsMoveRefused, earlier_of, refused_after}
 
 -- ---- the first move that is refused
 
 -- one more move after it changes nothing
 pub refused_still : (nature : Nature) (moves : List (ℕ × Move)) (step : ℕ × Move) (i : ℕ)
-    → IsRefused nature moves i → IsRefused nature (moves ++ step ∷ []) i
+    → IsMoveRefused nature moves i → IsMoveRefused nature (moves ++ step ∷ []) i
 refused_still nature moves step i is =
     let within = slice_get_within moves is.number (i, is.move) is.made_there in
     record {
@@ -45,7 +45,7 @@ refused_still nature moves step i is =
 -- the last move is refused where the state before it is some and the one after it is none
 pub refused_last : (nature : Nature) (moves : List (ℕ × Move)) (i : ℕ) (move : Move)
     → is_some (state_of nature moves) ≡ true → state_after nature (state_of nature moves) (i, move) ≡ None
-    → IsRefused nature (moves ++ (i, move) ∷ []) i
+    → IsMoveRefused nature (moves ++ (i, move) ∷ []) i
 refused_last nature moves i move before after =
     let longer = length_push moves (i, move) in
     record {
@@ -63,8 +63,8 @@ refused_last nature moves i move before after =
 
 -- what is refused with one more move was refused before, or is that move
 pub refused_cases : (nature : Nature) (moves : List (ℕ × Move)) (i k : ℕ) (move : Move)
-    → IsRefused nature (moves ++ (k, move) ∷ []) i
-    → IsRefused nature moves i
+    → IsMoveRefused nature (moves ++ (k, move) ∷ []) i
+    → IsMoveRefused nature moves i
     ⊎ ((i ≡ k) × (is_some (state_of nature moves) ≡ true)
     × (state_after nature (state_of nature moves) (k, move) ≡ None))
 refused_cases nature moves i k move is =
@@ -105,21 +105,21 @@ refused_cases nature moves i k move is =
 
 -- ---- the first place of all
 
-earlier_at : (first : Option ℕ) (at : ℕ) → earlier first at ≤ at
+earlier_at : (first : Option ℕ) (at : ℕ) → earlier_of first at ≤ at
 earlier_at None at = omega arith
 earlier_at (Some first) at = elim (cases_lt first at) [
   | inl below ↦ subst (λ b. cond b first at ≤ at) (sym (lt-ltb first at below)) (omega (arith, below))
   | inr above ↦ subst (λ b. cond b first at ≤ at) (sym (le-ltb first at above)) (omega arith)
 ]
 
-earlier_first : (first at : ℕ) → earlier (Some first) at ≤ first
+earlier_first : (first at : ℕ) → earlier_of (Some first) at ≤ first
 earlier_first first at = elim (cases_lt first at) [
   | inl below ↦ subst (λ b. cond b first at ≤ first) (sym (lt-ltb first at below)) (omega arith)
   | inr above ↦ subst (λ b. cond b first at ≤ first) (sym (le-ltb first at above)) above
 ]
 
 -- it is one of the two
-earlier_cases : (first : Option ℕ) (at i : ℕ) → earlier first at ≡ i → (first ≡ Some i) ⊎ (at ≡ i)
+earlier_cases : (first : Option ℕ) (at i : ℕ) → earlier_of first at ≡ i → (first ≡ Some i) ⊎ (at ≡ i)
 earlier_cases None at i is = inr is
 earlier_cases (Some first) at i is = elim (cases_lt first at) [
   | inl below ↦ inl (ap Some (sym (ap (λ b. cond b first at) (lt-ltb first at below)) ∙ is))
@@ -133,7 +133,7 @@ pub after_cases : (refused : Option ℕ) (before after : Option State) (at i : �
 after_cases refused None after at i is = inl is
 after_cases refused (Some state) (Some next) at i is = inl is
 after_cases refused (Some state) None at i is =
-    elim (earlier_cases refused at i (same_Some (earlier refused at) i is)) [
+    elim (earlier_cases refused at i (same_Some (earlier_of refused at) i is)) [
       | inl old ↦ inl old
       | inr new ↦ inr (new, refl, refl)
     ]
@@ -197,8 +197,8 @@ went_on rs tasks index task at nature move moves old new alone stands is states 
     | inl still ↦ let known = come.found i still in (known.0, kept known.0 i known.1)
     | inr (here, was, none) ↦ (
       task,
-      subst (λ l. IsRefused (nature_of rs task) l i) (sym (own task (at, move) moves))
-          (subst (λ k. IsRefused (nature_of rs task) (moves task ++ (at, move) ∷ []) k) here
+      subst (λ l. IsMoveRefused (nature_of rs task) l i) (sym (own task (at, move) moves))
+          (subst (λ k. IsMoveRefused (nature_of rs task) (moves task ++ (at, move) ∷ []) k) here
           (last i here was none)),
     )
   ];
@@ -206,8 +206,8 @@ went_on rs tasks index task at nature move moves old new alone stands is states 
     | inl same ↦
         elim
         (refused_cases (nature_of rs task) (moves task) i at move
-        (subst (λ l. IsRefused (nature_of rs task) l i) (own task (at, move) moves)
-        (subst (λ t. IsRefused (nature_of rs t) (and_one task (at, move) moves t) i) (sym same)
+        (subst (λ l. IsMoveRefused (nature_of rs task) l i) (own task (at, move) moves)
+        (subst (λ t. IsMoveRefused (nature_of rs t) (and_one task (at, move) moves t) i) (sym same)
         refuses))) [
           | inl before_it ↦
               subst (λ r. IsSomeAnd r (λ first. first ≤ i)) (sym refused)
@@ -223,7 +223,7 @@ went_on rs tasks index task at nature move moves old new alone stands is states 
         subst (λ r. IsSomeAnd r (λ first. first ≤ i)) (sym refused)
         (after_old old.refused before after at i
         (come.least other i known
-        (subst (λ l. IsRefused (nature_of rs other) l i)
+        (subst (λ l. IsMoveRefused (nature_of rs other) l i)
         (others task other (at, move) moves apart) refuses)))
   ];
 }
@@ -254,21 +254,21 @@ went_on rs tasks index task at nature move moves old new alone stands is states 
         ∙ ap (state_of (nature_of rs task)) (sym (own task (at, move) moves))
 
     last : (i : ℕ) → at ≡ i → is_some before ≡ true → after ≡ None
-        → IsRefused (nature_of rs task) (moves task ++ (at, move) ∷ []) at
+        → IsMoveRefused (nature_of rs task) (moves task ++ (at, move) ∷ []) at
     last i here was none =
         refused_last (nature_of rs task) (moves task) at move (sym (ap is_some stood) ∙ was)
         (sym afterwards ∙ none)
 
-    kept : (other i : ℕ) → IsRefused (nature_of rs other) (moves other) i
-        → IsRefused (nature_of rs other) (and_one task (at, move) moves other) i
+    kept : (other i : ℕ) → IsMoveRefused (nature_of rs other) (moves other) i
+        → IsMoveRefused (nature_of rs other) (and_one task (at, move) moves other) i
     kept other i refuses = elim (cases_eq task other) [
       | inl same ↦
-          subst (λ t. IsRefused (nature_of rs t) (and_one task (at, move) moves t) i) same
-          (subst (λ l. IsRefused (nature_of rs task) l i) (sym (own task (at, move) moves))
+          subst (λ t. IsMoveRefused (nature_of rs t) (and_one task (at, move) moves t) i) same
+          (subst (λ l. IsMoveRefused (nature_of rs task) l i) (sym (own task (at, move) moves))
           (refused_still (nature_of rs task) (moves task) (at, move) i
-          (subst (λ t. IsRefused (nature_of rs t) (moves t) i) (sym same) refuses)))
+          (subst (λ t. IsMoveRefused (nature_of rs t) (moves t) i) (sym same) refuses)))
       | inr apart ↦
-          subst (λ l. IsRefused (nature_of rs other) l i) (sym (others task other (at, move) moves apart))
+          subst (λ l. IsMoveRefused (nature_of rs other) l i) (sym (others task other (at, move) moves apart))
           refuses
     ]
 
@@ -316,10 +316,10 @@ come_same rs tasks moves moves' progress same come = record {
   found =
       λ i says.
       let known = come.found i says in
-      (known.0, subst (λ l. IsRefused (nature_of rs known.0) l i) (sym (same known.0)) known.1);
+      (known.0, subst (λ l. IsMoveRefused (nature_of rs known.0) l i) (sym (same known.0)) known.1);
   least =
       λ task i known refuses.
-      come.least task i known (subst (λ l. IsRefused (nature_of rs task) l i) (same task) refuses);
+      come.least task i known (subst (λ l. IsMoveRefused (nature_of rs task) l i) (same task) refuses);
 }
 
 read_on : (pass : Pass) (rs : List Record) (at task : ℕ) (step : steps.Move) (moves : ℕ → List (ℕ × Move))

@@ -28,8 +28,8 @@ use Rattle.task_tree.specs.OwnOrder.{AreAllPlaces}
 use Rattle.task_tree.specs.Own.{OwnView, HasCauseAt, IsFirstPlaceWith}
 use Rattle.task_tree.specs.Runs.{RunView, IsRegionEvent}
 use Rattle.task_tree.proofs.RenamedCauseLemmas.{order_within}
-use Rattle.task_states.specs.Regions.{RegionsView, AreRegions, IsLinked, IsBeginOf, below_of, top_after}
-use Rattle.task_states.specs.Regions.{IsStack, IsInnermost, IsInPlace, IsJudged, AreLinkedOrNot}
+use Rattle.task_states.specs.Regions.{RegionsView, AreRegions, IsEndLinked, IsRegionBegin, below_of, top_after}
+use Rattle.task_states.specs.Regions.{IsStack, IsInnermost, IsInPlace, IsPlaceJudged, AreLinkedOrNot}
 use Rattle.task_states.specs.Regions.{IsEarliestPlace, IsEarliest}
 
 -- a stack stays when one more link is written, or none
@@ -77,24 +77,24 @@ innermost_here run n index innermost links link are is_top task is =
     (are.stacks index task is)
 
 linked_more : (rs : List Record) (n : ℕ) (links : List (Option ℕ)) (link : Option ℕ) (misplaced : Bool)
-    → n < length links → AreLinkedOrNot rs n links → IsJudged rs n link misplaced
+    → n < length links → AreLinkedOrNot rs n links → IsPlaceJudged rs n link misplaced
     → AreLinkedOrNot rs (n + 1) (set links n link)
 linked_more rs n links link misplaced low linked judged i task kind below ends = elim (cases_eq i n) [
   | inl same ↦
       let P : ℕ → Type 0 =
-      λ j. HasCause rs j RegionOrder ⊎ IsLinked rs j task kind (slice_get (set links n link) j) in
+      λ j. HasCause rs j RegionOrder ⊎ IsEndLinked rs j task kind (slice_get (set links n link) j) in
       subst P (sym same) (here misplaced judged (ap (at region rs) (sym same) ∙ ends))
   | inr apart ↦
-      let P : Option (Option ℕ) → Type 0 = λ o. HasCause rs i RegionOrder ⊎ IsLinked rs i task kind o in
+      let P : Option (Option ℕ) → Type 0 = λ o. HasCause rs i RegionOrder ⊎ IsEndLinked rs i task kind o in
       subst P (sym (get_set_other links n i link apart))
       (linked i task kind (omega (arith, below, apart)) ends)
 ]
   where
-    here : (misplaced : Bool) → IsJudged rs n link misplaced → at region rs n ≡ Some (task, kind, End)
-        → HasCause rs n RegionOrder ⊎ IsLinked rs n task kind (slice_get (set links n link) n)
+    here : (misplaced : Bool) → IsPlaceJudged rs n link misplaced → at region rs n ≡ Some (task, kind, End)
+        → HasCause rs n RegionOrder ⊎ IsEndLinked rs n task kind (slice_get (set links n link) n)
     here true has ends' = inl has
     here false fine ends' =
-        let P : Option (Option ℕ) → Type 0 = IsLinked rs n task kind in
+        let P : Option (Option ℕ) → Type 0 = IsEndLinked rs n task kind in
         inr (subst P (sym (get_set_same links n link low)) (fine.linked task kind ends'))
 
 linked_still : (rs : List Record) (n : ℕ) (links : List (Option ℕ)) → AreLinkedOrNot rs n links
@@ -137,7 +137,7 @@ pub open_more_own : (run : RunView) (n index : ℕ) (kind : SyncKind) (endpoint 
     (innermost links : List (Option ℕ)) (link : Option ℕ) (misplaced : Bool)
     → AreApart run.family.tasks → AreOpen run.records n run.family.tasks innermost links
     → IsRegionEvent run n index kind endpoint → link ≡ top_of innermost index → n < length run.records
-    → IsJudged run.records n link misplaced
+    → IsPlaceJudged run.records n link misplaced
     → AreOpen run.records (n + 1) run.family.tasks (set innermost index (top_after links link n endpoint))
     (set links n link)
 open_more_own run n index kind endpoint innermost links link misplaced apart_all are own is_top inside judged
@@ -213,7 +213,7 @@ pub placed_here : (run : RunView) (n index : ℕ) (kind : SyncKind) (endpoint : 
 placed_here run n index kind endpoint link own top found unbarred = record { linked = linked; free = free }
   where
     linked : (task : ℕ) (kind' : SyncKind) → at region run.records n ≡ Some (task, kind', End)
-        → IsLinked run.records n task kind' (Some link)
+        → IsEndLinked run.records n task kind' (Some link)
     linked task kind' ends =
         let same = same_Some (own.task, kind, endpoint) (task, kind', End) (sym own.says ∙ ends) in
         let is_end : endpoint ≡ End = ap (λ (p : ℕ × SyncKind × Endpoint). p.2) same in
@@ -253,7 +253,7 @@ pub free_of_order : (rs : List Record) (n : ℕ) → ((k : ℕ) → k < n → Ha
 free_of_order rs n free all i has = free i (let inside = order_within rs i has in omega arith) has
 
 pub judged_has : (rs : List Record) (i : ℕ) (link : Option ℕ) (misplaced : Bool)
-    → IsJudged rs i link misplaced → IsTrue misplaced ↔ HasCause rs i RegionOrder
+    → IsPlaceJudged rs i link misplaced → IsTrue misplaced ↔ HasCause rs i RegionOrder
 judged_has rs i link true has = (λ yes. has, λ h. refl)
 judged_has rs i link false fine = (λ never. absurd (false≢true never), λ h. absurd (fine.free h))
 
@@ -321,14 +321,14 @@ earliest_first own cause n place all last is = record {
 
 -- a begin and end in one began there
 pub once_begin : (rs : List Record) (i own : ℕ) (kind : SyncKind)
-    → at region rs i ≡ Some (own, kind, BeginEnd) → IsBeginOf rs i i
+    → at region rs i ≡ Some (own, kind, BeginEnd) → IsRegionBegin rs i i
 once_begin rs i own kind says task other endpoint there =
     let same = same_says rs i own task kind other BeginEnd endpoint says there in
     let P : Endpoint → Type 0 = λ e. at region rs i ≡ Some (task, other, e) in
     at_once (subst P (sym same.2) there)
 
 later_begin : (rs : List Record) (i own begin : ℕ) (kind : SyncKind) → at region rs i ≡ Some (own, kind, End)
-    → EndsRegion rs i own kind begin → IsBeginOf rs i begin
+    → EndsRegion rs i own kind begin → IsRegionBegin rs i begin
 later_begin rs i own begin kind says ends task other endpoint there =
     let same = same_says rs i own task kind other End endpoint says there in
     let P : ℕ → Type 0 = λ t. IsRegion rs i t other begin in
@@ -341,7 +341,7 @@ pub linked_begin : (regions : RegionsView) (i own : ℕ) (kind : SyncKind) (foun
     → found ≡ slice_index_or regions.begins i None
     → MatchOption found
     ((task begin : ℕ) (other : SyncKind) → IsRegion regions.own.run.records i task other begin → ⊥)
-    (IsBeginOf regions.own.run.records i)
+    (IsRegionBegin regions.own.run.records i)
 linked_begin regions i own kind found are says read =
     let rs = regions.own.run.records in
     let there = are.begins i own kind (at_within region rs i (own, kind, End) says) says in
@@ -354,5 +354,5 @@ linked_begin regions i own kind found are says read =
     let P : Option ℕ → Type 0 =
     λ o.
     MatchOption o ((task begin : ℕ) (other : SyncKind) → IsRegion rs i task other begin → ⊥)
-    (IsBeginOf rs i) in
+    (IsRegionBegin rs i) in
     subst P same (later_begin rs i own there.0 kind says there.2)

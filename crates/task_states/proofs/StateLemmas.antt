@@ -39,8 +39,8 @@ use Rattle.task_tree.specs.Own.{OwnView, of_regions, IsOwnFault}
 use Rattle.task_tree.specs.Families.{IsOwnOf}
 use Rattle.task_tree.proofs.ShownLemmas.{own_fault}
 use Rattle.task_states.proofs.ShownFaultLemmas.{shown_alone, shown_before, shown_after}
-use Rattle.task_states.specs.Progress.{ProgressView, HasCome, IsRefused}
-use Rattle.task_states.specs.States.{StatesView, IsStates, IsLast}
+use Rattle.task_states.specs.Progress.{ProgressView, HasCome, IsMoveRefused}
+use Rattle.task_states.specs.States.{StatesView, IsStates, IsLastState}
 
 -- ---- a task that moves is one that a record makes
 
@@ -280,7 +280,7 @@ moved_by rs task i move has = by (has_moved rs task) has
         ]
 
 refused_there : (rs : List Record) (family : FamilyView) (task i : ℕ) → IsFamilyOf rs family
-    → IsRefused (nature_of rs task) (all_moves_of rs task) i → (i < length rs) × Contains family.tasks task
+    → IsMoveRefused (nature_of rs task) (all_moves_of rs task) i → (i < length rs) × Contains family.tasks task
 refused_there rs family task i are refused =
     let has =
     moved_by rs task i refused.move
@@ -305,7 +305,7 @@ state_of_cause : (rs : List Record) (i : ℕ) → HasCause rs i StatusOrder → 
 state_of_cause rs i (status_order h) = h
 
 refused_of : (rs : List Record) (i : ℕ) → (h : HasNoState rs i)
-    → IsRefused (nature_of rs h.task) (all_moves_of rs h.task) i
+    → IsMoveRefused (nature_of rs h.task) (all_moves_of rs h.task) i
 refused_of rs i h = record {
   number = h.number;
   move = h.move;
@@ -314,7 +314,7 @@ refused_of rs i h = record {
   not_allowed = h.not_allowed;
 }
 
-no_state_of : (rs : List Record) (task i : ℕ) → IsRefused (nature_of rs task) (all_moves_of rs task) i
+no_state_of : (rs : List Record) (task i : ℕ) → IsMoveRefused (nature_of rs task) (all_moves_of rs task) i
     → HasNoState rs i
 no_state_of rs task i all = record {
   task = task;
@@ -432,7 +432,7 @@ fault_region rs own fault of all current stay gapless ordered found =
 -- the state that was read
 pub last_is : (states : StatesView) (task index : ℕ) (read : Option State) → IsStates states
     → slice_get states.run.family.tasks index ≡ Some task → slice_get states.states index ≡ Some read
-    → IsLast states.run.records task read
+    → IsLastState states.run.records task read
 last_is states task index read are stands read_there =
     let rs = states.run.records in (
       λ made.
@@ -445,7 +445,7 @@ last_is states task index read are stands read_there =
 
 pub last_none : (states : StatesView) (task : ℕ) (index : Option ℕ) → IsStates states
     → ((k : ℕ) → (index ≡ Some k) ↔ (slice_get states.run.family.tasks k ≡ Some task)) → index ≡ None
-    → IsLast states.run.records task None
+    → IsLastState states.run.records task None
 last_none states task index are is none = (
   λ (place, makes). let (k, stands) =
       contains_get states.run.family.tasks task

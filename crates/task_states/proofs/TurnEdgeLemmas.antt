@@ -34,9 +34,9 @@ use Rattle.task_states.specs.TurnEdges.{IsNoEdge}
 
 -- ---- the turn at a place
 
-said : (edge : Edge) (rs : List Record) (i : ℕ) (r : Record) → slice_get rs i ≡ Some r
+edge_said : (edge : Edge) (rs : List Record) (i : ℕ) (r : Record) → slice_get rs i ≡ Some r
     → at (edge_turn edge) rs i ≡ edge_turn edge r.body
-said edge rs i r stands = ap (option_and_then (λ (q : Record). edge_turn edge q.body)) stands
+edge_said edge rs i r stands = ap (option_and_then (λ (q : Record). edge_turn edge q.body)) stands
 
 abbrev turn_if : List Record → Option (ℕ × ℕ) → Option ℕ
 turn_if rs found = option_and_then (λ (b : ℕ × ℕ). cond (has_moved rs b.0) (Some b.1) None) found
@@ -80,7 +80,7 @@ none_begun rs i silent = there (slice_get rs i) refl silent
     there None e is =
         ap (λ (o : Option Record). turn_if rs (option_and_then (λ (q : Record). begun_turn q.body) o)) e
     there (Some r) e is =
-        ap (turn_if rs) (said Begins rs i r e ∙ ap (option_map {U = ℕ × ℕ} (λ t. (t, next_turn r.body))) is)
+        ap (turn_if rs) (edge_said Begins rs i r e ∙ ap (option_map {U = ℕ × ℕ} (λ t. (t, next_turn r.body))) is)
 
 -- where nothing is scheduled, none ends one
 pub none_ended : (rs : List Record) (i : ℕ) → at schedule rs i ≡ None → moved_turn Ends rs i ≡ None
@@ -94,7 +94,7 @@ none_ended rs i silent = there (slice_get rs i) refl silent
         → option_and_then (λ (q : Record). schedule q.body) o ≡ None → moved_turn Ends rs i ≡ None
     there None e is =
         ap (λ (o : Option Record). turn_if rs (option_and_then (λ (q : Record). ended_turn q.body) o)) e
-    there (Some r) e is = ap (turn_if rs) (said Ends rs i r e ∙ of r.body is)
+    there (Some r) e is = ap (turn_if rs) (edge_said Ends rs i r e ∙ of r.body is)
 
 -- ---- the rows
 
@@ -216,7 +216,7 @@ end_alone rs i prior turn other status next says here =
     let (own, ends, moves) = edge_is Ends rs i turn here in
     let (r, stands, is) = get_at schedule rs i (status, prior, next) says in
     let same : own ≡ prior =
-    ended_own r.body prior status next is (own, turn) (sym (said Ends rs i r stands) ∙ ends) in
+    ended_own r.body prior status next is (own, turn) (sym (edge_said Ends rs i r stands) ∙ ends) in
     ap (λ o. cond (is_turn other turn o) (stopped_there (slice_get rs i)) []) ends
     ∙ ap (λ b. cond ((own == other) && b) (stopped_there (slice_get rs i)) []) (eq-eqb turn turn refl)
     ∙ ap (λ t. cond ((t == other) && true) (stopped_there (slice_get rs i)) []) same

@@ -166,7 +166,7 @@ indexed_after tasks walk w (Running index) b (none, no_begin, no_end, runs) is =
 -- ---- all threads
 
 -- each of these walks is that of its thread after the first i records, by indices
-pub record AreStanding (run : RunView) (i : ℕ) (walks : List Walk) : Type 0 where
+pub record AreThreadWalks (run : RunView) (i : ℕ) (walks : List Walk) : Type 0 where
   pub all : length walks ≡ 256
   pub whole : List Walk
   pub walked : AreWalks run.records i whole
@@ -174,7 +174,7 @@ pub record AreStanding (run : RunView) (i : ℕ) (walks : List Walk) : Type 0 wh
       → IsIndexed run.family.tasks (get_or walks thread at_start) (get_or whole thread at_start)
 
 pub stands_none : (run : RunView) (walks : List Walk) → walks ≡ replicate 256 at_start
-    → AreStanding run 0 walks
+    → AreThreadWalks run 0 walks
 stands_none run walks fresh = record {
   all = ap length fresh ∙ length-replicate 256 at_start;
   whole = replicate 256 at_start;
@@ -197,10 +197,10 @@ thread_there run i thread r stands runs =
 -- the walks of the definitions go on, and those by indices where the record's thread goes on so
 goes_on : (run : RunView) (i thread : ℕ) (r : Record) (old new : List Walk) (next : Walk)
     → i < length run.records → slice_get run.records i ≡ Some r → r.thread ≡ thread → thread < 256
-    → AreStanding run i old → new ≡ set old thread next
+    → AreThreadWalks run i old → new ≡ set old thread next
     → ((w : Walk) → IsIndexed run.family.tasks (get_or old thread at_start) w
     → IsIndexed run.family.tasks next (after_body w r.body))
-    → AreStanding run (i + 1) new
+    → AreThreadWalks run (i + 1) new
 goes_on run i thread r old new next within stands is_thread low are is more = record {
   all = ap length is ∙ length-set old thread next ∙ are.all;
   whole = set are.whole r.thread (after_body (get_or are.whole r.thread at_start) r.body);
@@ -245,8 +245,8 @@ thread_low run i r is stands =
 
 pub stands_more : (run : RunView) (i thread : ℕ) (event : ThreadEvent) (old new : List Walk) → IsRun run
     → i < length run.records → thread_at run.records i ≡ Some thread → IsThreadEvent run i event
-    → AreStanding run i old → new ≡ set old thread (after_event (get_or old thread at_start) event)
-    → AreStanding run (i + 1) new
+    → AreThreadWalks run i old → new ≡ set old thread (after_event (get_or old thread at_start) event)
+    → AreThreadWalks run (i + 1) new
 stands_more run i thread event old new is_run within runs tells are is =
     let (r, stands) = get_within run.records i within in
     let same = thread_there run i thread r stands runs in
@@ -260,10 +260,10 @@ stands_more run i thread event old new is_run within runs tells are is =
 
 -- a record that says nothing of them leaves all walks as they are
 pub stands_still : (run : RunView) (i : ℕ) (walks : List Walk) → IsRun run → i < length run.records
-    → IsNoThreadEvent run i → AreStanding run i walks → AreStanding run (i + 1) walks
+    → IsNoThreadEvent run i → AreThreadWalks run i walks → AreThreadWalks run (i + 1) walks
 stands_still run i walks is_run within nothing are = still (get_within run.records i within)
   where
-    still : (r : Record) × (slice_get run.records i ≡ Some r) → AreStanding run (i + 1) walks
+    still : (r : Record) × (slice_get run.records i ≡ Some r) → AreThreadWalks run (i + 1) walks
     still (r, stands) = record {
       all = are.all;
       whole = set are.whole r.thread after;
@@ -299,7 +299,7 @@ stands_still run i walks is_run within nothing are = still (get_within run.recor
 
 -- the walk that was read is that of its thread
 pub indexed_read : (run : RunView) (i thread : ℕ) (walks : List Walk) (walk : Walk) → thread < 256
-    → AreStanding run i walks → walk ≡ get_or walks thread walk
+    → AreThreadWalks run i walks → walk ≡ get_or walks thread walk
     → IsIndexed run.family.tasks walk (walk_of thread (take i run.records))
 indexed_read run i thread walks walk low are read =
     let P : Walk → Walk → Type 0 = IsIndexed run.family.tasks in

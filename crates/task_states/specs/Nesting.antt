@@ -21,8 +21,8 @@ abbrev pub IsNoRootEvent : RunView → ℕ → Type 0
 IsNoRootEvent run i = IsIndexOf run begun_root i None × IsIndexOf run ended_root i None
 
 -- the task at the index is a member of a team
-abbrev pub IsMemberAt : RunView → ℕ → Type 0
-IsMemberAt run index =
+abbrev pub IsMemberIndex : RunView → ℕ → Type 0
+IsMemberIndex run index =
     (task : ℕ) × (slice_get run.family.tasks index ≡ Some task) × IsMember run.records task
 
 -- a task that isn't initial begins a parallel region
@@ -33,7 +33,7 @@ ForksInside rs i = IsSomeAnd (at forked rs i) (λ (p : ℕ × ℕ). IsInitial rs
 abbrev pub JoinsInside : RunView → Walk → ℕ → Type 0
 JoinsInside run walk i =
     IsSomeAnd (at joined run.records i)
-    (λ (m : Membership). IsSomeAnd (slice_get walk.roots 0) (IsMemberAt run))
+    (λ (m : Membership). IsSomeAnd (slice_get walk.roots 0) (IsMemberIndex run))
 
 -- an initial task begins while a root is open
 abbrev pub InitialInside : RunView → Walk → ℕ → Type 0

@@ -17,7 +17,7 @@ use Rattle.ompt_events.specs.States.{is_task, is_on, is_early, home_of, has_move
 use Rattle.ompt_events.specs.States.{nature_of, state_of}
 use Rattle.ompt_events.specs.Names.{demands_next}
 use Rattle.ompt_events.specs.Turns.{turns_in}
-use Rattle.task_tree.specs.Runs.{RunView, IsRun, status as says_status}
+use Rattle.task_tree.specs.Runs.{RunView, IsRun, schedule_status as says_status}
 use Rattle.task_states.specs.declared.homes.Home as homes
 use Rattle.task_states.specs.declared.homes.Home.TheVariants as runs
 use Rattle.task_states.specs.Homes.{home_at}
@@ -91,7 +91,7 @@ pub record AreLeft (rs : List Record) (n : ℕ) (left : List ℕ) : Type 0 where
   pub all : (task : ℕ) → moves_read Rest rs left task ≡ moves_before Rest rs n task
 
 -- of these moves the one at i is the first that the task's state does not allow
-pub record IsRefused (nature : states.Nature) (moves : List (ℕ × states.Move)) (i : ℕ) : Type 0 where
+pub record IsMoveRefused (nature : states.Nature) (moves : List (ℕ × states.Move)) (i : ℕ) : Type 0 where
   pub number : ℕ
   pub move : states.Move
   pub made_there : slice_get moves number ≡ Some (i, move)
@@ -105,13 +105,13 @@ pub record ProgressView : Type 0 where
   pub refused : Option ℕ
 
 -- the earlier of the two, where there are two
-abbrev pub earlier : Option ℕ → ℕ → ℕ
-earlier None at = at
-earlier (Some first) at = if ltb first at then first else at
+abbrev pub earlier_of : Option ℕ → ℕ → ℕ
+earlier_of None at = at
+earlier_of (Some first) at = if ltb first at then first else at
 
 -- the first place at which a move was not allowed, after a move at this place from the one state to the other
 abbrev pub refused_after : Option ℕ → Option State → Option State → ℕ → Option ℕ
-refused_after refused (Some state) None at = Some (earlier refused at)
+refused_after refused (Some state) None at = Some (earlier_of refused at)
 refused_after refused _ _ at = refused
 
 -- each task has come as far as these moves take it
@@ -121,8 +121,8 @@ pub record HasCome (rs : List Record) (tasks : List ℕ) (moves : ℕ → List (
   pub each : (n task : ℕ) → slice_get tasks n ≡ Some task
       → slice_get progress.states n ≡ Some (state_of (nature_of rs task) (moves task))
   pub found : (i : ℕ) → progress.refused ≡ Some i
-      → (task : ℕ) × IsRefused (nature_of rs task) (moves task) i
-  pub least : (task i : ℕ) → Contains tasks task → IsRefused (nature_of rs task) (moves task) i
+      → (task : ℕ) × IsMoveRefused (nature_of rs task) (moves task) i
+  pub least : (task i : ℕ) → Contains tasks task → IsMoveRefused (nature_of rs task) (moves task) i
       → IsSomeAnd progress.refused (λ first. first ≤ i)
 
 -- the moves of a task and, where the pass reads it for the task that was found, one more at n

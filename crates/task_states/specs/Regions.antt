@@ -21,14 +21,14 @@ pub record RegionsView : Type 0 where
   pub begins : List (Option ℕ)
 
 -- the end at i belongs to a begin, whose number the link is
-abbrev pub IsLinked : List Record → ℕ → ℕ → SyncKind → Option (Option ℕ) → Type 0
-IsLinked rs i task kind link = (begin : ℕ) × (link ≡ Some (Some begin)) × EndsRegion rs i task kind begin
+abbrev pub IsEndLinked : List Record → ℕ → ℕ → SyncKind → Option (Option ℕ) → Type 0
+IsEndLinked rs i task kind link = (begin : ℕ) × (link ≡ Some (Some begin)) × EndsRegion rs i task kind begin
 
 -- the end of each region that one of the first n records ends has the number of its begin
 abbrev pub AreLinked : List Record → ℕ → List (Option ℕ) → Type 0
 AreLinked rs n links =
     (i task : ℕ) (kind : SyncKind) → i < n → at region rs i ≡ Some (task, kind, End)
-    → IsLinked rs i task kind (slice_get links i)
+    → IsEndLinked rs i task kind (slice_get links i)
 
 -- the begins are those of the run
 pub record AreRegions (regions : RegionsView) : Type 0 where
@@ -36,8 +36,8 @@ pub record AreRegions (regions : RegionsView) : Type 0 where
   pub begins : AreLinked regions.own.run.records (length regions.own.run.records) regions.begins
 
 -- the region that ends at i began there; a begin and end in one began at its own place
-abbrev pub IsBeginOf : List Record → ℕ → ℕ → Type 0
-IsBeginOf rs i begin = (task : ℕ) (kind : SyncKind) (endpoint : Endpoint)
+abbrev pub IsRegionBegin : List Record → ℕ → ℕ → Type 0
+IsRegionBegin rs i begin = (task : ℕ) (kind : SyncKind) (endpoint : Endpoint)
     → at region rs i ≡ Some (task, kind, endpoint) → IsRegion rs i task kind begin
 
 -- ---- the search
@@ -67,19 +67,19 @@ IsInnermost run i index opened = (task : ℕ) → slice_get run.family.tasks ind
 -- where this region is the innermost open one, an end at i belongs to it, and the record hasn't the cause
 pub record IsInPlace (rs : List Record) (i : ℕ) (opened : Option ℕ) : Type 0 where
   pub linked : (task : ℕ) (kind : SyncKind) → at region rs i ≡ Some (task, kind, End)
-      → IsLinked rs i task kind (Some opened)
+      → IsEndLinked rs i task kind (Some opened)
   pub free : HasCause rs i RegionOrder → ⊥
 
 -- the region may not begin or end there, or it may
-abbrev pub IsJudged : List Record → ℕ → Option ℕ → Bool → Type 0
-IsJudged rs i opened true = HasCause rs i RegionOrder
-IsJudged rs i opened false = IsInPlace rs i opened
+abbrev pub IsPlaceJudged : List Record → ℕ → Option ℕ → Bool → Type 0
+IsPlaceJudged rs i opened true = HasCause rs i RegionOrder
+IsPlaceJudged rs i opened false = IsInPlace rs i opened
 
 -- the end of each region that one of the first n records ends has the number of its begin, if it has one
 abbrev pub AreLinkedOrNot : List Record → ℕ → List (Option ℕ) → Type 0
 AreLinkedOrNot rs n links =
     (i task : ℕ) (kind : SyncKind) → i < n → at region rs i ≡ Some (task, kind, End)
-    → HasCause rs i RegionOrder ⊎ IsLinked rs i task kind (slice_get links i)
+    → HasCause rs i RegionOrder ⊎ IsEndLinked rs i task kind (slice_get links i)
 
 -- this is the first place in the file of those of the first n records that have the cause
 pub record IsEarliestPlace (own : OwnView) (cause : Cause) (n place : ℕ) : Type 0 where

@@ -30,7 +30,7 @@ pub record IsStates (states : StatesView) : Type 0 where
   pub regions : AreRegions states.regions
 
 -- the state after all moves of a task that a record makes; of any other task there is none
-abbrev pub IsLast : List Record → ℕ → Option State → Type 0
-IsLast rs task found =
+abbrev pub IsLastState : List Record → ℕ → Option State → Type 0
+IsLastState rs task found =
     (IsMade rs task → found ≡ state_of (nature_of rs task) (all_moves_of rs task))
     × ((IsMade rs task → ⊥) → found ≡ None)

@@ -4,7 +4,7 @@ ghost use Rattle.ompt_events.specs.declared.cause.Cause.TheVariants.{NestedParal
 ghost use Rattle.ompt_events.specs.Teams.{IsInitial};
 ghost use Rattle.ompt_events.specs.Faults.{FindsFirst};
 ghost use Rattle.task_tree.specs.Runs.{IsRun};
-ghost use Rattle.task_states.specs.Nesting.{IsRootEvent, IsNoRootEvent, IsMemberAt, ForksInside, JoinsInside, InitialInside, BeginsInside};
+ghost use Rattle.task_states.specs.Nesting.{IsRootEvent, IsNoRootEvent, IsMemberIndex, ForksInside, JoinsInside, InitialInside, BeginsInside};
 
 use crate::walk::{ThreadWalk, new_walks};
 use std::alloc::{AllocError, Global};
@@ -85,7 +85,7 @@ fn joins_inside(run: &Run, walk: &ThreadWalk, at: usize) -> bool
 fn has_member(run: &Run, task: Option<usize>) -> bool
     requires is_run { IsRun run.now }
     requires known { IfSome task (λ index. index < length run.now.family.tasks) }
-    ensures { IsTrue result ↔ IsSomeAnd task (IsMemberAt run.now) }
+    ensures { IsTrue result ↔ IsSomeAnd task (IsMemberIndex run.now) }
 {
     match task {
         Some(index) => is_member(run, index),
@@ -115,7 +115,7 @@ fn is_initial(run: &Run, index: usize) -> bool
 fn is_member(run: &Run, index: usize) -> bool
     requires within { index < length run.now.family.tasks }
     requires is_run { IsRun run.now }
-    ensures { IsTrue result ↔ IsMemberAt run.now index }
+    ensures { IsTrue result ↔ IsMemberIndex run.now index }
 {
     run.joined(run.made_at(index)).is_some()
 }

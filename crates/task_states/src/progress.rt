@@ -11,7 +11,7 @@ ghost use Rattle.ompt_events.specs.States.{first_state, state_after, all_moves_o
 ghost use Rattle.task_tree.specs.Runs.{IsRun, IsIndexOf};
 ghost use Rattle.task_states.specs.TurnEdges.{is_edge, edge_moves, IsNoEdge, IsEdgeMove};
 ghost use Rattle.task_states.specs.declared.progress.Pass.TheVariants.{Early, Home, Rest};
-ghost use Rattle.task_states.specs.Progress.{the_nature, the_move, earlier, refused_after, reads, is_read, is_read_for, and_move, and_record, moves_before, IsMoveOf, IsReadWhole, AreLeft, HasCome};
+ghost use Rattle.task_states.specs.Progress.{the_nature, the_move, earlier_of, refused_after, reads, is_read, is_read_for, and_move, and_record, moves_before, IsMoveOf, IsReadWhole, AreLeft, HasCome};
 
 use crate::homes::Schedules;
 use crate::moves::{Move, Nature, after_move, fulfils_early, is_early_move};
@@ -362,7 +362,7 @@ fn note_refused(refused: &mut Option<usize>, after: Option<State>, at: usize)
 
 /// The earlier of the two, where there are two.
 fn earlier(first: Option<usize>, at: usize) -> usize
-    ensures { result ≡ earlier first at }
+    ensures { result ≡ earlier_of first at }
 {
     match first {
         Some(place) => { if place < at { place } else { at } }

@@ -8,7 +8,7 @@ ghost use Rattle.ompt_events.specs.Regions.{kind_at, is_called_barrier, IsRegion
 ghost use Rattle.ompt_events.specs.Causes.{HasCause, IsFreeOf};
 ghost use Rattle.task_tree.specs.Runs.{IsRegionEvent};
 ghost use Rattle.task_tree.specs.Own.{IsOwnFault};
-ghost use Rattle.task_states.specs.Regions.{AreLinked, AreRegions, IsBeginOf, IsEarliest, IsInnermost, IsJudged, top_after};
+ghost use Rattle.task_states.specs.Regions.{AreLinked, AreRegions, IsRegionBegin, IsEarliest, IsInnermost, IsPlaceJudged, top_after};
 
 use ompt_events::{Cause, Endpoint, Fault, SyncKind};
 use std::alloc::{AllocError, Global};
@@ -66,7 +66,7 @@ impl<'a> Regions<'a> {
         requires { number < length self.now.own.run.records }
         ensures { MatchOption result ((task begin : ℕ) (kind : SyncKind)
             → IsRegion self.now.own.run.records number task kind begin → ⊥)
-            (IsBeginOf self.now.own.run.records number) }
+            (IsRegionBegin self.now.own.run.records number) }
     {
         let event = self.own.run().region(number)?;
         match event.endpoint {
@@ -131,7 +131,7 @@ fn earlier(own: &Own, earliest: Option<usize>, number: usize, has: bool) -> Opti
 fn is_misplaced(run: &Run, number: usize, opened: Option<usize>, event: RegionEvent) -> bool
     requires event { IsRegionEvent run.now number event.task event.kind event.endpoint }
     requires opened { IsInnermost run.now number event.task opened }
-    ensures { IsJudged run.now.records number opened result }
+    ensures { IsPlaceJudged run.now.records number opened result }
 {
     let _tasks = run.task_count();
     if misses_begin(run, opened, event) {

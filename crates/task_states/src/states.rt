@@ -4,7 +4,7 @@ ghost use Rattle.ompt_events.specs.declared.cause.Cause.TheVariants.{NotCurrent,
 ghost use Rattle.ompt_events.specs.Causes.{IsFreeOf};
 ghost use Rattle.ompt_events.specs.Faults.{FindsFirst, IsFault, IsShownFault};
 ghost use Rattle.task_tree.specs.Families.{IsOwnOf};
-ghost use Rattle.task_states.specs.States.{AreStates, IsStates, IsLast};
+ghost use Rattle.task_states.specs.States.{AreStates, IsStates, IsLastState};
 
 use crate::current::find_misfit;
 use crate::homes::{Schedules, find_moved};
@@ -91,7 +91,7 @@ impl<'a> States<'a> {
 
     /// The state of the task after all its records; none for a task that no record makes.
     pub fn last(&self, task: u64) -> Option<State>
-        ensures { IsLast self.now.run.records task result }
+        ensures { IsLastState self.now.run.records task result }
     {
         match self.run.index_of(task) {
             Some(index) => self.states[index],

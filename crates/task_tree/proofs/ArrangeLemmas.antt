@@ -16,12 +16,12 @@ use Rattle.ompt_events.specs.Turns.{turn_at, own_places}
 use Rattle.ompt_events.proofs.ListLemmas.{get_contains, contains_get}
 use Rattle.task_tree.specs.TurnTable.{AreTurns}
 use Rattle.task_tree.specs.GapSearch.{pair_cmp}
-use Rattle.task_tree.specs.OwnOrder.{AreInverse, AreApartBelow, AreNumbers}
+use Rattle.task_tree.specs.OwnOrder.{AreInverse, AreApartBelow, AreOrderNumbers}
 use Rattle.task_tree.proofs.RankedLemmas.{Every, every_get, every_weaker, row_below, Comes}
 use Rattle.task_tree.proofs.SortedLemmas.{ranked_from, ranked_equal, map_range, pair_order, apart_in_order}
 use Rattle.task_tree.proofs.SortedLemmas.{sorted_order}
 use Rattle.task_tree.proofs.OwnOrderLemmas.{own_permuted, own_ranked, own_length, own_has, own_within}
-use Rattle.task_tree.proofs.OwnOrderLemmas.{own_place_of, not_both}
+use Rattle.task_tree.proofs.OwnOrderLemmas.{own_place_of, not_either_way}
 
 -- ---- the turns by place
 
@@ -65,7 +65,7 @@ pub sorted_is_own : (rs : List Record) (turns : List ℕ) (keys sorted : List (�
     → IsPermutation keys sorted → IsSorted pair_cmp sorted → ordered ≡ map (λ (key : ℕ × ℕ). key.1) sorted
     → ordered ≡ own_places rs
 sorted_is_own rs turns keys sorted ordered are keys_are moved in_order read =
-    ranked_equal (Comes (turn_at rs)) (not_both rs) ordered (own_places rs)
+    ranked_equal (Comes (turn_at rs)) (not_either_way rs) ordered (own_places rs)
     (ranked_from (Comes (turn_at rs)) ordered comes) (own_ranked rs)
     (IsPermutation-trans ordered (places rs) (own_places rs) (IsPermutation-sym (places rs) ordered permuted)
     (own_permuted rs))
@@ -137,7 +137,7 @@ own_apart rs ordered is = record {
 
 -- the numbers by place and the places by number are inverse
 pub are_inverse : (rs : List Record) (ordered numbers : List ℕ) → ordered ≡ own_places rs
-    → AreNumbers ordered (length ordered) numbers → AreInverse ordered numbers
+    → AreOrderNumbers ordered (length ordered) numbers → AreInverse ordered numbers
 are_inverse rs ordered numbers is are = record {
   all = are.all;
   back = λ place number stands. numbered place number stands;

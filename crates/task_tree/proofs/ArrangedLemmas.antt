@@ -154,9 +154,9 @@ arranged_trace version rs trace = record {
 -- ---- the same tasks
 
 -- what a record says stands where the record does
-said : {X : Type 0} (f : Body → Option X) (rs : List Record) (n i : ℕ) → slice_get (own_places rs) n ≡ Some i
+said_in_order : {X : Type 0} (f : Body → Option X) (rs : List Record) (n i : ℕ) → slice_get (own_places rs) n ≡ Some i
     → at f (in_own_order rs) n ≡ at f rs i
-said f rs n i stands =
+said_in_order f rs n i stands =
     ap (λ (o : Option Record). option_and_then (λ (r : Record). f r.body) o) (arranged_at rs n i stands)
 
 -- something that a record says is said of the arranged records too
@@ -164,7 +164,7 @@ said_there : {X : Type 0} (f : Body → Option X) (rs : List Record) (i : ℕ) (
     → (n : ℕ) × (at f (in_own_order rs) n ≡ Some x)
 said_there f rs i x says =
     let has = own_has rs i (at_within f rs i x says) in
-    (has.0, said f rs has.0 i has.1 ∙ says)
+    (has.0, said_in_order f rs has.0 i has.1 ∙ says)
 
 -- and what the arranged records say is said in the file
 pub said_here : {X : Type 0} (f : Body → Option X) (rs : List Record) (n : ℕ) (x : X)
@@ -172,7 +172,7 @@ pub said_here : {X : Type 0} (f : Body → Option X) (rs : List Record) (n : ℕ
     → (i : ℕ) × (slice_get (own_places rs) n ≡ Some i) × (at f rs i ≡ Some x)
 said_here f rs n x says =
     let there = placed rs n (rw (arranged_length rs) at (at_within f (in_own_order rs) n x says)) in
-    (there.0, there.1, sym (said f rs n there.0 there.1) ∙ says)
+    (there.0, there.1, sym (said_in_order f rs n there.0 there.1) ∙ says)
 
 -- of two places the later one in the file has an earlier one
 pub apart_places : (rs : List Record) (k n i j : ℕ) → k < n → slice_get (own_places rs) k ≡ Some i

@@ -14,12 +14,12 @@ use Rattle.task_tree.specs.declared.links.Link.{Link}
 use Rattle.task_tree.specs.declared.roots.Standing.{Standing}
 use Rattle.task_tree.specs.Makers.{AreMade}
 use Rattle.task_tree.specs.Links.{AreLinks}
-use Rattle.task_tree.specs.Forward.{IsStood, AreStanding, StandsBelow}
+use Rattle.task_tree.specs.Forward.{IsStood, AreStandingsKnown, StandsBelow}
 
 pub standing_more : (rs : List Record) (n : ℕ) (found : Standing) (tasks : List ℕ)
     (roots : List (Option Standing))
-    → AreStanding rs n tasks roots → ((task : ℕ) → slice_get tasks n ≡ Some task → IsStood rs n task found)
-    → AreStanding rs (n + 1) tasks (roots ++ Some found ∷ [])
+    → AreStandingsKnown rs n tasks roots → ((task : ℕ) → slice_get tasks n ≡ Some task → IsStood rs n task found)
+    → AreStandingsKnown rs (n + 1) tasks (roots ++ Some found ∷ [])
 standing_more rs n found tasks roots are stood = record {
   all = length_push roots (Some found) ∙ ap (λ k. k + 1) are.all;
   each =
@@ -50,7 +50,7 @@ root_stood rs place index task found makes begins flat =
 -- a created task stands below its parent
 pub child_stood : (rs : List Record) (n task : ℕ) (found : Standing) (link : Link) (tasks : List ℕ)
     (links : List (Option Link)) (roots : List (Option Standing))
-    → AreLinks rs (length rs) tasks links → AreStanding rs n tasks roots → slice_get tasks n ≡ Some task
+    → AreLinks rs (length rs) tasks links → AreStandingsKnown rs n tasks roots → slice_get tasks n ≡ Some task
     → slice_get links n ≡ Some (Some link) → StandsBelow roots link.parent found → IsStood rs n task found
 child_stood rs n task found link tasks links roots links_are are is is_link (above, known, deep, same) =
     let of = links_are.only n task link is is_link in
@@ -69,7 +69,7 @@ child_stood rs n task found link tasks links roots links_are are is is_link (abo
 
 pub below_stood : (rs : List Record) (n : ℕ) (link : Link) (tasks : List ℕ) (links : List (Option Link))
     (roots : List (Option Standing)) (found : Option Standing)
-    → AreLinks rs (length rs) tasks links → AreStanding rs n tasks roots
+    → AreLinks rs (length rs) tasks links → AreStandingsKnown rs n tasks roots
     → slice_get links n ≡ Some (Some link) → IfSome found (StandsBelow roots link.parent)
     → IfSome found (λ standing. (task : ℕ) → slice_get tasks n ≡ Some task → IsStood rs n task standing)
 below_stood rs n link tasks links roots None links_are are is_link stands = stands
@@ -92,7 +92,7 @@ made_stood rs n place event tasks places (Some found) are at_place is_event (beg
 -- what is known is near the top where there are few tasks
 pub above_shallow : (rs : List Record) (n index : ℕ) (tasks : List ℕ) (roots : List (Option Standing))
     (above : Standing)
-    → AreStanding rs n tasks roots → n ≤ length tasks → slice_get roots index ≡ Some (Some above)
+    → AreStandingsKnown rs n tasks roots → n ≤ length tasks → slice_get roots index ≡ Some (Some above)
     → above.depth ≤ n
 above_shallow rs n index tasks roots above are low known =
     let within = slice_get_within roots index (Some above) known in

@@ -22,7 +22,7 @@ use Rattle.ompt_events.proofs.PlaceLemmas.{at_within}
 use Rattle.task_tree.specs.declared.gap_search.Begins.{Begins}
 use Rattle.task_tree.specs.declared.gap_search.Start.{Start}
 use Rattle.task_tree.specs.GapSearch.{pair_cmp, kept_turn}
-use Rattle.task_tree.specs.GapSearch.{AreFirst, AreRoots, AreBegins, IsTurnRaised, AreGreatest, BeginsRoot}
+use Rattle.task_tree.specs.GapSearch.{AreFirst, AreRootsBegun, AreFirstBegins, IsTurnRaised, AreGreatestTurns, BeginsRoot}
 use Rattle.task_tree.specs.GapSearch.{LacksBefore, IsWrongStart, wrong_again, wrong_falling, wrong_root}
 use Rattle.task_tree.specs.GapSearch.{wrong_missing}
 use Rattle.task_tree.proofs.PairMaps.{pair_here, pair_there}
@@ -135,7 +135,7 @@ turn_raised old new r task turn begins less updates = record {
         (pair_there old new (r.thread, task) (Some turn) updates (thread, other) apart)
 
 pub greatest_more : (rs : List Record) (i : ℕ) (r : Record) (old new : BTreeMap (ℕ × ℕ) ℕ)
-    → slice_get rs i ≡ Some r → AreGreatest rs i old → IsTurnRaised old new r → AreGreatest rs (i + 1) new
+    → slice_get rs i ≡ Some r → AreGreatestTurns rs i old → IsTurnRaised old new r → AreGreatestTurns rs (i + 1) new
 greatest_more rs i r old new stands are raised = record {
   bound = λ k thread task turn less by_thread begins. elim (cases_eq k i) [
     | inl same ↦
@@ -174,7 +174,7 @@ greatest_more rs i r old new stands are raised = record {
 
 -- ---- the tests
 
-pub begun_some : (rs : List Record) (begins : Begins) (task turn place : ℕ) → AreBegins rs begins
+pub begun_some : (rs : List Record) (begins : Begins) (task turn place : ℕ) → AreFirstBegins rs begins
     → get pair_cmp begins.first (task, turn) ≡ Some place
     → IsTrue true ↔ ((k : ℕ) × BeginsTurn rs k task turn)
 begun_some rs begins task turn place are is =
@@ -185,7 +185,7 @@ pub begins_cases : (rs : List Record) (k task turn : ℕ) → BeginsTurn rs k ta
 begins_cases rs k task turn (runs is) = inl is
 begins_cases rs k task _ (is_root is) = inr (refl, is)
 
-pub begun_none : (rs : List Record) (begins : Begins) (task turn : ℕ) (b : Bool) → AreBegins rs begins
+pub begun_none : (rs : List Record) (begins : Begins) (task turn : ℕ) (b : Bool) → AreFirstBegins rs begins
     → get pair_cmp begins.first (task, turn) ≡ None → (IsTrue b ↔ BeginsRoot rs task turn)
     → IsTrue b ↔ ((k : ℕ) × BeginsTurn rs k task turn)
 begun_none rs begins task turn b are none root = (
@@ -351,9 +351,9 @@ first_gap rs i gap free = record {
 
 -- ---- the roots
 
-pub root_more : (rs : List Record) (i task : ℕ) (old new : BTreeSet ℕ) → AreRoots rs i old
+pub root_more : (rs : List Record) (i task : ℕ) (old new : BTreeSet ℕ) → AreRootsBegun rs i old
     → at begun_root rs i ≡ Some task → ((q : ℕ) → q ≢ task → contains nat_cmp new q ≡ contains nat_cmp old q)
-    → contains nat_cmp new task ≡ true → AreRoots rs (i + 1) new
+    → contains nat_cmp new task ≡ true → AreRootsBegun rs (i + 1) new
 root_more rs i task old new are begins others added = record {
   only = λ other is. elim (cases_eq other task) [
     | inl same ↦ (i, begins ∙ ap Some (sym same))

@@ -19,7 +19,7 @@ use Rattle.ompt_events.proofs.RecordLemmas.{created_at_made, creation_at_created
 use Rattle.ompt_events.proofs.ListLemmas.{get_last}
 use Rattle.ompt_events.proofs.TreeLemmas.{children_same, children_more, children_few, children_stay}
 use Rattle.ompt_events.proofs.TreeLemmas.{child_at_none, child_at_other}
-use Rattle.task_tree.specs.Links.{AreCounts, IsLink, AreLinks, IsIndex, IsSlotOf, IsLinked, unmade, counted}
+use Rattle.task_tree.specs.Links.{AreChildCounts, IsLink, AreLinks, IsIndex, IsSlotOf, IsChildLinked, unmade, counted}
 use Rattle.task_tree.specs.Links.{linked}
 
 -- what stands at an index of a list in which one element was written
@@ -66,12 +66,12 @@ number_read counts parent up number within is read =
 pub linked_read : (tasks : List ℕ) (parent child up own number : ℕ) (counts : List ℕ)
     (links : List (Option Link))
     → IsIndex tasks parent up → IsIndex tasks child own → number ≡ slice_index counts up
-    → IsLinked tasks parent child counts links (set counts up (number + 1))
+    → IsChildLinked tasks parent child counts links (set counts up (number + 1))
     (set links own (Some (record { number = number; parent = up })))
 linked_read tasks parent child up own number counts links is_up is_own read =
     let P : ℕ → Type 0 =
     λ k.
-    IsLinked tasks parent child counts links (set counts up (k + 1))
+    IsChildLinked tasks parent child counts links (set counts up (k + 1))
     (set links own (Some (record { number = k; parent = up }))) in
     subst P (sym read) (linked up own is_up is_own)
 
@@ -79,15 +79,15 @@ pub counted_read : (tasks : List ℕ) (parent child up number : ℕ) (counts : L
     (links : List (Option Link))
     → IsIndex tasks parent up → ((own : ℕ) → slice_get tasks own ≡ Some child → ⊥)
     → number ≡ slice_index counts up
-    → IsLinked tasks parent child counts links (set counts up (number + 1)) links
+    → IsChildLinked tasks parent child counts links (set counts up (number + 1)) links
 counted_read tasks parent child up number counts links is_up none read =
-    let P : ℕ → Type 0 = λ k. IsLinked tasks parent child counts links (set counts up (k + 1)) links in
+    let P : ℕ → Type 0 = λ k. IsChildLinked tasks parent child counts links (set counts up (k + 1)) links in
     subst P (sym read) (counted up is_up none)
 
 -- ---- the counts
 
 pub counts_start : (rs : List Record) (tasks counts : List ℕ) → counts ≡ replicate (length tasks) 0
-    → AreCounts rs 0 tasks counts
+    → AreChildCounts rs 0 tasks counts
 counts_start rs tasks counts are = record {
   all = ap length are ∙ length-replicate (length tasks) 0;
   few =
@@ -100,9 +100,9 @@ counts_start rs tasks counts are = record {
 }
 
 -- a record that creates no child of a task in the list
-pub counts_same : (rs : List Record) (n : ℕ) (tasks counts : List ℕ) → AreCounts rs n tasks counts
+pub counts_same : (rs : List Record) (n : ℕ) (tasks counts : List ℕ) → AreChildCounts rs n tasks counts
     → ((index task : ℕ) → slice_get tasks index ≡ Some task → child_at rs task n ≡ None)
-    → AreCounts rs (n + 1) tasks counts
+    → AreChildCounts rs (n + 1) tasks counts
 counts_same rs n tasks counts are none = record {
   all = are.all;
   few = let few = are.few in omega (arith, few);
@@ -111,15 +111,15 @@ counts_same rs n tasks counts are none = record {
       are.each index task is ∙ ap length (sym (children_same rs task n (none index task is)));
 }
 
-pub counts_other : (rs : List Record) (n : ℕ) (tasks counts : List ℕ) → AreCounts rs n tasks counts
-    → at creation rs n ≡ None → AreCounts rs (n + 1) tasks counts
+pub counts_other : (rs : List Record) (n : ℕ) (tasks counts : List ℕ) → AreChildCounts rs n tasks counts
+    → at creation rs n ≡ None → AreChildCounts rs (n + 1) tasks counts
 counts_other rs n tasks counts are none =
     counts_same rs n tasks counts are (λ index task is. child_at_none rs task n none)
 
 -- one that does
 counts_more : (rs : List Record) (n : ℕ) (tasks counts : List ℕ) (parent child up : ℕ)
-    → AreCounts rs n tasks counts → at creation rs n ≡ Some (parent, child) → IsIndex tasks parent up
-    → AreCounts rs (n + 1) tasks (set counts up (slice_index counts up + 1))
+    → AreChildCounts rs n tasks counts → at creation rs n ≡ Some (parent, child) → IsIndex tasks parent up
+    → AreChildCounts rs (n + 1) tasks (set counts up (slice_index counts up + 1))
 counts_more rs n tasks counts parent child up are creates is_up = record {
   all = length-set counts up (slice_index counts up + 1) ∙ are.all;
   few =
@@ -150,8 +150,8 @@ counts_more rs n tasks counts parent child up are creates is_up = record {
 
 pub counts_linked : (rs : List Record) (n : ℕ) (tasks : List ℕ) (parent child : ℕ) (counts : List ℕ)
     (links : List (Option Link)) (counts_now : List ℕ) (links_now : List (Option Link))
-    → AreCounts rs n tasks counts → at creation rs n ≡ Some (parent, child)
-    → IsLinked tasks parent child counts links counts_now links_now → AreCounts rs (n + 1) tasks counts_now
+    → AreChildCounts rs n tasks counts → at creation rs n ≡ Some (parent, child)
+    → IsChildLinked tasks parent child counts links counts_now links_now → AreChildCounts rs (n + 1) tasks counts_now
 counts_linked rs n tasks parent child counts links counts_now links_now are creates (unmade none) =
     counts_same rs n tasks counts are
     (λ index task is.
@@ -164,7 +164,7 @@ counts_linked rs n tasks parent child counts links counts_now links_now are crea
 
 -- counts are small where there are few records
 pub count_small : (rs : List Record) (n : ℕ) (tasks counts : List ℕ) (parent up : ℕ)
-    → AreCounts rs n tasks counts → slice_get tasks up ≡ Some parent → slice_index counts up ≤ n
+    → AreChildCounts rs n tasks counts → slice_get tasks up ≡ Some parent → slice_index counts up ≤ n
 count_small rs n tasks counts parent up are is =
     let count = are.each up parent is in
     let few = children_few rs parent n in
@@ -229,7 +229,7 @@ created_once rs task i k own other once below here there =
 
 links_more : (rs : List Record) (n : ℕ) (tasks counts : List ℕ) (links : List (Option Link))
     (parent child up own : ℕ)
-    → IsFreeOf rs CreatedTwice → AreCounts rs n tasks counts → AreLinks rs n tasks links
+    → IsFreeOf rs CreatedTwice → AreChildCounts rs n tasks counts → AreLinks rs n tasks links
     → at creation rs n ≡ Some (parent, child) → IsIndex tasks parent up → IsIndex tasks child own
     → AreLinks rs (n + 1) tasks
     (set links own (Some (record { number = slice_index counts up; parent = up })))
@@ -290,8 +290,8 @@ links_more rs n tasks counts links parent child up own once counts_are are creat
 
 pub links_linked : (rs : List Record) (n : ℕ) (tasks : List ℕ) (parent child : ℕ) (counts : List ℕ)
     (links : List (Option Link)) (counts_now : List ℕ) (links_now : List (Option Link))
-    → IsFreeOf rs CreatedTwice → AreCounts rs n tasks counts → AreLinks rs n tasks links
-    → at creation rs n ≡ Some (parent, child) → IsLinked tasks parent child counts links counts_now links_now
+    → IsFreeOf rs CreatedTwice → AreChildCounts rs n tasks counts → AreLinks rs n tasks links
+    → at creation rs n ≡ Some (parent, child) → IsChildLinked tasks parent child counts links counts_now links_now
     → AreLinks rs (n + 1) tasks links_now
 links_linked rs n tasks parent child counts links counts_now links_now once counts_are are creates
     (unmade none) =

@@ -15,7 +15,7 @@ use Rattle.ompt_events.specs.Causes.{HasCause, created_twice, forked_twice, IsFi
 use Rattle.ompt_events.proofs.PlaceLemmas.{at_within}
 use Rattle.ompt_events.proofs.ListLemmas.{get_pushed, get_last, get_contains, contains_get, pushed_cases}
 use Rattle.task_tree.specs.Numbering.{IsNoted, AreApart}
-use Rattle.task_tree.specs.Makers.{AreNoted, AreInOrder, AreMade, AreGathered, AreForkedOnce, AreMadeOnce}
+use Rattle.task_tree.specs.Makers.{AreNoted, ArePlacesBelow, AreMade, AreGathered, AreForkedOnce, AreMadeOnce}
 use Rattle.task_tree.specs.Makers.{forked_region}
 
 -- one record more
@@ -130,13 +130,13 @@ free_of_twice rs n none all i has = none i (let inside = twice_within rs i has i
 
 -- ---- places in their order
 
-in_order_still : (n : ℕ) (places : List ℕ) → AreInOrder n places → AreInOrder (n + 1) places
+in_order_still : (n : ℕ) (places : List ℕ) → ArePlacesBelow n places → ArePlacesBelow (n + 1) places
 in_order_still n places are = record {
   below = λ index place is. let low = are.below index place is in omega (arith, low);
   rising = are.rising;
 }
 
-in_order_more : (n : ℕ) (places : List ℕ) → AreInOrder n places → AreInOrder (n + 1) (places ++ n ∷ [])
+in_order_more : (n : ℕ) (places : List ℕ) → ArePlacesBelow n places → ArePlacesBelow (n + 1) (places ++ n ∷ [])
 in_order_more n places are = record {
   below = λ index place is. elim (pushed_cases places n place index is) [
     | inl before ↦ let low = are.below index place before in omega (arith, low)

@@ -84,11 +84,11 @@ not_itself : (rs : List Record) (i : ℕ) → Comes (turn_at rs) i i → ⊥
 not_itself rs i (inl less) = absurd (omega arith)
 not_itself rs i (inr (same, less)) = absurd (omega arith)
 
-pub not_both : (rs : List Record) (i k : ℕ) → Comes (turn_at rs) i k → Comes (turn_at rs) k i → ⊥
-not_both rs i k (inl one) (inl other) = absurd (omega arith)
-not_both rs i k (inl one) (inr (same, less)) = absurd (omega arith)
-not_both rs i k (inr (same, less)) (inl other) = absurd (omega arith)
-not_both rs i k (inr (same, less)) (inr (same', less')) = absurd (omega arith)
+pub not_either_way : (rs : List Record) (i k : ℕ) → Comes (turn_at rs) i k → Comes (turn_at rs) k i → ⊥
+not_either_way rs i k (inl one) (inl other) = absurd (omega arith)
+not_either_way rs i k (inl one) (inr (same, less)) = absurd (omega arith)
+not_either_way rs i k (inr (same, less)) (inl other) = absurd (omega arith)
+not_either_way rs i k (inr (same, less)) (inr (same', less')) = absurd (omega arith)
 
 pub own_place_of : (rs : List Record) (n i : ℕ) → slice_get (own_places rs) n ≡ Some i → own_place rs i ≡ n
 own_place_of rs n i is =
@@ -122,7 +122,7 @@ own_order rs i k one other = (
       | inr (inl less) ↦ less
       | inr (inr more) ↦
           absurd
-          (not_both rs i k comes
+          (not_either_way rs i k comes
           (own_comes rs (own_place rs k) (own_place rs i) k i more (own_get rs k other)
           (own_get rs i one)))
     ]

@@ -9,7 +9,7 @@ use Rattle.std.proofs.lemmas.List.{get_or_append_left, length_push}
 use Rattle.std.specs.List.{range_with_len}
 use Rattle.std.specs.Prelude.{slice_get, slice_index, Contains, IsPermutation}
 use Rattle.task_tree.specs.Numbering.{AreApart}
-use Rattle.task_tree.specs.Ranking.{AreWithin, ranked_id, IsRising, IsOrder, IsRanked}
+use Rattle.task_tree.specs.Ranking.{AreWithin, ranked_id, AreRanksRising, IsOrder, IsRanked}
 use Rattle.ompt_events.proofs.ListLemmas.{contains_range}
 
 -- ---- the orders that are tried
@@ -54,7 +54,7 @@ permutation_within ids order moved rank inside =
     (IsPermutation-sym (range_with_len 0 (length ids)) order moved) has)
 
 pub range_ranked : (ids : List ℕ)
-    → IsRising ids (range_with_len 0 (length ids)) (length (range_with_len 0 (length ids)))
+    → AreRanksRising ids (range_with_len 0 (length ids)) (length (range_with_len 0 (length ids)))
     → IsRanked ids (range_with_len 0 (length ids))
 range_ranked ids rising = record {
   known = record { within = range_within ids; rising = rising };
@@ -62,7 +62,7 @@ range_ranked ids rising = record {
 }
 
 pub permutation_ranked : (ids order : List ℕ) → IsPermutation (range_with_len 0 (length ids)) order
-    → IsRising ids order (length order) → IsRanked ids order
+    → AreRanksRising ids order (length order) → IsRanked ids order
 permutation_ranked ids order moved rising = record {
   known = record { within = permutation_within ids order moved; rising = rising };
   all =
@@ -72,8 +72,8 @@ permutation_ranked ids order moved rising = record {
 }
 
 -- one id more is greater than the last, and so than all before it
-pub rising_more : (ids order : List ℕ) (n : ℕ) → IsRising ids order n
-    → (0 < n → ranked_id ids order (n - 1) < ranked_id ids order n) → IsRising ids order (n + 1)
+pub rising_more : (ids order : List ℕ) (n : ℕ) → AreRanksRising ids order n
+    → (0 < n → ranked_id ids order (n - 1) < ranked_id ids order n) → AreRanksRising ids order (n + 1)
 rising_more ids order n rising last a b less low = elim (cases_eq b n) [
   | inr apart ↦ rising a b less (omega (arith, low, apart))
   | inl same ↦
@@ -141,7 +141,7 @@ order_kept ids order id are = record {
 -- ---- the search
 
 -- what is known of the id's rank
-pub record IsBetween (ids order : List ℕ) (id low high : ℕ) : Type 0 where
+pub record IsRankBetween (ids order : List ℕ) (id low high : ℕ) : Type 0 where
   pub ordered : low ≤ high
   pub within : high ≤ length order
   pub below : (k : ℕ) → k < low → ranked_id ids order k < id

@@ -20,8 +20,8 @@ use Rattle.task_tree.proofs.RenamedCauseLemmas.{moved_order, order_within, moved
 use Rattle.task_tree.proofs.RenamedCauseLemmas.{moved_share, share_within}
 
 -- the other way round
-turned : {rs ss : List Record} {to back : ℕ → ℕ} → IsRenaming rs ss to back → IsReordered ss rs back to
-turned r = reordered_back (reordered r)
+renamed_back : {rs ss : List Record} {to back : ℕ → ℕ} → IsRenaming rs ss to back → IsReordered ss rs back to
+renamed_back r = reordered_back (reordered r)
 
 -- what stands within the records in the other order stood within them
 from_within : {rs ss : List Record} {to back : ℕ → ℕ} → IsRenaming rs ss to back → (i : ℕ) → to i < length ss
@@ -47,14 +47,14 @@ renamed_children r parent = sym (same_children (reordered r) parent)
 pub renamed_path : {rs ss : List Record} {to back : ℕ → ℕ} → IsRenaming rs ss to back
     → (root task : ℕ) (path : List ℕ) → HasPath rs root task path ↔ HasPath ss root task path
 renamed_path r root task path =
-    (moved_path (reordered r) root task path, moved_path (turned r) root task path)
+    (moved_path (reordered r) root task path, moved_path (renamed_back r) root task path)
 
 -- ---- dependences
 
 pub renamed_predecessor : {rs ss : List Record} {to back : ℕ → ℕ} → IsRenaming rs ss to back
     → (task predecessor : ℕ) → IsPredecessor rs task predecessor ↔ IsPredecessor ss task predecessor
 renamed_predecessor r task predecessor =
-    (moved_predecessor (reordered r) task predecessor, moved_predecessor (turned r) task predecessor)
+    (moved_predecessor (reordered r) task predecessor, moved_predecessor (renamed_back r) task predecessor)
 
 -- ---- regions
 
@@ -78,7 +78,7 @@ pub renamed_covers : {rs ss : List Record} {to back : ℕ → ℕ} → IsRenamin
     → Covers rs i task ↔ Covers ss (to i) task
 renamed_covers {rs} {ss} r i task =
     both_ways r (λ i. Covers rs i task) (λ j. Covers ss j task) (λ i. moved_covers (reordered r) i task)
-    (λ j. moved_covers (turned r) j task) (λ j. covers_within ss j task) i
+    (λ j. moved_covers (renamed_back r) j task) (λ j. covers_within ss j task) i
 
 -- ---- causes of a refusal
 
@@ -86,16 +86,16 @@ pub renamed_order : {rs ss : List Record} {to back : ℕ → ℕ} → IsRenaming
     → HasCause rs i RegionOrder ↔ HasCause ss (to i) RegionOrder
 renamed_order {rs} {ss} r i =
     both_ways r (λ i. HasCause rs i RegionOrder) (λ j. HasCause ss j RegionOrder) (moved_order (reordered r))
-    (moved_order (turned r)) (order_within ss) i
+    (moved_order (renamed_back r)) (order_within ss) i
 
 pub renamed_short : {rs ss : List Record} {to back : ℕ → ℕ} → IsRenaming rs ss to back → (i : ℕ)
     → HasCause rs i TeamShort ↔ HasCause ss (to i) TeamShort
 renamed_short {rs} {ss} r i =
     both_ways r (λ i. HasCause rs i TeamShort) (λ j. HasCause ss j TeamShort) (moved_short (reordered r))
-    (moved_short (turned r)) (team_within ss) i
+    (moved_short (renamed_back r)) (team_within ss) i
 
 pub renamed_share : {rs ss : List Record} {to back : ℕ → ℕ} → IsRenaming rs ss to back → (i : ℕ)
     → HasCause rs i ShareWrong ↔ HasCause ss (to i) ShareWrong
 renamed_share {rs} {ss} r i =
     both_ways r (λ i. HasCause rs i ShareWrong) (λ j. HasCause ss j ShareWrong) (moved_share (reordered r))
-    (moved_share (turned r)) (share_within ss) i
+    (moved_share (renamed_back r)) (share_within ss) i

@@ -31,9 +31,9 @@ use Rattle.task_tree.proofs.LinkLemmas.{get_set_same, get_set_other}
 use Rattle.task_tree.proofs.OnceLemmas.{made_once}
 use Rattle.task_tree.specs.declared.rising.Latest.{Latest}
 use Rattle.task_tree.specs.declared.rising.Begin.{Begin as BeginAt}
-use Rattle.task_tree.specs.Rising.{TurnsRise, NoneLater, IsInOrder, AreInOrder, turn_now, IsOnTurn, IsNext}
-use Rattle.task_tree.specs.Rising.{next_first, next_later, IsLatest, AreLatest, IsTurnThere, IsStartOf}
-use Rattle.task_tree.specs.Rising.{IsBeginOf, BeginsNone, MayBegin, may_untold, may_next, IsStepOn}
+use Rattle.task_tree.specs.Rising.{TurnsRise, NoneLater, IsInOrder, AreTurnsInOrder, turn_now, IsOnTurn, IsNext}
+use Rattle.task_tree.specs.Rising.{next_first, next_later, IsLatestTurn, AreLatestTurns, IsTurnThere, IsStartOf}
+use Rattle.task_tree.specs.Rising.{IsTurnBegin, BeginsNone, MayBegin, may_untold, may_next, IsStepOn}
 use Rattle.task_tree.proofs.GapLemmas.{begins_cases, untold_none, no_start_none}
 use Rattle.task_tree.proofs.RisingLemmas.{own_running}
 use Rattle.task_tree.proofs.SuspendedLemmas.{part_of, part_keeps}
@@ -116,7 +116,7 @@ begins_none rs i no_root no_start task turn begins = elim (begins_cases rs i tas
 pub begin_found : (rs : List Record) (tasks : List ℕ) (i : ℕ) (found : Option BeginAt)
     → at begun_root rs i ≡ None
     → MatchOption found (at begun_turn rs i ≡ None) (λ begin. IsStartOf rs tasks i begin.index begin.turn)
-    → MatchOption found (BeginsNone rs i) (λ begin. IsBeginOf rs tasks i begin.index begin.turn)
+    → MatchOption found (BeginsNone rs i) (λ begin. IsTurnBegin rs tasks i begin.index begin.turn)
 begin_found rs tasks i None no_root none = begins_none rs i no_root none
 begin_found rs tasks i (Some begin) no_root start = record {
   task = start.task;
@@ -174,7 +174,7 @@ silent rs i task thread r within read other = elim (cases_eq thread r.thread) [
 
 -- a task that begins no turn there
 keep_one : (rs : List Record) (i task : ℕ) (r : Record) (known : Latest) → i < length rs → r ≡ get_or rs i r
-    → IsLatest rs i task known → ((turn : ℕ) → BeginsTurn rs i task turn → ⊥) → IsLatest rs (i + 1) task known
+    → IsLatestTurn rs i task known → ((turn : ℕ) → BeginsTurn rs i task turn → ⊥) → IsLatestTurn rs (i + 1) task known
 keep_one rs i task r known within read old other = record {
   begun = λ turn e. let began = old.begun turn e in (began.0, omega (arith, began.1), began.2, began.3);
   none = λ e k turn below begins. elim (cases_eq k i) [
@@ -193,8 +193,8 @@ keep_one rs i task r known within read old other = record {
 
 -- a task that begins one
 start_one : (rs : List Record) (i task next : ℕ) (r : Record) (known : Latest) → i < length rs
-    → r ≡ get_or rs i r → IsLatest rs i task known → BeginsTurn rs i task next → turn_now known ≤ next
-    → IsLatest rs (i + 1) task (record { turn = Some next; thread = r.thread })
+    → r ≡ get_or rs i r → IsLatestTurn rs i task known → BeginsTurn rs i task next → turn_now known ≤ next
+    → IsLatestTurn rs (i + 1) task (record { turn = Some next; thread = r.thread })
 start_one rs i task next r known within read old begins later = record {
   begun =
       λ turn e. (
@@ -242,10 +242,10 @@ start_one rs i task next r known within read old begins later = record {
 -- ---- all tasks
 
 latest_put : (rs : List Record) (n m index : ℕ) (tasks : List ℕ) (latest : List Latest) (new : Latest)
-    → AreLatest rs n tasks latest → ((task : ℕ) → slice_get tasks index ≡ Some task → IsLatest rs m task new)
+    → AreLatestTurns rs n tasks latest → ((task : ℕ) → slice_get tasks index ≡ Some task → IsLatestTurn rs m task new)
     → ((other task : ℕ) (known : Latest) → other ≢ index → slice_get tasks other ≡ Some task
-    → slice_get latest other ≡ Some known → IsLatest rs m task known)
-    → AreLatest rs m tasks (set latest index new)
+    → slice_get latest other ≡ Some known → IsLatestTurn rs m task known)
+    → AreLatestTurns rs m tasks (set latest index new)
 latest_put rs n m index tasks latest new are here there = record {
   all = length-set latest index new ∙ are.all;
   each = λ other task known stands is. elim (cases_eq other index) [
@@ -258,13 +258,13 @@ latest_put rs n m index tasks latest new are here there = record {
         same_Some new known
         (sym (get_set_same latest index new low) ∙ ap (slice_get (set latest index new)) (sym same)
         ∙ is) in
-        subst (IsLatest rs m task) new_is (here task at_index)
+        subst (IsLatestTurn rs m task) new_is (here task at_index)
     | inr apart ↦ there other task known apart stands (sym (get_set_other latest index other new apart) ∙ is)
   ];
 }
 
 latest_keep : (rs : List Record) (i : ℕ) (r : Record) (tasks : List ℕ) (latest : List Latest) → i < length rs
-    → r ≡ get_or rs i r → AreLatest rs i tasks latest → BeginsNone rs i → AreLatest rs (i + 1) tasks latest
+    → r ≡ get_or rs i r → AreLatestTurns rs i tasks latest → BeginsNone rs i → AreLatestTurns rs (i + 1) tasks latest
 latest_keep rs i r tasks latest within read are none = record {
   all = are.all;
   each =
@@ -274,14 +274,14 @@ latest_keep rs i r tasks latest within read are none = record {
 
 latest_start : (rs : List Record) (i index task next : ℕ) (r : Record) (tasks : List ℕ) (latest : List Latest)
     (known : Latest)
-    → i < length rs → r ≡ get_or rs i r → AreApart tasks → AreLatest rs i tasks latest
+    → i < length rs → r ≡ get_or rs i r → AreApart tasks → AreLatestTurns rs i tasks latest
     → BeginsTurn rs i task next → slice_get tasks index ≡ Some task → slice_get latest index ≡ Some known
     → turn_now known ≤ next
-    → AreLatest rs (i + 1) tasks (set latest index (record { turn = Some next; thread = r.thread }))
+    → AreLatestTurns rs (i + 1) tasks (set latest index (record { turn = Some next; thread = r.thread }))
 latest_start rs i index task next r tasks latest known within read apart are begins stands is later =
     latest_put rs i (i + 1) index tasks latest (record { turn = Some next; thread = r.thread }) are
     (λ other other_is.
-    subst (λ t. IsLatest rs (i + 1) t (record { turn = Some next; thread = r.thread }))
+    subst (λ t. IsLatestTurn rs (i + 1) t (record { turn = Some next; thread = r.thread }))
     (same_Some task other (sym stands ∙ other_is))
     (start_one rs i task next r known within read (are.each index task known stands is) begins later))
     (
@@ -318,7 +318,7 @@ pub own_body : (rs : List Record) (i task : ℕ) (r : Record) → slice_get rs i
 own_body rs i task r stands own = sym (ap (option_and_then (λ (q : Record). running q.body)) stands) ∙ own
 
 pub there_some : (rs : List Record) (i task turn : ℕ) (r : Record) (known : Latest) → slice_get rs i ≡ Some r
-    → IsLatest rs i task known → at running rs i ≡ Some task → IsOnTurn known r.thread turn
+    → IsLatestTurn rs i task known → at running rs i ≡ Some task → IsOnTurn known r.thread turn
     → IsTurnThere rs i turn
 there_some rs i task turn r known stands old own on = record {
   is = sym (turn_here rs i task r stands (own_body rs i task r stands own) ∙ old.now r.thread turn on);
@@ -421,7 +421,7 @@ explicit_not_root rs task once explicit root =
     by (Some r) is begins = root_or_created task task r.body begins is
 
 starts_gapless : (rs : List Record) (i task next turn : ℕ) (r : Record) (known : Latest)
-    → IsFreeOf rs CreatedTwice → slice_get rs i ≡ Some r → IsLatest rs i task known → turn ≡ turn_at rs i
+    → IsFreeOf rs CreatedTwice → slice_get rs i ≡ Some r → IsLatestTurn rs i task known → turn ≡ turn_at rs i
     → (IsSomeAnd (told_turns r.body) (λ t. t.prior ≢ turn) → ⊥) → BeginsTurn rs i task next
     → MayBegin rs task r.body known next → HasTurnGap rs i → ⊥
 starts_gapless rs i task next turn r known once stands old is right begins (may_untold untold later) gap =
@@ -482,10 +482,10 @@ starts_gapless rs i task next turn r known once stands old is right begins (may_
             (subst (BeginsTurn rs began.0 task) last_is began.2))
 
 -- where turns are told, only the next one may
-pub may_follow : (rs : List Record) (task next : ℕ) (b : Body) (known : Latest) → told_turns b ≢ None
+pub next_may_follow : (rs : List Record) (task next : ℕ) (b : Body) (known : Latest) → told_turns b ≢ None
     → MayBegin rs task b known next → IsNext known next × (next ≡ 0 → IsExplicit rs task)
-may_follow rs task next b known told (may_untold untold later) = absurd (told untold)
-may_follow rs task next b known told (may_next follows explicit) = (follows, explicit)
+next_may_follow rs task next b known told (may_untold untold later) = absurd (told untold)
+next_may_follow rs task next b known told (may_next follows explicit) = (follows, explicit)
 
 -- no later turn is known than one that may begin
 pub may_later : (rs : List Record) (task next : ℕ) (b : Body) (known : Latest) → MayBegin rs task b known next
@@ -504,7 +504,7 @@ own_in_order rs i turn there task own k later below begins =
     let low = there.bound task own k later below begins in let e = there.is in omega (arith, low, e)
 
 pub step_keeps : (rs : List Record) (i turn : ℕ) (r : Record) (tasks : List ℕ) (latest : List Latest)
-    → i < length rs → r ≡ get_or rs i r → AreLatest rs i tasks latest → IsTurnThere rs i turn
+    → i < length rs → r ≡ get_or rs i r → AreLatestTurns rs i tasks latest → IsTurnThere rs i turn
     → (IsSomeAnd (told_turns r.body) (λ t. t.prior ≢ turn) → ⊥) → BeginsNone rs i → IsStepOn rs i tasks latest
 step_keeps rs i turn r tasks latest within read are there right none = record {
   known = latest_keep rs i r tasks latest within read are none;
@@ -517,9 +517,9 @@ step_keeps rs i turn r tasks latest within read are there right none = record {
 
 pub step_starts : (rs : List Record) (i index next turn : ℕ) (r : Record) (family : FamilyView)
     (latest : List Latest) (known : Latest)
-    → i < length rs → r ≡ get_or rs i r → IsFamilyOf rs family → AreLatest rs i family.tasks latest
+    → i < length rs → r ≡ get_or rs i r → IsFamilyOf rs family → AreLatestTurns rs i family.tasks latest
     → IsTurnThere rs i turn → (IsSomeAnd (told_turns r.body) (λ t. t.prior ≢ turn) → ⊥)
-    → slice_get latest index ≡ Some known → (begin : IsBeginOf rs family.tasks i index next)
+    → slice_get latest index ≡ Some known → (begin : IsTurnBegin rs family.tasks i index next)
     → MayBegin rs begin.task r.body known next
     → IsStepOn rs i family.tasks (set latest index (record { turn = Some next; thread = r.thread }))
 step_starts rs i index next turn r family latest known within read is_family are there right is begin may =
@@ -534,7 +534,7 @@ step_starts rs i index next turn r family latest known within read is_family are
       in_order = record { own = own_in_order rs i turn there; begins = begins };
     }
   where
-    old : IsLatest rs i begin.task known
+    old : IsLatestTurn rs i begin.task known
     old = are.each index begin.task known begin.indexed is
 
     begins : (task turn' : ℕ) → BeginsTurn rs i task turn' → NoneLater rs i task turn'
@@ -577,8 +577,8 @@ begun_once rs task turn a b free more one other = elim (cases_order a b) [
 ]
 
 pub off_thread : (rs : List Record) (i task : ℕ) (r : Record) (known : Latest) → slice_get rs i ≡ Some r
-    → IsLatest rs i task known → at running rs i ≡ Some task → turn_now known ≢ 0 → r.thread ≢ known.thread
-    → AreInOrder rs → IsFreeOf rs TurnGap → ⊥
+    → IsLatestTurn rs i task known → at running rs i ≡ Some task → turn_now known ≢ 0 → r.thread ≢ known.thread
+    → AreTurnsInOrder rs → IsFreeOf rs TurnGap → ⊥
 off_thread rs i task r known stands old own later apart order free = by known.turn refl
   where
     by : (o : Option ℕ) → known.turn ≡ o → ⊥
@@ -641,8 +641,8 @@ root_or_explicit rs family index task is stands =
     ]
 
 pub must_begin : (rs : List Record) (i index next : ℕ) (r : Record) (family : FamilyView) (known : Latest)
-    → slice_get rs i ≡ Some r → IsFamilyOf rs family → (begin : IsBeginOf rs family.tasks i index next)
-    → IsLatest rs i begin.task known → AreInOrder rs → IsFreeOf rs TurnGap
+    → slice_get rs i ≡ Some r → IsFamilyOf rs family → (begin : IsTurnBegin rs family.tasks i index next)
+    → IsLatestTurn rs i begin.task known → AreTurnsInOrder rs → IsFreeOf rs TurnGap
     → MayBegin rs begin.task r.body known next
 must_begin rs i index next r family known stands is_family begin old order free = by (told_turns r.body) refl
   where
@@ -747,7 +747,7 @@ must_begin rs i index next r family known stands is_family begin old order free 
 
 -- ---- all records
 
-pub untold_in_order : (rs : List Record) → TellsNoTurns rs → AreInOrder rs
+pub untold_in_order : (rs : List Record) → TellsNoTurns rs → AreTurnsInOrder rs
 untold_in_order rs untold i = record {
   own = λ task own k later below begins. let first = zero_turn k task later begins in omega (arith, first);
   begins =
@@ -761,7 +761,7 @@ untold_in_order rs untold i = record {
       | inr (first, root) ↦ first
     ]
 
-pub in_order_rise : (rs : List Record) → AreInOrder rs → TurnsRise rs
+pub in_order_rise : (rs : List Record) → AreTurnsInOrder rs → TurnsRise rs
 in_order_rise rs order task i k one other less = by (slice_get rs i) refl
   where
     own : at running rs i ≡ Some task
@@ -784,7 +784,7 @@ in_order_rise rs order task i k one other less = by (slice_get rs i) refl
 
 -- the records past the last are in order
 pub all_in_order : (rs : List Record) (n : ℕ) → length rs ≤ n → ((k : ℕ) → k < n → IsInOrder rs k)
-    → AreInOrder rs
+    → AreTurnsInOrder rs
 all_in_order rs n past order i = elim (cases_lt i n) [
   | inl below ↦ order i below
   | inr beyond ↦ record {

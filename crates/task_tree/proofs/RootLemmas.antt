@@ -331,8 +331,8 @@ rooted_made rs task (child i {parent = parent} creates up) =
     (i, created_at_made task rs i (creation_at_created parent task rs i creates))
 
 -- the children of each task that was reached were reached
-abbrev pub IsClosed : List Record → List ℕ → List (Option Standing) → List Reached → ℕ → Type 0
-IsClosed rs tasks roots order n =
+abbrev pub IsListClosed : List Record → List ℕ → List (Option Standing) → List Reached → ℕ → Type 0
+IsListClosed rs tasks roots order n =
     (k task child_task index : ℕ) (entry : Reached) → k < n → slice_get order k ≡ Some entry
     → slice_get tasks entry.index ≡ Some task
     → Contains (children rs task) child_task → slice_get tasks index ≡ Some child_task
@@ -342,9 +342,9 @@ IsClosed rs tasks roots order n =
 pub closed_more : (rs : List Record) (tasks : List ℕ) (roots : List (Option Standing)) (order : List Reached)
     (roots_now : List (Option Standing)) (order_now : List Reached) (n own : ℕ) (entry : Reached)
     → n < length order → slice_get order n ≡ Some entry → slice_get tasks entry.index ≡ Some own
-    → IsClosed rs tasks roots order n
+    → IsListClosed rs tasks roots order n
     → Spreads tasks (below_it entry.standing) roots order (children rs own) roots_now order_now
-    → IsClosed rs tasks roots_now order_now (n + 1)
+    → IsListClosed rs tasks roots_now order_now (n + 1)
 closed_more rs tasks roots order roots_now order_now n own entry within here is_own closed spreads k task
     child_task index found low there is_task has is =
     let keeps =
@@ -385,7 +385,7 @@ task_reached rs tasks roots order k entry are here =
 -- where all that was reached is closed, each task with a root was reached
 pub all_reached : (rs : List Record) (tasks : List ℕ) (roots : List (Option Standing)) (order : List Reached)
     → AreNoted made rs (length rs) tasks → IsSeeded rs (length rs) tasks roots order
-    → IsClosed rs tasks roots order (length order) → (task : ℕ) → IsRooted rs task → (index : ℕ)
+    → IsListClosed rs tasks roots order (length order) → (task : ℕ) → IsRooted rs task → (index : ℕ)
     → slice_get tasks index ≡ Some task → (r : Standing) × (slice_get roots index ≡ Some (Some r))
 all_reached rs tasks roots order noted are closed task (root (i, begins)) index is =
     are.seeded i task index (at_within begun_root rs i task begins) begins is
@@ -405,7 +405,7 @@ all_reached rs tasks roots order noted are closed task (child i {parent = parent
 pub roots_found : (rs : List Record) (tasks : List ℕ) (roots : List (Option Standing)) (order : List Reached)
     (n : ℕ)
     → AreNoted made rs (length rs) tasks → IsSeeded rs (length rs) tasks roots order
-    → IsClosed rs tasks roots order n → length order ≤ n → AreRoots rs tasks roots
+    → IsListClosed rs tasks roots order n → length order ≤ n → AreRoots rs tasks roots
 roots_found rs tasks roots order n noted are closed all = record {
   all = are.reach.all;
   rooted = are.reach.sound;
@@ -424,17 +424,17 @@ roots_found rs tasks roots order n noted are closed all = record {
 pub record IsTurned (rs : List Record) (tasks : List ℕ) (roots_now : List (Option Standing))
     (order : List Reached) (order_now : List Reached) (next : ℕ) : Type 0 where
   pub reach : IsSeeded rs (length rs) tasks roots_now order_now
-  pub closed : IsClosed rs tasks roots_now order_now (next + 1)
+  pub closed : IsListClosed rs tasks roots_now order_now (next + 1)
   pub longer : length order ≤ length order_now
 
-pub turned : (rs : List Record) (tasks : List ℕ) (roots : List (Option Standing)) (order : List Reached)
+pub turn_seeded : (rs : List Record) (tasks : List ℕ) (roots : List (Option Standing)) (order : List Reached)
     (list : List ℕ) (roots_now : List (Option Standing)) (order_now : List Reached) (next own : ℕ)
     (entry : Reached)
-    → IsSeeded rs (length rs) tasks roots order → IsClosed rs tasks roots order next → next < length order
+    → IsSeeded rs (length rs) tasks roots order → IsListClosed rs tasks roots order next → next < length order
     → slice_get order next ≡ Some entry → slice_get tasks entry.index ≡ Some own → list ≡ children rs own
     → Spreads tasks (below_it entry.standing) roots order list roots_now order_now
     → IsTurned rs tasks roots_now order order_now next
-turned rs tasks roots order list roots_now order_now next own entry are closed within here is_own is_list
+turn_seeded rs tasks roots order list roots_now order_now next own entry are closed within here is_own is_list
     spreads_list =
     record {
       reach = record {

@@ -29,7 +29,7 @@ use Rattle.ompt_events.specs.declared.records.Claim.{Claim}
 use Rattle.task_tree.specs.Numbering.{AreApart}
 use Rattle.task_tree.specs.Subjects.{subject, object, Finds, AreFound}
 use Rattle.task_tree.specs.Rootless.{AreRootsMade, CreatesUnrooted, NamesNoRegion, IsRootless, NamesKnown}
-use Rattle.task_tree.specs.Rootless.{AreKnown}
+use Rattle.task_tree.specs.Rootless.{AllNameKnown}
 use Rattle.task_tree.proofs.MakerLemmas.{forked_at, region_at}
 
 -- a task that stands below a root is rooted
@@ -451,12 +451,12 @@ slot_finds says rs tasks slots i r slot are within read here =
 
 -- ---- where all that the records name is known
 
-pub known_start : (rs : List Record) (tasks regions : List ℕ) → AreKnown rs 0 tasks regions
+pub known_start : (rs : List Record) (tasks regions : List ℕ) → AllNameKnown rs 0 tasks regions
 known_start rs tasks regions i r low = absurd (omega arith)
 
 pub known_more : (rs : List Record) (n : ℕ) (tasks regions : List ℕ) (r : Record)
-    → AreKnown rs n tasks regions → slice_get rs n ≡ Some r → NamesKnown tasks regions r.body
-    → AreKnown rs (n + 1) tasks regions
+    → AllNameKnown rs n tasks regions → slice_get rs n ≡ Some r → NamesKnown tasks regions r.body
+    → AllNameKnown rs (n + 1) tasks regions
 known_more rs n tasks regions r are here known i other low stands = elim (cases_eq i n) [
   | inl same ↦
       let P : Record → Type 0 = λ q. NamesKnown tasks regions q.body in
@@ -467,7 +467,7 @@ known_more rs n tasks regions r are here known i other low stands = elim (cases_
 -- and each root too, no record is rootless
 pub known_free : (rs : List Record) (tasks regions : List ℕ) (roots : List (Option Standing))
     → AreNoted made rs (length rs) tasks → AreNoted forked_region rs (length rs) regions
-    → AreRoots rs tasks roots → AreKnown rs (length rs) tasks regions
+    → AreRoots rs tasks roots → AllNameKnown rs (length rs) tasks regions
     → ((index : ℕ) → slice_get roots index ≡ Some None → ⊥) → IsFreeOf rs Rootless
 known_free rs tasks regions roots noted begun are known full i has = never (no_root_at rs i has)
   where

@@ -15,7 +15,7 @@ use Rattle.ompt_events.proofs.TreeLemmas.{child_place}
 use Rattle.task_tree.specs.declared.links.Link.{Link}
 use Rattle.task_tree.specs.Makers.{AreNoted}
 use Rattle.task_tree.specs.Numbering.{AreApart}
-use Rattle.task_tree.specs.Links.{AreCounts, AreLinks}
+use Rattle.task_tree.specs.Links.{AreChildCounts, AreLinks}
 use Rattle.task_tree.specs.Rows.{RowsView, AreRising, AreWithin, AreOffsets, AreCounted, AreFitting}
 use Rattle.task_tree.specs.Rows.{AreSingle, AreFilled, AreChildren}
 use Rattle.task_tree.proofs.LinkLemmas.{get_set_same, get_set_other}
@@ -198,7 +198,7 @@ row_is ids list begin end ends low each =
         (sym (slice_get-get_or ids (begin + k) 0 (omega (arith, inside, low, ends))) ∙ there)
 
 pub links_counted : (rs : List Record) (tasks counts : List ℕ) (links : List (Option Link))
-    → AreCounts rs (length rs) tasks counts → AreLinks rs (length rs) tasks links → AreCounted counts links
+    → AreChildCounts rs (length rs) tasks counts → AreLinks rs (length rs) tasks links → AreCounted counts links
 links_counted rs tasks counts links are links_are index link stands =
     let within = slice_get_within links index (Some link) stands in
     let of =
@@ -226,7 +226,7 @@ links_single rs tasks links apart are one other link here there =
 
 pub rows_children : (rs : List Record) (tasks counts : List ℕ) (links : List (Option Link)) (rows : RowsView)
     → AreNoted made rs (length rs) tasks → AreApart tasks → IsFreeOf rs CreatedTwice
-    → AreCounts rs (length rs) tasks counts → AreLinks rs (length rs) tasks links
+    → AreChildCounts rs (length rs) tasks counts → AreLinks rs (length rs) tasks links
     → AreWithin rows.offsets rows.ids → AreOffsets counts rows.offsets
     → AreFilled (length tasks) tasks links rows.offsets rows.ids → AreChildren rs tasks rows
 rows_children rs tasks counts links rows noted apart once are links_are inside offsets filled = record {

@@ -7,7 +7,7 @@ use Rattle.ompt_events.specs.declared.cause.Cause.TheVariants.{RegionOrder, Team
 use Rattle.ompt_events.specs.Violations.{IsRequired, covered, preceding, awaited, MustBeComplete, wait_ends}
 use Rattle.ompt_events.specs.Violations.{dependent_starts, taskwait_completes}
 use Rattle.ompt_events.specs.Causes.{HasCause, Shows}
-use Rattle.ompt_events.proofs.ListLemmas.{turned}
+use Rattle.ompt_events.proofs.ListLemmas.{iff_flipped}
 use Rattle.task_tree.specs.Rising.{TurnsRise}
 use Rattle.task_tree.proofs.RenamingLemmas.{renamed_covers, renamed_predecessor, renamed_order, renamed_short}
 use Rattle.task_tree.proofs.RenamingLemmas.{renamed_share}
@@ -15,9 +15,9 @@ use Rattle.task_tree.proofs.RisingLemmas.{own_renaming}
 
 pub shows_has : (rs : List Record) → TurnsRise rs → (i : ℕ) (cause : Cause)
     → Shows rs i cause ↔ HasCause rs i cause
-shows_has rs rise i RegionOrder = turned (renamed_order (own_renaming rs rise) i)
-shows_has rs rise i TeamShort = turned (renamed_short (own_renaming rs rise) i)
-shows_has rs rise i ShareWrong = turned (renamed_share (own_renaming rs rise) i)
+shows_has rs rise i RegionOrder = iff_flipped (renamed_order (own_renaming rs rise) i)
+shows_has rs rise i TeamShort = iff_flipped (renamed_short (own_renaming rs rise) i)
+shows_has rs rise i ShareWrong = iff_flipped (renamed_share (own_renaming rs rise) i)
 shows_has rs rise i _ = (λ h. h, λ h. h)
 
 pub required_owed : (rs : List Record) → TurnsRise rs → (i task : ℕ)

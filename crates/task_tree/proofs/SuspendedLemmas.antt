@@ -145,14 +145,14 @@ after_roots P walk (TaskSchedule status turns prior next share) new each = by (d
 after_roots P walk b new each = each
 
 -- how a task comes to run, or goes on running
-data Runs (walk : Walk) (b : Body) (task : ℕ) : Type 0 where
-  root_begins : begun_root b ≡ Some task → Runs walk b task
-  uncovered : slice_get walk.roots 1 ≡ Some task → Runs walk b task
-  is_started : started b ≡ Some task → Runs walk b task
-  goes_on : walk.current ≡ Some task → started b ≡ None → stopped b ≡ None → Runs walk b task
+data ComesToRun (walk : Walk) (b : Body) (task : ℕ) : Type 0 where
+  root_begins : begun_root b ≡ Some task → ComesToRun walk b task
+  uncovered : slice_get walk.roots 1 ≡ Some task → ComesToRun walk b task
+  is_started : started b ≡ Some task → ComesToRun walk b task
+  goes_on : walk.current ≡ Some task → started b ≡ None → stopped b ≡ None → ComesToRun walk b task
 
 after_current : (walk : Walk) (b : Body) (task : ℕ) → HasItsNext b → (after_body walk b).current ≡ Some task
-    → Runs walk b task
+    → ComesToRun walk b task
 after_current walk (ImplicitTask Begin actual index flags parallel root) task fits is = root_begins is
 after_current walk (ImplicitTask End actual index flags parallel root) task fits is = uncovered is
 after_current walk (ImplicitTask BeginEnd actual index flags parallel root) task fits is =
@@ -163,7 +163,7 @@ after_current walk (TaskSchedule status turns prior next share) task fits is =
     by : (d : Bool) → demands_next status ≡ d → (o : Option ℕ) → is_some o ≡ demands_next status
         → (if demands_next status then (record { roots = walk.roots; current = o }) else walk).current
         ≡ Some task
-        → Runs walk (TaskSchedule status turns prior o share) task
+        → ComesToRun walk (TaskSchedule status turns prior o share) task
     by true e o fits' is' =
         is_started
         (sym (ap (λ d. (if d then (record { roots = walk.roots; current = o }) else walk).current) e)
@@ -254,7 +254,7 @@ last_start rs thread sound once n =
     }
 
     step : (m : ℕ) (r : Record) → slice_get rs m ≡ Some r → r.thread ≡ thread → P m (part_of rs thread m)
-        → (task : ℕ) → IsExplicit rs task → Runs (walk_of thread (take m rs)) r.body task
+        → (task : ℕ) → IsExplicit rs task → ComesToRun (walk_of thread (take m rs)) r.body task
         → LastStart rs thread (m + 1) task (turn_in task (part_of rs thread m ++ r ∷ []))
     step m r stands same before task explicit (root_begins is) =
         absurd

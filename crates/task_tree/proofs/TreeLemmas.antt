@@ -116,8 +116,8 @@ paths_alike rs ss tasks paths same are = record {
       are.each index task root path is ((same.paths root task path).1 stands);
 }
 
-pub turned : {rs ss : List Record} → HaveOneTree rs ss → HaveOneTree ss rs
-turned same = record {
+pub same_tree_back : {rs ss : List Record} → HaveOneTree rs ss → HaveOneTree ss rs
+same_tree_back same = record {
   children = λ task. sym (same.children task);
   parents = λ parent task. ((same.parents parent task).1, (same.parents parent task).0);
   paths = λ root task path. ((same.paths root task path).1, (same.paths root task path).0);
@@ -134,7 +134,7 @@ path_found rs tree task found are known path =
     both
     (known reading.records reading.family
     (paths_alike (in_own_order rs) reading.records (own_family tree.families).tasks tree.paths
-    (turned reading.same) are.paths)
+    (same_tree_back reading.same) are.paths)
     path) (
       λ (root, is). (root, (reading.same.paths root task path).0 is),
       λ (root, is). (root, (reading.same.paths root task path).1 is),

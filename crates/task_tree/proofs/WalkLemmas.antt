@@ -17,8 +17,8 @@ use Rattle.task_tree.proofs.LinkLemmas.{get_set_same, get_set_other}
 use Rattle.task_tree.specs.Chains.{IsFirstFrom}
 use Rattle.task_tree.specs.declared.turn_table.Mark.{Mark}
 use Rattle.task_tree.specs.declared.turn_table.Walk.{Walk}
-use Rattle.task_tree.specs.TurnTable.{AreTurns, TurnsBeginInOrder, turn_on, AreMarks, IsPassed}
-use Rattle.task_tree.specs.TurnTable.{BeginsNoEarlier, IsWalkAt}
+use Rattle.task_tree.specs.TurnTable.{AreTurns, TurnsBeginInOrder, turn_on, AreTurnMarks, IsPlacePassed}
+use Rattle.task_tree.specs.TurnTable.{BeginsNoEarlier, IsTableAt}
 use Rattle.task_tree.proofs.ChainLemmas.{thread_within}
 use Rattle.task_tree.proofs.RisingPassLemmas.{silent, after_own, after_other, turn_here}
 use Rattle.task_tree.proofs.SuspendedLemmas.{part_of, part_own, part_other}
@@ -54,7 +54,7 @@ skipped rs thread n (suc d) m is within none =
     ]
 
 marks_skip : (rs : List Record) (tasks : List ℕ) (thread n place : ℕ) (marks : List Mark)
-    → IsFirstFrom rs thread n place → AreMarks rs tasks thread n marks → AreMarks rs tasks thread place marks
+    → IsFirstFrom rs thread n place → AreTurnMarks rs tasks thread n marks → AreTurnMarks rs tasks thread place marks
 marks_skip rs tasks thread n place marks first are = record {
   all = are.all;
   here = λ index task mark stands is.
@@ -66,7 +66,7 @@ marks_skip rs tasks thread n place marks first are = record {
 }
 
 marks_next : (rs : List Record) (tasks : List ℕ) (thread n : ℕ) (marks : List Mark)
-    → AreMarks rs tasks thread n marks → AreMarks rs tasks (thread + 1) 0 marks
+    → AreTurnMarks rs tasks thread n marks → AreTurnMarks rs tasks (thread + 1) 0 marks
 marks_next rs tasks thread n marks are = record {
   all = are.all;
   here = λ index task mark stands is. are.later index (thread + 1) mark is (omega arith);
@@ -74,8 +74,8 @@ marks_next rs tasks thread n marks are = record {
 }
 
 marks_keep : (rs : List Record) (tasks : List ℕ) (i : ℕ) (r : Record) (marks : List Mark) → i < length rs
-    → r ≡ get_or rs i r → at begun_turn rs i ≡ None → AreMarks rs tasks r.thread i marks
-    → AreMarks rs tasks r.thread (i + 1) marks
+    → r ≡ get_or rs i r → at begun_turn rs i ≡ None → AreTurnMarks rs tasks r.thread i marks
+    → AreTurnMarks rs tasks r.thread (i + 1) marks
 marks_keep rs tasks i r marks within read none are = record {
   all = are.all;
   here =
@@ -89,8 +89,8 @@ marks_keep rs tasks i r marks within read none are = record {
 
 marks_put : (rs : List Record) (tasks : List ℕ) (i index task next : ℕ) (r : Record) (marks : List Mark)
     → i < length rs → r ≡ get_or rs i r → AreApart tasks → at begun_turn rs i ≡ Some (task, next)
-    → slice_get tasks index ≡ Some task → AreMarks rs tasks r.thread i marks
-    → AreMarks rs tasks r.thread (i + 1) (set marks index (record { turn = next; thread = r.thread }))
+    → slice_get tasks index ≡ Some task → AreTurnMarks rs tasks r.thread i marks
+    → AreTurnMarks rs tasks r.thread (i + 1) (set marks index (record { turn = next; thread = r.thread }))
 marks_put rs tasks i index task next r marks within read apart begins stands are = record {
   all = length-set marks index new ∙ are.all;
   here = λ other another mark other_stands is. elim (cases_eq other index) [
@@ -155,7 +155,7 @@ record_there rs i thread is = by (slice_get rs i) refl
 pub turn_marked : (rs : List Record) (tasks : List ℕ) (i index task : ℕ) (r : Record) (mark : Mark)
     (marks : List Mark)
     → slice_get rs i ≡ Some r → running r.body ≡ Some task → slice_get tasks index ≡ Some task
-    → slice_get marks index ≡ Some mark → AreMarks rs tasks r.thread i marks
+    → slice_get marks index ≡ Some mark → AreTurnMarks rs tasks r.thread i marks
     → turn_on mark r.thread ≡ turn_at rs i
 turn_marked rs tasks i index task r mark marks stands own indexed is are =
     are.here index task mark indexed is ∙ sym (turn_here rs i task r stands own)
@@ -164,7 +164,7 @@ turn_marked rs tasks i index task r mark marks stands own indexed is are =
 
 -- places that are passed before the next record of the thread
 passed_skip : (rs : List Record) (thread n place own i : ℕ) → IsFirstFrom rs thread n place
-    → thread_at rs i ≡ Some own → IsPassed thread place own i → IsPassed thread n own i
+    → thread_at rs i ≡ Some own → IsPlacePassed thread place own i → IsPlacePassed thread n own i
 passed_skip rs thread n place own i first is (inl less) = inl less
 passed_skip rs thread n place own i first is (inr (same, below)) = elim (cases_lt i n) [
   | inl low ↦ inr (same, low)
@@ -172,7 +172,7 @@ passed_skip rs thread n place own i first is (inr (same, below)) = elim (cases_l
 ]
 
 pub walk_skip : (rs : List Record) (tasks : List ℕ) (thread n place : ℕ) (walk : Walk)
-    → IsFirstFrom rs thread n place → IsWalkAt rs tasks thread n walk → IsWalkAt rs tasks thread place walk
+    → IsFirstFrom rs thread n place → IsTableAt rs tasks thread n walk → IsTableAt rs tasks thread place walk
 walk_skip rs tasks thread n place walk first is = record {
   marks = marks_skip rs tasks thread n place walk.marks.items first is.marks;
   all = is.all;
@@ -186,7 +186,7 @@ walk_skip rs tasks thread n place walk first is = record {
 
 -- the thread is gone over
 pub walk_next : (rs : List Record) (tasks : List ℕ) (thread n : ℕ) (walk : Walk) → length rs ≤ n
-    → IsWalkAt rs tasks thread n walk → IsWalkAt rs tasks (thread + 1) 0 walk
+    → IsTableAt rs tasks thread n walk → IsTableAt rs tasks (thread + 1) 0 walk
 walk_next rs tasks thread n walk past is = record {
   marks = marks_next rs tasks thread n walk.marks.items is.marks;
   all = is.all;
@@ -194,15 +194,15 @@ walk_next rs tasks thread n walk past is = record {
   order = λ ordered i own by_thread passed. is.order ordered i own by_thread (before i own by_thread passed);
 }
   where
-    before : (i own : ℕ) → thread_at rs i ≡ Some own → IsPassed (thread + 1) 0 own i → IsPassed thread n own i
+    before : (i own : ℕ) → thread_at rs i ≡ Some own → IsPlacePassed (thread + 1) 0 own i → IsPlacePassed thread n own i
     before i own by_thread (inr (same, below)) = absurd (omega (arith, below))
     before i own by_thread (inl less) = elim (cases_eq own thread) [
       | inl same ↦ inr (same, (let within = thread_within rs i own by_thread in omega (arith, within, past)))
       | inr apart ↦ inl (omega (arith, less, apart))
     ]
 
-passed_one : (rs : List Record) (thread n own i : ℕ) → IsPassed thread (n + 1) own i
-    → (IsPassed thread n own i) ⊎ ((own ≡ thread) × (i ≡ n))
+passed_one : (rs : List Record) (thread n own i : ℕ) → IsPlacePassed thread (n + 1) own i
+    → (IsPlacePassed thread n own i) ⊎ ((own ≡ thread) × (i ≡ n))
 passed_one rs thread n own i (inl less) = inl (inl less)
 passed_one rs thread n own i (inr (same, below)) = elim (cases_eq i n) [
   | inl is ↦ inr (same, is)
@@ -212,9 +212,9 @@ passed_one rs thread n own i (inr (same, below)) = elim (cases_eq i n) [
 -- one record, of which the turn is noted
 turns_put : (rs : List Record) (i turn : ℕ) (r : Record) (turns : List ℕ) → i < length rs
     → length turns ≡ length rs → turn ≡ turn_at rs i
-    → ((k own : ℕ) → thread_at rs k ≡ Some own → IsPassed r.thread i own k
+    → ((k own : ℕ) → thread_at rs k ≡ Some own → IsPlacePassed r.thread i own k
     → slice_get turns k ≡ Some (turn_at rs k))
-    → (k own : ℕ) → thread_at rs k ≡ Some own → IsPassed r.thread (i + 1) own k
+    → (k own : ℕ) → thread_at rs k ≡ Some own → IsPlacePassed r.thread (i + 1) own k
     → slice_get (set turns i turn) k ≡ Some (turn_at rs k)
 turns_put rs i turn r turns within long is old k own by_thread passed = elim (cases_eq k i) [
   | inl same ↦
@@ -230,12 +230,12 @@ turns_put rs i turn r turns within long is old k own by_thread passed = elim (ca
 
 -- a record that begins no turn
 pub walk_keep : (rs : List Record) (tasks : List ℕ) (i turn : ℕ) (r : Record) (old new : Walk) → i < length rs
-    → r ≡ get_or rs i r → IsWalkAt rs tasks r.thread i old → turn ≡ turn_at rs i → at begun_turn rs i ≡ None
+    → r ≡ get_or rs i r → IsTableAt rs tasks r.thread i old → turn ≡ turn_at rs i → at begun_turn rs i ≡ None
     → new.turns.items ≡ set old.turns.items i turn → new.marks.items ≡ old.marks.items
-    → new.in_order ≡ old.in_order → IsWalkAt rs tasks r.thread (i + 1) new
+    → new.in_order ≡ old.in_order → IsTableAt rs tasks r.thread (i + 1) new
 walk_keep rs tasks i turn r old new within read before is none turns marks order = record {
   marks =
-      subst (AreMarks rs tasks r.thread (i + 1)) (sym marks)
+      subst (AreTurnMarks rs tasks r.thread (i + 1)) (sym marks)
       (marks_keep rs tasks i r old.marks.items within read none before.marks);
   all = ap length turns ∙ length-set old.turns.items i turn ∙ before.all;
   turns =
@@ -254,17 +254,17 @@ walk_keep rs tasks i turn r old new within read before is none turns marks order
 -- a record that begins one
 pub walk_put : (rs : List Record) (tasks : List ℕ) (i turn index task next : ℕ) (r : Record) (mark : Mark)
     (old new : Walk)
-    → i < length rs → r ≡ get_or rs i r → IsWalkAt rs tasks r.thread i old → turn ≡ turn_at rs i
+    → i < length rs → r ≡ get_or rs i r → IsTableAt rs tasks r.thread i old → turn ≡ turn_at rs i
     → AreApart tasks → at begun_turn rs i ≡ Some (task, next) → slice_get tasks index ≡ Some task
     → slice_get old.marks.items index ≡ Some mark → new.turns.items ≡ set old.turns.items i turn
     → new.marks.items ≡ set old.marks.items index (record { turn = next; thread = r.thread })
     → (new.in_order ≡ true → (old.in_order ≡ true) × (turn_on mark r.thread ≤ next))
-    → IsWalkAt rs tasks r.thread (i + 1) new
+    → IsTableAt rs tasks r.thread (i + 1) new
 walk_put rs tasks i turn index task next r mark old new within read before is apart begins indexed marked
     turns marks order =
     record {
       marks =
-          subst (AreMarks rs tasks r.thread (i + 1)) (sym marks)
+          subst (AreTurnMarks rs tasks r.thread (i + 1)) (sym marks)
           (marks_put rs tasks i index task next r old.marks.items within read apart begins indexed
           before.marks);
       all = ap length turns ∙ length-set old.turns.items i turn ∙ before.all;
@@ -291,11 +291,11 @@ walk_put rs tasks i turn index task next r mark old new within read before is ap
 
 -- ---- all threads
 
-passed_all : (i own : ℕ) → own < 256 → IsPassed 256 0 own i
+passed_all : (i own : ℕ) → own < 256 → IsPlacePassed 256 0 own i
 passed_all i own small = inl small
 
 pub walked_turns : (rs : List Record) (tasks : List ℕ) (walk : Walk)
-    → ((i thread : ℕ) → thread_at rs i ≡ Some thread → thread < 256) → IsWalkAt rs tasks 256 0 walk
+    → ((i thread : ℕ) → thread_at rs i ≡ Some thread → thread < 256) → IsTableAt rs tasks 256 0 walk
     → AreTurns rs walk.turns.items
 walked_turns rs tasks walk narrow is =
     same_by_index walk.turns.items (map (turn_at rs) (places rs)) (is.all ∙ sym as_long) each
@@ -410,7 +410,7 @@ last_bound rs thread task order (suc n) within k later below by_thread begins =
     ]
 
 pub walked_order : (rs : List Record) (tasks : List ℕ) (walk : Walk)
-    → ((i thread : ℕ) → thread_at rs i ≡ Some thread → thread < 256) → IsWalkAt rs tasks 256 0 walk
+    → ((i thread : ℕ) → thread_at rs i ≡ Some thread → thread < 256) → IsTableAt rs tasks 256 0 walk
     → walk.in_order ≡ true → TurnsBeginInOrder rs
 walked_order rs tasks walk narrow is ordered i k thread task turn later below here there begins began =
     let within = thread_within rs i thread here in

@@ -10,7 +10,7 @@ pub record IsStood (rs : List Record) (most task : ℕ) (standing : Standing) : 
   pub shallow : standing.depth ≤ most
 
 -- it is known of the first n tasks where each stands
-pub record AreStanding (rs : List Record) (n : ℕ) (tasks : List ℕ)
+pub record AreStandingsKnown (rs : List Record) (n : ℕ) (tasks : List ℕ)
     (roots : List (Option Standing)) : Type 0 where
   pub all : length roots ≡ n
   pub each : (index task : ℕ) (standing : Standing) → slice_get tasks index ≡ Some task

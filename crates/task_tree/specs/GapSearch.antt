@@ -29,14 +29,14 @@ pub record AreFirst (rs : List Record) (n : ℕ) (first : BTreeMap (ℕ × ℕ) 
       → at begun_turn rs k ≡ Some (task, turn) → ⊥
 
 -- the initial and implicit tasks that begin by the first n records
-pub record AreRoots (rs : List Record) (n : ℕ) (roots : BTreeSet ℕ) : Type 0 where
+pub record AreRootsBegun (rs : List Record) (n : ℕ) (roots : BTreeSet ℕ) : Type 0 where
   pub only : (task : ℕ) → contains nat_cmp roots task ≡ true → IsRoot rs task
   pub all : (task k : ℕ) → k < n → at begun_root rs k ≡ Some task → contains nat_cmp roots task ≡ true
 
 -- both, by all records
-pub record AreBegins (rs : List Record) (begins : Begins) : Type 0 where
+pub record AreFirstBegins (rs : List Record) (begins : Begins) : Type 0 where
   pub first : AreFirst rs (length rs) begins.first
-  pub roots : AreRoots rs (length rs) begins.roots
+  pub roots : AreRootsBegun rs (length rs) begins.roots
 
 -- ---- the greatest turn of a task on a thread
 
@@ -53,7 +53,7 @@ pub record IsTurnRaised (old new : BTreeMap (ℕ × ℕ) ℕ) (r : Record) : Typ
 
 -- for each task on each thread the greatest turn is kept that it began there by the first n records, and 0
 -- where it began none
-pub record AreGreatest (rs : List Record) (n : ℕ) (kept : BTreeMap (ℕ × ℕ) ℕ) : Type 0 where
+pub record AreGreatestTurns (rs : List Record) (n : ℕ) (kept : BTreeMap (ℕ × ℕ) ℕ) : Type 0 where
   pub bound : (k thread task turn : ℕ) → k < n → thread_at rs k ≡ Some thread
       → at begun_turn rs k ≡ Some (task, turn) → turn ≤ kept_turn kept thread task
   pub reached : (thread task : ℕ) → 0 < kept_turn kept thread task

@@ -9,13 +9,13 @@ abbrev pub link_of_code : ℕ → ℕ → Option Link
 link_of_code number parent =
     if parent == 4294967295 then None else Some (record { number = number; parent = parent })
 
-abbrev pub number_of : Option Link → ℕ
-number_of None = 0
-number_of (Some link) = link.number
+abbrev pub link_number : Option Link → ℕ
+link_number None = 0
+link_number (Some link) = link.number
 
-abbrev pub parent_of : Option Link → ℕ
-parent_of None = 4294967295
-parent_of (Some link) = link.parent
+abbrev pub link_parent : Option Link → ℕ
+link_parent None = 4294967295
+link_parent (Some link) = link.parent
 
 -- without a parent the number is 0
 abbrev pub IsCode : ℕ → ℕ → Type 0
@@ -25,10 +25,10 @@ IsCode number parent = parent ≡ 4294967295 → number ≡ 0
 abbrev code_if : {X : Type 0} → (ℕ → ℕ → X) → ℕ → ℕ → Bool → X
 code_if make number parent none =
     let link : Option Link = if none then None else Some (record { number = number; parent = parent }) in
-    make (number_of link) (parent_of link)
+    make (link_number link) (link_parent link)
 
 pub link_again : {X : Type 0} (make : ℕ → ℕ → X) (number parent : ℕ) → IsCode number parent
-    → make (number_of (link_of_code number parent)) (parent_of (link_of_code number parent))
+    → make (link_number (link_of_code number parent)) (link_parent (link_of_code number parent))
     ≡ make number parent
 link_again make number parent is_code = elim (cases_eq parent 4294967295) [
   | inl same ↦ ap (code_if make number parent) (eq-eqb parent 4294967295 same)

@@ -8,7 +8,7 @@ use Rattle.ompt_events.specs.Tree.{children_before}
 use Rattle.task_tree.specs.declared.links.Link.{Link}
 
 -- at the index of each task stands how many children it created by the first n records
-pub record AreCounts (rs : List Record) (n : ℕ) (tasks counts : List ℕ) : Type 0 where
+pub record AreChildCounts (rs : List Record) (n : ℕ) (tasks counts : List ℕ) : Type 0 where
   pub all : length counts ≡ length tasks
   pub few : sum counts ≤ n
   pub each : (index task : ℕ) → slice_get tasks index ≡ Some task
@@ -40,12 +40,12 @@ IsSlotOf tasks task slot = (k : ℕ) → (slot ≡ Some k) ↔ (slice_get tasks 
 
 -- one child more of the parent: it is counted, and has its link; where no record makes the parent, nothing
 -- changes
-pub data IsLinked (tasks : List ℕ) (parent child : ℕ) (counts : List ℕ) (links : List (Option Link))
+pub data IsChildLinked (tasks : List ℕ) (parent child : ℕ) (counts : List ℕ) (links : List (Option Link))
     : List ℕ → List (Option Link) → Type 0 where
   unmade : ((up : ℕ) → slice_get tasks up ≡ Some parent → ⊥)
-      → IsLinked tasks parent child counts links counts links
+      → IsChildLinked tasks parent child counts links counts links
   counted : (up : ℕ) → IsIndex tasks parent up → ((own : ℕ) → slice_get tasks own ≡ Some child → ⊥)
-      → IsLinked tasks parent child counts links (slice_set counts up (slice_index counts up + 1)) links
+      → IsChildLinked tasks parent child counts links (slice_set counts up (slice_index counts up + 1)) links
   linked : (up own : ℕ) → IsIndex tasks parent up → IsIndex tasks child own
-      → IsLinked tasks parent child counts links (slice_set counts up (slice_index counts up + 1))
+      → IsChildLinked tasks parent child counts links (slice_set counts up (slice_index counts up + 1))
       (slice_set links own (Some (record { number = slice_index counts up; parent = up })))

@@ -13,7 +13,7 @@ abbrev pub forked_region : Body → Option ℕ
 forked_region body = option_map (λ (p : ℕ × ℕ). p.1) (forked body)
 
 -- the places are some of the first n, in their order
-pub record AreInOrder (n : ℕ) (places : List ℕ) : Type 0 where
+pub record ArePlacesBelow (n : ℕ) (places : List ℕ) : Type 0 where
   pub below : (index place : ℕ) → slice_get places index ≡ Some place → place < n
   pub rising : (a b place later : ℕ) → a < b → slice_get places a ≡ Some place
       → slice_get places b ≡ Some later
@@ -26,7 +26,7 @@ pub record AreMade (rs : List Record) (n : ℕ) (tasks places : List ℕ) : Type
   pub apart : AreApart tasks
   pub each : (index task : ℕ) → slice_get tasks index ≡ Some task
       → (place : ℕ) × (slice_get places index ≡ Some place) × (place < n) × (at made rs place ≡ Some task)
-  pub in_order : AreInOrder n places
+  pub in_order : ArePlacesBelow n places
 
 -- the ids are those that the first n records say
 pub record AreNoted (says : Body → Option ℕ) (rs : List Record) (n : ℕ) (ids : List ℕ) : Type 0 where
@@ -47,7 +47,7 @@ pub record AreGathered (rs : List Record) (n : ℕ) (tasks places : List ℕ) : 
       → (index : ℕ) × (slice_get tasks index ≡ Some task) × (slice_get places index ≡ Some i)
   pub only : (index task place : ℕ) → slice_get tasks index ≡ Some task
       → slice_get places index ≡ Some place → (place < n) × (at made rs place ≡ Some task)
-  pub in_order : AreInOrder n places
+  pub in_order : ArePlacesBelow n places
 
 -- all that is known where nothing is made again
 pub record AreMadeOnce (rs : List Record) (tasks places regions : List ℕ) : Type 0 where

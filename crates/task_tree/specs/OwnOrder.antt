@@ -12,9 +12,9 @@ pub record AreInverse (places numbers : List ℕ) : Type 0 where
   pub back : (place number : ℕ) → slice_get places number ≡ Some place → slice_get numbers place ≡ Some number
 
 -- the places, the earliest in the tasks' own order first
-abbrev pub places_of : Order → List ℕ
-places_of (InFile records) = range_with_len 0 records
-places_of (Arranged places numbers) = places.items
+abbrev pub order_places : Order → List ℕ
+order_places (InFile records) = range_with_len 0 records
+order_places (Arranged places numbers) = places.items
 
 -- the two lists of an arranged order are inverse
 abbrev pub IsOrder : Order → Type 0
@@ -38,7 +38,7 @@ pub record AreApartBelow (ordered : List ℕ) (n : ℕ) : Type 0 where
       → slice_get ordered other ≡ Some place → number ≡ other
 
 -- at each of the first n places in order stands its number
-pub record AreNumbers (ordered : List ℕ) (n : ℕ) (numbers : List ℕ) : Type 0 where
+pub record AreOrderNumbers (ordered : List ℕ) (n : ℕ) (numbers : List ℕ) : Type 0 where
   pub all : length numbers ≡ length ordered
   pub each : (number place : ℕ) → number < n → slice_get ordered number ≡ Some place
       → slice_get numbers place ≡ Some number

@@ -18,13 +18,13 @@ abbrev pub ranked_id : List ℕ → List ℕ → ℕ → ℕ
 ranked_id ids order rank = slice_index ids (slice_index order rank)
 
 -- of the first n ids in this order each is greater than those before it
-abbrev pub IsRising : List ℕ → List ℕ → ℕ → Type 0
-IsRising ids order n = (a b : ℕ) → a < b → b < n → ranked_id ids order a < ranked_id ids order b
+abbrev pub AreRanksRising : List ℕ → List ℕ → ℕ → Type 0
+AreRanksRising ids order n = (a b : ℕ) → a < b → b < n → ranked_id ids order a < ranked_id ids order b
 
 -- some of the ids are in the order of their values
 pub record IsOrder (ids order : List ℕ) : Type 0 where
   pub within : AreWithin ids order
-  pub rising : IsRising ids order (length order)
+  pub rising : AreRanksRising ids order (length order)
 
 -- all of them are, and none stands there twice
 pub record IsRanked (ids order : List ℕ) : Type 0 where

@@ -27,8 +27,8 @@ pub record IsInOrder (rs : List Record) (i : ℕ) : Type 0 where
   pub begins : (task turn : ℕ) → BeginsTurn rs i task turn → NoneLater rs i task turn
 
 -- so of each record: along the file each task comes to its turns in order
-abbrev pub AreInOrder : List Record → Type 0
-AreInOrder rs = (i : ℕ) → IsInOrder rs i
+abbrev pub AreTurnsInOrder : List Record → Type 0
+AreTurnsInOrder rs = (i : ℕ) → IsInOrder rs i
 
 -- ---- what is known of a task
 
@@ -51,7 +51,7 @@ pub data IsNext (known : Latest) (turn : ℕ) : Type 0 where
 
 -- what the first n records say of the task: the turn that is known began, and on the thread that is known,
 -- where it is not turn 0; no later one began; and the task is in it on that thread, or in turn 0 on any
-pub record IsLatest (rs : List Record) (n task : ℕ) (known : Latest) : Type 0 where
+pub record IsLatestTurn (rs : List Record) (n task : ℕ) (known : Latest) : Type 0 where
   pub begun : (turn : ℕ) → known.turn ≡ Some turn → (k : ℕ) × (k < n) × BeginsTurn rs k task turn
       × ((turn ≡ 0) ⊎ (thread_at rs k ≡ Some known.thread))
   pub none : known.turn ≡ None → (k turn : ℕ) → k < n → BeginsTurn rs k task turn → ⊥
@@ -60,10 +60,10 @@ pub record IsLatest (rs : List Record) (n task : ℕ) (known : Latest) : Type 0 
       → turn_in task (filter (λ q. q.thread == thread) (take n rs)) ≡ turn
 
 -- so by index of each task
-pub record AreLatest (rs : List Record) (n : ℕ) (tasks : List ℕ) (latest : List Latest) : Type 0 where
+pub record AreLatestTurns (rs : List Record) (n : ℕ) (tasks : List ℕ) (latest : List Latest) : Type 0 where
   pub all : length latest ≡ length tasks
   pub each : (index task : ℕ) (known : Latest) → slice_get tasks index ≡ Some task
-      → slice_get latest index ≡ Some known → IsLatest rs n task known
+      → slice_get latest index ≡ Some known → IsLatestTurn rs n task known
 
 -- ---- one record
 
@@ -79,7 +79,7 @@ pub record IsStartOf (rs : List Record) (tasks : List ℕ) (i index turn : ℕ) 
   pub indexed : slice_get tasks index ≡ Some task
 
 -- the task at the index begins this turn there
-pub record IsBeginOf (rs : List Record) (tasks : List ℕ) (i index turn : ℕ) : Type 0 where
+pub record IsTurnBegin (rs : List Record) (tasks : List ℕ) (i index turn : ℕ) : Type 0 where
   pub task : ℕ
   pub begins : BeginsTurn rs i task turn
   pub indexed : slice_get tasks index ≡ Some task
@@ -96,6 +96,6 @@ pub data MayBegin (rs : List Record) (task : ℕ) (body : Body) (known : Latest)
 
 -- the record at the place has no gap and is in order, and what is known afterwards is right
 pub record IsStepOn (rs : List Record) (i : ℕ) (tasks : List ℕ) (latest : List Latest) : Type 0 where
-  pub known : AreLatest rs (i + 1) tasks latest
+  pub known : AreLatestTurns rs (i + 1) tasks latest
   pub gapless : HasTurnGap rs i → ⊥
   pub in_order : IsInOrder rs i

@@ -35,6 +35,6 @@ abbrev pub NamesKnown : List ℕ → List ℕ → Body → Type 0
 NamesKnown tasks regions body = (NamesUnmade tasks body → ⊥) × (NamesNoRegion regions body → ⊥)
 
 -- so it is with each of the first n records
-abbrev pub AreKnown : List Record → ℕ → List ℕ → List ℕ → Type 0
-AreKnown rs n tasks regions =
+abbrev pub AllNameKnown : List Record → ℕ → List ℕ → List ℕ → Type 0
+AllNameKnown rs n tasks regions =
     (i : ℕ) (r : Record) → i < n → slice_get rs i ≡ Some r → NamesKnown tasks regions r.body

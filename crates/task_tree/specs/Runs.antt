@@ -55,14 +55,14 @@ pub record IsRegionEvent (run : RunView) (i index : ℕ) (kind : SyncKind) (endp
   pub indexed : slice_get run.family.tasks index ≡ Some task
 
 -- the status of a task_schedule event
-abbrev pub status : Body → Option Status
-status body = option_map (λ (s : Status × ℕ × Option ℕ). s.0) (schedule body)
+abbrev pub schedule_status : Body → Option Status
+schedule_status body = option_map (λ (s : Status × ℕ × Option ℕ). s.0) (schedule body)
 
 -- a task_schedule event there has this status, and the tasks at these indices (19.5.2.10)
-pub record IsSchedule (run : RunView) (i : ℕ) (status : Status) (prior : ℕ) (next : Option ℕ) : Type 0 where
+pub record IsSchedule (run : RunView) (i : ℕ) (schedule_status : Status) (prior : ℕ) (next : Option ℕ) : Type 0 where
   pub task : ℕ
   pub follower : Option ℕ
-  pub says : at schedule run.records i ≡ Some (status, task, follower)
+  pub says : at schedule run.records i ≡ Some (schedule_status, task, follower)
   pub indexed : slice_get run.family.tasks prior ≡ Some task
   pub next_indexed : Calls run.family.tasks follower next
 

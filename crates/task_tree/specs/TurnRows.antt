@@ -39,7 +39,7 @@ BeginsAnew rs i =
     → at begun_turn rs k ≡ Some (task, turn) → ⊥
 
 -- the rows are those of all records, each of which begins its turn anew
-pub record AreRows (rs : List Record) (tasks offsets : List ℕ) (begun : List Bool) : Type 0 where
+pub record AreTurnRows (rs : List Record) (tasks offsets : List ℕ) (begun : List Bool) : Type 0 where
   pub all : length offsets ≡ length tasks + 1
   pub within : AreWithin offsets (length begun)
   pub marked : AreMarkedUpTo rs (length rs) tasks offsets begun

@@ -39,7 +39,7 @@ turn_on mark thread = if mark.thread == thread then mark.turn else 0
 
 -- by the thread's records among the first n the marks have the turns of the tasks; by those of later threads,
 -- of which none is gone over, each task is in turn 0
-pub record AreMarks (rs : List Record) (tasks : List ℕ) (thread n : ℕ) (marks : List Mark) : Type 0 where
+pub record AreTurnMarks (rs : List Record) (tasks : List ℕ) (thread n : ℕ) (marks : List Mark) : Type 0 where
   pub all : length marks ≡ length tasks
   pub here : (index task : ℕ) (mark : Mark) → slice_get tasks index ≡ Some task
       → slice_get marks index ≡ Some mark
@@ -50,8 +50,8 @@ pub record AreMarks (rs : List Record) (tasks : List ℕ) (thread n : ℕ) (mark
 -- ---- the walk
 
 -- the record at the place, of this thread, is of an earlier thread, or one of the first n of the thread
-abbrev pub IsPassed : ℕ → ℕ → ℕ → ℕ → Type 0
-IsPassed thread n own i = (own < thread) ⊎ ((own ≡ thread) × (i < n))
+abbrev pub IsPlacePassed : ℕ → ℕ → ℕ → ℕ → Type 0
+IsPlacePassed thread n own i = (own < thread) ⊎ ((own ≡ thread) × (i < n))
 
 -- the record begins no earlier turn than the one that the task began last on the thread
 abbrev pub BeginsNoEarlier : List Record → ℕ → ℕ → Type 0
@@ -60,14 +60,14 @@ BeginsNoEarlier rs thread i =
     → turn_in task (filter (λ q. q.thread == thread) (take i rs)) ≤ turn
 
 -- the earlier threads are gone over, and of this one the first n records
-pub record IsWalkAt (rs : List Record) (tasks : List ℕ) (thread n : ℕ) (walk : Walk) : Type 0 where
-  pub marks : AreMarks rs tasks thread n walk.marks.items
+pub record IsTableAt (rs : List Record) (tasks : List ℕ) (thread n : ℕ) (walk : Walk) : Type 0 where
+  pub marks : AreTurnMarks rs tasks thread n walk.marks.items
   pub all : length walk.turns.items ≡ length rs
-  pub turns : (i own : ℕ) → thread_at rs i ≡ Some own → IsPassed thread n own i
+  pub turns : (i own : ℕ) → thread_at rs i ≡ Some own → IsPlacePassed thread n own i
       → slice_get walk.turns.items i ≡ Some (turn_at rs i)
-  pub order : walk.in_order ≡ true → (i own : ℕ) → thread_at rs i ≡ Some own → IsPassed thread n own i
+  pub order : walk.in_order ≡ true → (i own : ℕ) → thread_at rs i ≡ Some own → IsPlacePassed thread n own i
       → BeginsNoEarlier rs own i
 
 -- the same of the record's own thread, up to the record
 abbrev pub IsReadAt : List Record → List ℕ → ℕ → Walk → Type 0
-IsReadAt rs tasks i walk = (thread : ℕ) → thread_at rs i ≡ Some thread → IsWalkAt rs tasks thread i walk
+IsReadAt rs tasks i walk = (thread : ℕ) → thread_at rs i ≡ Some thread → IsTableAt rs tasks thread i walk

@@ -7,7 +7,7 @@ ghost use Rattle.task_tree.specs.Makers.{AreNoted};
 ghost use Rattle.task_tree.specs.Numbering.{AreApart};
 ghost use Rattle.task_tree.specs.Links.{AreLinks};
 ghost use Rattle.task_tree.specs.Rows.{AreChildren};
-ghost use Rattle.task_tree.specs.Rootless.{AreKnown};
+ghost use Rattle.task_tree.specs.Rootless.{AllNameKnown};
 ghost use Rattle.task_tree.specs.Subjects.{subject, object, AreFound};
 
 use crate::link_slot::LinkSlot;
@@ -44,7 +44,7 @@ pub(crate) fn find_children(
     ensures objects { IfOk result (λ found. AreFound object records.now
         (length records.now) tasks.now found.named.objects.items) }
     ensures known { IfOk result (λ found. IsTrue found.named.known
-        → AreKnown records.now (length records.now) tasks.now regions.now) }
+        → AllNameKnown records.now (length records.now) tasks.now regions.now) }
     ensures rows { IfOk result (λ found. AreChildren records.now tasks.now found.rows) }
     ensures links { IfOk result (λ found. AreLinks records.now
         (length records.now) tasks.now found.links.items) }

@@ -5,7 +5,7 @@ ghost use Rattle.ompt_events.specs.Places.{at as says_at};
 ghost use Rattle.task_tree.specs.Makers.{AreMade};
 ghost use Rattle.task_tree.specs.Links.{AreLinks};
 ghost use Rattle.task_tree.specs.Roots.{AreRoots};
-ghost use Rattle.task_tree.specs.Forward.{AreStanding, StandsBelow, IsStood};
+ghost use Rattle.task_tree.specs.Forward.{AreStandingsKnown, StandsBelow, IsStood};
 
 use crate::link_slot::LinkSlot;
 use crate::roots::Standing;
@@ -50,7 +50,7 @@ fn standing_at(
     requires places { AreMade records.now (length records.now) tasks.now places.now }
     requires links { AreLinks records.now (length records.now) tasks.now links.now }
     requires few { length records.now ≤ 2 ^ 22 }
-    requires roots { AreStanding records.now index tasks.now roots.now }
+    requires roots { AreStandingsKnown records.now index tasks.now roots.now }
     ensures { IfSome result (λ standing. (task : ℕ) → slice_get tasks.now index ≡ Some task
         → IsStood records.now index task standing) }
 {

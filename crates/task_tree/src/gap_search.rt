@@ -10,7 +10,7 @@ ghost use Rattle.ompt_events.specs.Turns.{turn_at};
 ghost use Rattle.ompt_events.specs.Causes.{HasTurnGap, BeginsTurn};
 ghost use Rattle.ompt_events.specs.Faults.{FindsFirst};
 ghost use Rattle.task_tree.specs.TurnTable.{AreTurns};
-ghost use Rattle.task_tree.specs.GapSearch.{pair_cmp, kept_turn, AreFirst, AreRoots, AreBegins, IsTurnRaised, AreGreatest, IsBegunBefore, IsFalling, BeginsRoot, LacksBefore, IsWrongStart};
+ghost use Rattle.task_tree.specs.GapSearch.{pair_cmp, kept_turn, AreFirst, AreRootsBegun, AreFirstBegins, IsTurnRaised, AreGreatestTurns, IsBegunBefore, IsFalling, BeginsRoot, LacksBefore, IsWrongStart};
 
 use ompt_events::Record;
 use std::alloc::{AllocError, Global};
@@ -58,7 +58,7 @@ pub(crate) fn search_gap(
 
 /// Where the turns of the records begin.
 fn find_begins(alloc: Global, records: &[Record]) -> Result<Begins, AllocError>
-    ensures { IfOk result (AreBegins records.now) }
+    ensures { IfOk result (AreFirstBegins records.now) }
 {
     let first = find_first(alloc, records)?;
     let roots = find_roots(alloc, records)?;
@@ -104,7 +104,7 @@ fn first_begin(first: &BTreeMap<(u64, u32), usize>, turn: (u64, u32)) -> Option<
 
 /// The initial and implicit tasks.
 fn find_roots(alloc: Global, records: &[Record]) -> Result<BTreeSet<u64>, AllocError>
-    ensures { IfOk result (AreRoots records.now (length records.now)) }
+    ensures { IfOk result (AreRootsBegun records.now (length records.now)) }
 {
     let mut roots = BTreeSet::new(alloc);
     for at in 0..records.len() {
@@ -116,8 +116,8 @@ fn find_roots(alloc: Global, records: &[Record]) -> Result<BTreeSet<u64>, AllocE
 /// Notes the root that begins at a place, if one does.
 fn note_root(roots: &mut BTreeSet<u64>, records: &[Record], at: usize) -> Result<(), AllocError>
     requires within { at < length records.now }
-    requires roots { AreRoots records.now at roots.old }
-    ensures { OnOk result (AreRoots records.now (at + 1) roots.new) }
+    requires roots { AreRootsBegun records.now at roots.old }
+    ensures { OnOk result (AreRootsBegun records.now (at + 1) roots.new) }
 {
     if let Some(task) = records[at].body.begun_root() {
         roots.insert(task)?;
@@ -157,7 +157,7 @@ fn has_gap(
     at: usize,
     turn: u32,
 ) -> bool
-    ensures { (records : List Record) → AreBegins records begins.now → AreGreatest records at greatest.now
+    ensures { (records : List Record) → AreFirstBegins records begins.now → AreGreatestTurns records at greatest.now
         → slice_get records at ≡ Some event.now → turn ≡ turn_at records at
         → IsTrue result ↔ HasTurnGap records at }
 {
@@ -181,8 +181,8 @@ fn has_gap(
 
 /// Whether the task may not begin that turn there.
 fn is_wrong(begins: &Begins, greatest: &BTreeMap<(u8, u64), u32>, start: Start) -> bool
-    ensures { (records : List Record) → AreBegins records begins.now
-        → AreGreatest records start.at greatest.now → IsTrue result ↔ IsWrongStart records start }
+    ensures { (records : List Record) → AreFirstBegins records begins.now
+        → AreGreatestTurns records start.at greatest.now → IsTrue result ↔ IsWrongStart records start }
 {
     if is_begun_before(begins, start) {
         return true;
@@ -198,7 +198,7 @@ fn is_wrong(begins: &Begins, greatest: &BTreeMap<(u8, u64), u32>, start: Start) 
 
 /// Whether an earlier record began the same turn of the task.
 fn is_begun_before(begins: &Begins, start: Start) -> bool
-    ensures { (records : List Record) → AreBegins records begins.now
+    ensures { (records : List Record) → AreFirstBegins records begins.now
         → IsTrue result ↔ IsBegunBefore records start }
 {
     match first_begin(&begins.first, (start.task, start.turn)) {
@@ -209,7 +209,7 @@ fn is_begun_before(begins: &Begins, start: Start) -> bool
 
 /// Whether an earlier record of the thread began a later turn of the task.
 fn is_falling(greatest: &BTreeMap<(u8, u64), u32>, start: Start) -> bool
-    ensures { (records : List Record) → AreGreatest records start.at greatest.now
+    ensures { (records : List Record) → AreGreatestTurns records start.at greatest.now
         → IsTrue result ↔ IsFalling records start }
 {
     start.turn < kept_turn(greatest, start.thread, start.task)
@@ -217,7 +217,7 @@ fn is_falling(greatest: &BTreeMap<(u8, u64), u32>, start: Start) -> bool
 
 /// Whether no record begins the turn before.
 fn lacks_before(begins: &Begins, start: Start) -> bool
-    ensures { (records : List Record) → AreBegins records begins.now
+    ensures { (records : List Record) → AreFirstBegins records begins.now
         → IsTrue result ↔ LacksBefore records start }
 {
     start.turn > 0 && !has_begun(begins, start.task, start.turn - 1)
@@ -225,7 +225,7 @@ fn lacks_before(begins: &Begins, start: Start) -> bool
 
 /// Whether a record begins the turn of the task.
 fn has_begun(begins: &Begins, task: u64, turn: u32) -> bool
-    ensures { (records : List Record) → AreBegins records begins.now
+    ensures { (records : List Record) → AreFirstBegins records begins.now
         → IsTrue result ↔ ((k : ℕ) × BeginsTurn records k task turn) }
 {
     match first_begin(&begins.first, (task, turn)) {
@@ -236,7 +236,7 @@ fn has_begun(begins: &Begins, task: u64, turn: u32) -> bool
 
 /// Whether it is turn 0 of a root, which begins where the root does.
 fn begins_root(begins: &Begins, task: u64, turn: u32) -> bool
-    ensures { (records : List Record) → AreBegins records begins.now
+    ensures { (records : List Record) → AreFirstBegins records begins.now
         → IsTrue result ↔ BeginsRoot records task turn }
 {
     turn == 0 && begins.roots.contains(&task)

@@ -9,7 +9,7 @@ ghost use Rattle.ompt_events.specs.Causes.{IsFreeOf};
 ghost use Rattle.ompt_events.specs.Faults.{FindsFirst};
 ghost use Rattle.task_tree.specs.Family.{IsFamilyOf};
 ghost use Rattle.task_tree.specs.TurnTable.{AreTurns, IsOrderTold};
-ghost use Rattle.task_tree.specs.TurnRows.{AreRows};
+ghost use Rattle.task_tree.specs.TurnRows.{AreTurnRows};
 ghost use Rattle.task_tree.specs.Gaps.{TellsRightly, MayBeginThere};
 
 use crate::family::Family;
@@ -65,7 +65,7 @@ fn is_gapless(
 /// Whether each record tells the turn of its prior task, and a turn of the next one that may begin there.
 fn tell_rightly(records: &[Record], family: &Family, rows: &TurnRows, turns: &[u32]) -> bool
     requires family { IsFamilyOf records.now family.now }
-    requires rows { AreRows records.now family.now.tasks rows.now.offsets.items rows.now.begun.items }
+    requires rows { AreTurnRows records.now family.now.tasks rows.now.offsets.items rows.now.begun.items }
     requires turns { AreTurns records.now turns.now }
     ensures { IsTrue result → (i : ℕ) → i < length records.now → TellsRightly records.now i }
 {
@@ -81,7 +81,7 @@ fn tell_rightly(records: &[Record], family: &Family, rows: &TurnRows, turns: &[u
 fn tells_rightly(records: &[Record], family: &Family, rows: &TurnRows, turn: u32, at: usize) -> bool
     requires within { at < length records.now }
     requires family { IsFamilyOf records.now family.now }
-    requires rows { AreRows records.now family.now.tasks rows.now.offsets.items rows.now.begun.items }
+    requires rows { AreTurnRows records.now family.now.tasks rows.now.offsets.items rows.now.begun.items }
     requires turn { turn ≡ turn_at records.now at }
     ensures { IsTrue result → TellsRightly records.now at }
 {
@@ -97,7 +97,7 @@ fn tells_rightly(records: &[Record], family: &Family, rows: &TurnRows, turn: u32
 /// Whether the turn before begins as well. Turn 0 of a root begins where the root does, and there alone.
 fn may_begin(records: &[Record], family: &Family, rows: &TurnRows, begin: Begin) -> bool
     requires family { IsFamilyOf records.now family.now }
-    requires rows { AreRows records.now family.now.tasks rows.now.offsets.items rows.now.begun.items }
+    requires rows { AreTurnRows records.now family.now.tasks rows.now.offsets.items rows.now.begun.items }
     requires index { begin.index < length family.now.tasks }
     ensures { IsTrue result → (task : ℕ) → slice_get family.now.tasks begin.index ≡ Some task
         → MayBeginThere records.now task begin.turn }

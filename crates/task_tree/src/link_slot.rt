@@ -15,7 +15,7 @@ pub(crate) struct LinkSlot {
 impl Model for LinkSlot {
     ghost use Rattle.std.specs.Prelude.{Option};
     ghost use Rattle.task_tree.specs.declared.links.Link.{Link};
-    ghost use Rattle.task_tree.specs.LinkSlots.{link_of_code, number_of, parent_of, IsCode, link_again};
+    ghost use Rattle.task_tree.specs.LinkSlots.{link_of_code, link_number, link_parent, IsCode, link_again};
 
     ghost Value = { Option Link };
 
@@ -23,7 +23,7 @@ impl Model for LinkSlot {
 
     ghost invariant = { λ slot. IsCode slot.number slot.parent };
 
-    ghost inverse = { λ link. record { number = number_of link; parent = parent_of link } };
+    ghost inverse = { λ link. record { number = link_number link; parent = link_parent link } };
 
     ghost inverse_ok = { λ slot is_code.
         link_again (λ number parent. record { number = number; parent = parent }) slot.number slot.parent is_code };

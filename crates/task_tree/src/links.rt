@@ -1,6 +1,6 @@
 //! The parent and number of each created task, and how many children each task has.
 ghost use Rattle.std.specs.Prelude.{ℕ, ◌≡◌, ◌<◌, ◌≤◌, ◌^◌, List, None, IfOk, IfSome, length, slice_index, replicate};
-ghost use Rattle.task_tree.specs.Links.{IsLinked, IsSlotOf};
+ghost use Rattle.task_tree.specs.Links.{IsChildLinked, IsSlotOf};
 
 use crate::link_slot::LinkSlot;
 use crate::slot::Slot;
@@ -33,7 +33,7 @@ pub(crate) fn link_child(
     requires few { length counts.old.items ≤ 2 ^ 22 }
     requires room { IfSome parent (λ up. slice_index counts.old.items up < 2 ^ 22) }
     ensures { (tasks : List ℕ) → (above task : ℕ) → IsSlotOf tasks above parent → IsSlotOf tasks task child
-        → IsLinked tasks above task counts.old.items links.old.items counts.new.items links.new.items }
+        → IsChildLinked tasks above task counts.old.items links.old.items counts.new.items links.new.items }
 {
     let Some(up) = parent.get() else {
         return;

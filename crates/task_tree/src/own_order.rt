@@ -3,7 +3,7 @@ ghost use Rattle.std.specs.Prelude.{◌≡◌, ◌<◌, ◌^◌, IfOk, Some, len
 ghost use Rattle.std.specs.List.{range_with_len};
 ghost use Rattle.ompt_events.specs.Turns.{own_places};
 ghost use Rattle.task_tree.specs.TurnTable.{AreTurns};
-ghost use Rattle.task_tree.specs.OwnOrder.{AreInverse, AreApartBelow, AreNumbers};
+ghost use Rattle.task_tree.specs.OwnOrder.{AreInverse, AreApartBelow, AreOrderNumbers};
 
 use ompt_events::Record;
 use std::alloc::{AllocError, Global};
@@ -27,11 +27,11 @@ enum Order {
 
 impl Model for OwnOrder {
     ghost use Rattle.std.specs.Prelude.{List, ℕ};
-    ghost use Rattle.task_tree.specs.OwnOrder.{places_of, IsOrder};
+    ghost use Rattle.task_tree.specs.OwnOrder.{order_places, IsOrder};
 
     ghost Value = { List ℕ };
 
-    ghost view = { λ own. places_of own.order };
+    ghost view = { λ own. order_places own.order };
 
     ghost invariant = { λ own. IsOrder own.order };
 }
@@ -132,7 +132,7 @@ fn places_of(alloc: Global, keys: &[(u32, u32)]) -> Result<Vec<u32>, AllocError>
 fn numbers_of(alloc: Global, places: &[u32]) -> Result<Vec<u32>, AllocError>
     requires few { length places.now < 2 ^ 32 }
     requires apart { AreApartBelow places.now (length places.now) }
-    ensures { IfOk result (λ numbers. AreNumbers places.now (length places.now) numbers.items) }
+    ensures { IfOk result (λ numbers. AreOrderNumbers places.now (length places.now) numbers.items) }
 {
     let mut numbers = vec![in alloc; 0; places.len()]?;
     for number in 0..places.len() {

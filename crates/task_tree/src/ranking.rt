@@ -1,7 +1,7 @@
 //! The order of ids by their values, and a search in it.
 ghost use Rattle.std.specs.Prelude.{ℕ, ◌≡◌, ◌<◌, ◌≤◌, ◌^◌, Some, IfOk, IfSome, IsTrue, IsPermutation, MatchOption, length, slice_get, slice_index};
 ghost use Rattle.std.specs.List.{range_with_len};
-ghost use Rattle.task_tree.specs.Ranking.{order_of, AreWithin, IsRising, IsOrder, IsRanked, IsUnranked};
+ghost use Rattle.task_tree.specs.Ranking.{order_of, AreWithin, AreRanksRising, IsOrder, IsRanked, IsUnranked};
 
 use std::alloc::{AllocError, Global};
 
@@ -72,7 +72,7 @@ fn sort(alloc: Global, ids: &[u64]) -> Result<Vec<u32>, AllocError>
 /// Whether each id in this order is greater than the one before it.
 fn is_rising(ids: &[u64], ranks: &Ranks) -> bool
     requires { AreWithin ids.now (order_of ranks.now) }
-    ensures { IsTrue result → IsRising ids.now (order_of ranks.now) (length (order_of ranks.now)) }
+    ensures { IsTrue result → AreRanksRising ids.now (order_of ranks.now) (length (order_of ranks.now)) }
 {
     for rank in 1..ranks.len() {
         if ids[ranks.index_at(rank - 1)] >= ids[ranks.index_at(rank)] {

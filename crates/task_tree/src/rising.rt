@@ -8,7 +8,7 @@ ghost use Rattle.ompt_events.specs.Turns.{TellsNoTurns};
 ghost use Rattle.ompt_events.specs.Causes.{IsFreeOf};
 ghost use Rattle.task_tree.specs.Subjects.{Calls};
 ghost use Rattle.task_tree.specs.Family.{IsFamilyOf};
-ghost use Rattle.task_tree.specs.Rising.{TurnsRise, AreInOrder, not_begun, turn_now, IsOnTurn, IsNext, AreLatest, IsTurnThere, IsStartOf, IsBeginOf, BeginsNone, MayBegin, IsStepOn};
+ghost use Rattle.task_tree.specs.Rising.{TurnsRise, AreTurnsInOrder, not_begun, turn_now, IsOnTurn, IsNext, AreLatestTurns, IsTurnThere, IsStartOf, IsTurnBegin, BeginsNone, MayBegin, IsStepOn};
 
 use crate::family::Family;
 use ompt_events::Record;
@@ -71,7 +71,7 @@ impl Latest {
 pub fn turns_rise(alloc: Global, records: &[Record], family: &Family) -> Result<bool, AllocError>
     requires { IsFamilyOf records.now family.now }
     ensures exact { IfOk result (λ rise. IsTrue rise
-        ↔ (AreInOrder records.now × IsFreeOf records.now TurnGap)) }
+        ↔ (AreTurnsInOrder records.now × IsFreeOf records.now TurnGap)) }
     ensures rises { IfOk result (λ rise. rise ≡ true → TurnsRise records.now) }
     ensures gapless { IfOk result (λ rise. rise ≡ true → IsFreeOf records.now TurnGap) }
     ensures untold { IfOk result (λ rise. TellsNoTurns records.now → rise ≡ true) }
@@ -96,9 +96,9 @@ fn none_begun(alloc: Global, tasks: usize) -> Result<Vec<Latest>, AllocError>
 fn goes_on(records: &[Record], family: &Family, latest: &mut Vec<Latest>, at: usize) -> bool
     requires within { at < length records.now }
     requires family { IsFamilyOf records.now family.now }
-    requires latest { AreLatest records.now at family.now.tasks latest.old.items }
+    requires latest { AreLatestTurns records.now at family.now.tasks latest.old.items }
     ensures on { result ≡ true → IsStepOn records.now at family.now.tasks latest.new.items }
-    ensures off { result ≡ false → AreInOrder records.now → IsFreeOf records.now TurnGap → ⊥ }
+    ensures off { result ≡ false → AreTurnsInOrder records.now → IsFreeOf records.now TurnGap → ⊥ }
 {
     let event = &records[at];
     let Some(turn) = turn_there(records, family, latest.as_slice(), at) else {
@@ -124,9 +124,9 @@ fn goes_on(records: &[Record], family: &Family, latest: &mut Vec<Latest>, at: us
 fn turn_there(records: &[Record], family: &Family, latest: &[Latest], at: usize) -> Option<u32>
     requires within { at < length records.now }
     requires family { IsFamilyOf records.now family.now }
-    requires latest { AreLatest records.now at family.now.tasks latest.now }
+    requires latest { AreLatestTurns records.now at family.now.tasks latest.now }
     ensures there { (turn : ℕ) → result ≡ Some turn → IsTurnThere records.now at turn }
-    ensures none { result ≡ None → AreInOrder records.now → IsFreeOf records.now TurnGap → ⊥ }
+    ensures none { result ≡ None → AreTurnsInOrder records.now → IsFreeOf records.now TurnGap → ⊥ }
 {
     match running_at(records, family, at) {
         Some(index) => latest[index].turn_on(records[at].thread),
@@ -185,7 +185,7 @@ fn begin_at(records: &[Record], family: &Family, at: usize) -> Option<Begin>
     requires within { at < length records.now }
     requires family { IsFamilyOf records.now family.now }
     ensures { MatchOption result (BeginsNone records.now at)
-        (λ begin. IsBeginOf records.now family.now.tasks at begin.index begin.turn) }
+        (λ begin. IsTurnBegin records.now family.now.tasks at begin.index begin.turn) }
 {
     match root_at(records, family, at) {
         Some(index) => Some(Begin { index, turn: 0 }),

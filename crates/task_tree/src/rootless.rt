@@ -7,7 +7,7 @@ ghost use Rattle.task_tree.specs.Makers.{AreNoted, forked_region};
 ghost use Rattle.task_tree.specs.Numbering.{AreApart};
 ghost use Rattle.task_tree.specs.Roots.{AreRoots};
 ghost use Rattle.task_tree.specs.Subjects.{subject, object, Finds, AreFound};
-ghost use Rattle.task_tree.specs.Rootless.{AreKnown, AreRootsMade, NamesNoRegion, IsRootless};
+ghost use Rattle.task_tree.specs.Rootless.{AllNameKnown, AreRootsMade, NamesNoRegion, IsRootless};
 ghost use Rattle.task_tree.specs.declared.roots.Standing.{Standing};
 
 use crate::numbering::Numbering;
@@ -32,7 +32,7 @@ pub(crate) fn find_rootless(
     requires subjects { AreFound subject records.now (length records.now) tasks.now named.now.subjects.items }
     requires objects { AreFound object records.now (length records.now) tasks.now named.now.objects.items }
     requires known { IsTrue named.now.known
-        → AreKnown records.now (length records.now) tasks.now regions.now }
+        → AllNameKnown records.now (length records.now) tasks.now regions.now }
     ensures { MatchOption result (IsFreeOf records.now Rootless) (IsFirstWith records.now Rootless) }
 {
     // Nearly each file ends here: what the records name was looked up before.

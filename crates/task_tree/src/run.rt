@@ -7,7 +7,7 @@ ghost use Rattle.ompt_events.specs.Causes.{known_after};
 ghost use Rattle.ompt_events.specs.Tree.{IsExplicit, HasPath, children};
 ghost use Rattle.task_tree.specs.Family.{IsFamilyOf};
 ghost use Rattle.task_tree.specs.Lineage.{parent_index};
-ghost use Rattle.task_tree.specs.Runs.{status, IsRun, IsIndexOf, IsCreation, IsFinish, IsRegionEvent, IsSchedule, IsThreadEvent, IsNoThreadEvent, IsFork, IsNoWaitEvent, IsWaitEvent, AreDependences};
+ghost use Rattle.task_tree.specs.Runs.{schedule_status, IsRun, IsIndexOf, IsCreation, IsFinish, IsRegionEvent, IsSchedule, IsThreadEvent, IsNoThreadEvent, IsFork, IsNoWaitEvent, IsWaitEvent, AreDependences};
 ghost use Rattle.task_tree.specs.Subjects.{subject, object};
 
 use crate::family::Family;
@@ -305,7 +305,7 @@ impl<'a> Run<'a> {
     /// The status of the task_schedule event there, if the record is one (19.5.2.10).
     pub fn status(&self, at: usize) -> Option<Status>
         requires { at < length self.now.records }
-        ensures { result ≡ says_at status self.now.records at }
+        ensures { result ≡ says_at schedule_status self.now.records at }
     {
         let (status, _, _) = self.record(at).body.schedule()?;
         Some(status)

@@ -5,8 +5,8 @@ ghost use Rattle.ompt_events.specs.Records.{made};
 ghost use Rattle.ompt_events.specs.Causes.{IsFreeOf};
 ghost use Rattle.task_tree.specs.Makers.{AreNoted};
 ghost use Rattle.task_tree.specs.Numbering.{AreApart};
-ghost use Rattle.task_tree.specs.Links.{AreCounts, AreLinks};
-ghost use Rattle.task_tree.specs.Rootless.{NamesNoRegion, NamesKnown, AreKnown};
+ghost use Rattle.task_tree.specs.Links.{AreChildCounts, AreLinks};
+ghost use Rattle.task_tree.specs.Rootless.{NamesNoRegion, NamesKnown, AllNameKnown};
 ghost use Rattle.task_tree.specs.Subjects.{subject, object, Finds, AreFound};
 
 use crate::hints::Hints;
@@ -49,8 +49,8 @@ pub(crate) fn find_subjects(
     ensures objects { IfOk result (λ found. AreFound object records.now
         (length records.now) tasks.now found.named.objects.items) }
     ensures known { IfOk result (λ found. IsTrue found.named.known
-        → AreKnown records.now (length records.now) tasks.now regions.now) }
-    ensures counts { IfOk result (λ found. AreCounts records.now
+        → AllNameKnown records.now (length records.now) tasks.now regions.now) }
+    ensures counts { IfOk result (λ found. AreChildCounts records.now
         (length records.now) tasks.now found.linked.counts.items) }
     ensures links { IfOk result (λ found. AreLinks records.now
         (length records.now) tasks.now found.linked.links.items) }

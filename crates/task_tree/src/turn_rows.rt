@@ -7,7 +7,7 @@ ghost use Rattle.ompt_events.specs.declared.records.Record.{Record};
 ghost use Rattle.ompt_events.specs.Records.{begun_turn};
 ghost use Rattle.ompt_events.specs.Places.{at};
 ghost use Rattle.task_tree.specs.Family.{IsFamilyOf};
-ghost use Rattle.task_tree.specs.TurnRows.{AreRising, AreWithin, IsSlot, AreRows, AreMarkedUpTo, BeginsAnew};
+ghost use Rattle.task_tree.specs.TurnRows.{AreRising, AreWithin, IsSlot, AreTurnRows, AreMarkedUpTo, BeginsAnew};
 
 use crate::family::Family;
 use crate::rising::{Begin, start_at};
@@ -31,7 +31,7 @@ pub(crate) fn find_rows(
 ) -> Result<Option<TurnRows>, AllocError>
     requires { IsFamilyOf records.now family.now }
     ensures { IfOk result (λ found. IfSome found (λ rows.
-        AreRows records.now family.now.tasks rows.offsets.items rows.begun.items)) }
+        AreTurnRows records.now family.now.tasks rows.offsets.items rows.begun.items)) }
 {
     let counts = count_starts(alloc, records, family)?;
     let offsets = find_offsets(alloc, counts.as_slice())?;
@@ -112,7 +112,7 @@ fn begin_once(records: &[Record], family: &Family, offsets: &[usize], begun: &mu
     requires rising { AreRising offsets.now }
     requires slots { AreWithin offsets.now (length begun.old) }
     requires fresh { AreMarkedUpTo records.now 0 family.now.tasks offsets.now begun.old }
-    ensures { IsTrue result → AreRows records.now family.now.tasks offsets.now begun.new }
+    ensures { IsTrue result → AreTurnRows records.now family.now.tasks offsets.now begun.new }
 {
     for at in 0..records.len() {
         if !begins_anew(records, family, offsets, begun, at) {

@@ -8,7 +8,7 @@ ghost use Rattle.ompt_events.specs.Places.{thread_at};
 ghost use Rattle.ompt_events.specs.Turns.{turn_at};
 ghost use Rattle.task_tree.specs.Family.{IsFamilyOf};
 ghost use Rattle.task_tree.specs.Chains.{AreChainsFrom};
-ghost use Rattle.task_tree.specs.TurnTable.{AreTurns, IsOrderTold, no_mark, turn_on, AreMarks, IsReadAt, IsWalkAt};
+ghost use Rattle.task_tree.specs.TurnTable.{AreTurns, IsOrderTold, no_mark, turn_on, AreTurnMarks, IsReadAt, IsTableAt};
 
 use crate::chains::{Chains, find_chains};
 use crate::family::Family;
@@ -126,8 +126,8 @@ fn walk_thread(records: &[Record], family: &Family, chains: &Chains, thread: usi
     requires family { IsFamilyOf records.now family.now }
     requires chains { AreChainsFrom records.now 0 chains.now.firsts.items chains.now.nexts.items }
     requires thread { thread < 256 }
-    requires before { IsWalkAt records.now family.now.tasks thread 0 walk.old }
-    ensures { IsWalkAt records.now family.now.tasks (thread + 1) 0 walk.new }
+    requires before { IsTableAt records.now family.now.tasks thread 0 walk.old }
+    ensures { IsTableAt records.now family.now.tasks (thread + 1) 0 walk.new }
 {
     let mut at = chains.firsts[thread];
     'chain: while at < records.len() {
@@ -142,7 +142,7 @@ fn visit(records: &[Record], family: &Family, at: usize, walk: &mut Walk)
     requires family { IsFamilyOf records.now family.now }
     requires before { IsReadAt records.now family.now.tasks at walk.old }
     ensures { (thread : ℕ) → thread_at records.now at ≡ Some thread
-        → IsWalkAt records.now family.now.tasks thread (at + 1) walk.new }
+        → IsTableAt records.now family.now.tasks thread (at + 1) walk.new }
 {
     walk.turns[at] = turn_before(records, family, walk.marks.as_slice(), at);
     let Some(begin) = start_at(records, family, at) else {
@@ -163,7 +163,7 @@ fn turn_before(records: &[Record], family: &Family, marks: &[Mark], at: usize) -
     requires family { IsFamilyOf records.now family.now }
     requires all { length marks.now ≡ length family.now.tasks }
     ensures { (thread : ℕ) → thread_at records.now at ≡ Some thread
-        → AreMarks records.now family.now.tasks thread at marks.now → result ≡ turn_at records.now at }
+        → AreTurnMarks records.now family.now.tasks thread at marks.now → result ≡ turn_at records.now at }
 {
     match running_at(records, family, at) {
         Some(index) => marks[index].turn_on(records[at].thread),

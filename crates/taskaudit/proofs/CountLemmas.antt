@@ -6,8 +6,8 @@ use Rattle.std.specs.Int.{from_bool}
 use Rattle.ompt_events.specs.declared.records.Record.{Record}
 
 -- one record more is counted where it passes the test
-pub count_more : (p : Record → Bool) (rs : List Record) (i n one : ℕ) (r : Record) → i < length rs → r ≡ get_or rs i r → n ≡ count_by p (take i rs) → one ≡ from_bool (p r) → n + one ≡ count_by p (take (i + 1) rs)
-count_more p rs i n one r within read count adds = cases (p r) refl
+pub count_one_more : (p : Record → Bool) (rs : List Record) (i n one : ℕ) (r : Record) → i < length rs → r ≡ get_or rs i r → n ≡ count_by p (take i rs) → one ≡ from_bool (p r) → n + one ≡ count_by p (take (i + 1) rs)
+count_one_more p rs i n one r within read count adds = cases (p r) refl
   where
     cases : (b : Bool) → p r ≡ b → n + one ≡ count_by p (take (i + 1) rs)
     cases true e =

@@ -41,7 +41,7 @@ abbrev Passed : List Row → Type 0
 Passed = AllByRecursion HasPassed
 
 -- an argument that is the option `--workers`, or asks for help
-pub record IsKnown (a : Rule) : Type 0 where
+pub record IsWorkersOrHelp (a : Rule) : Type 0 where
   pub defaults : a.defaults ≡ []
   pub which : (a ≡ filled workers_rule) ⊎ (action_of a ≡ Help)
 
@@ -96,7 +96,7 @@ of_workers again vs rows e h =
     let kinds : values_kinds false parser values ≡ [] = no_second (repeat_fault again (codes "workers") rows) _ set in
     with_passes (codes "workers") values (without (codes "workers") rows) (values_fit values kinds) (without_passes (codes "workers") rows h)
 
-used_passes : (again : Bool) (a : Rule) (vs : List Text) (rows : List Row) → IsKnown a → use_fault again a vs rows ≡ [] → Passed rows
+used_passes : (again : Bool) (a : Rule) (vs : List Text) (rows : List Row) → IsWorkersOrHelp a → use_fault again a vs rows ≡ [] → Passed rows
     → Passed (used a vs rows)
 used_passes again a vs rows known e h = go known.which
   where
@@ -104,22 +104,22 @@ used_passes again a vs rows known e h = go known.which
     go (inl is) = subst (λ (r : Rule). use_fault again r vs rows ≡ [] → Passed (used r vs rows)) (sym is) (λ f. of_workers again vs rows f h) e
     go (inr help) = subst (λ (x : ArgAction). Passed (used_as x a.id (reading_by a) (values_or_missing a vs) rows)) (sym help) h
 
-find_known : (p : Rule → Bool) (c : List Rule) → AllByRecursion IsKnown c → IfSome (find p c) IsKnown
+find_known : (p : Rule → Bool) (c : List Rule) → AllByRecursion IsWorkersOrHelp c → IfSome (find p c) IsWorkersOrHelp
 find_known p [] k = tt
 find_known p (a ∷ rest) k = go (p a) (find_known p rest k.1)
   where
-    go : (b : Bool) → IfSome (find p rest) IsKnown → IfSome (cond b (Some a) (find p rest)) IsKnown
+    go : (b : Bool) → IfSome (find p rest) IsWorkersOrHelp → IfSome (cond b (Some a) (find p rest)) IsWorkersOrHelp
     go true later = k.0
     go false later = later
 
-module _ (s : Shape) (known : AllByRecursion IsKnown s.rules) where
+module _ (s : Shape) (known : AllByRecursion IsWorkersOrHelp s.rules) where
   abbrev c : List Rule
   c = s.rules
 
   abbrev again : Bool
   again = s.args_override_self
 
-  by_id : (o : Option Rule) (vs : List Text) (rows : List Row) → IfSome o IsKnown → option_map_or (λ a. use_fault again a vs rows) o [] ≡ []
+  by_id : (o : Option Rule) (vs : List Text) (rows : List Row) → IfSome o IsWorkersOrHelp → option_map_or (λ a. use_fault again a vs rows) o [] ≡ []
       → Passed rows → Passed (used_by_id o vs rows)
   by_id None vs rows k e h = h
   by_id (Some a) vs rows k e h = used_passes again a vs rows k e h
@@ -133,23 +133,23 @@ module _ (s : Shape) (known : AllByRecursion IsKnown s.rules) where
   settle_passes : (h : Held) → settle_fault c again h ≡ [] → Passed h.rows → Passed (settled c h).rows
   settle_passes h e p = settles h.pending h.rows e p
 
-  react_passes : (a : Rule) (vs : List Text) (h : Held) → IsKnown a → react_fault c again a vs h ≡ [] → Passed h.rows
+  react_passes : (a : Rule) (vs : List Text) (h : Held) → IsWorkersOrHelp a → react_fault c again a vs h ≡ [] → Passed h.rows
       → Passed (reacted c a vs h).rows
   react_passes a vs h k e p =
       used_passes again a vs _ k (no_second (settle_fault c again h) _ e) (settle_passes h (no_first _ _ e) p)
 
-  option_passes : (a : Rule) (v : Option Text) (h : Held) → IsKnown a → option_fault c again a v h ≡ [] → Passed h.rows
+  option_passes : (a : Rule) (v : Option Text) (h : Held) → IsWorkersOrHelp a → option_fault c again a v h ≡ [] → Passed h.rows
       → Passed (option_met c a v h).0.rows
   option_passes a (Some v) h k e p = react_passes a (v ∷ []) h k e p
   option_passes a None h k e p = settle_passes h e p
 
-  flag_passes : (a : Rule) (v : Option Text) (h : Held) → IsKnown a
+  flag_passes : (a : Rule) (v : Option Text) (h : Held) → IsWorkersOrHelp a
       → cond (is_some v) (kind.TooManyValues ∷ []) (react_fault c again a [] h) ≡ [] → Passed h.rows
       → Passed (flag_met c a v h).0.rows
   flag_passes a (Some v) h k e p = p
   flag_passes a None h k e p = react_passes a [] h k e p
 
-  long_passes : (o : Option Rule) (v : Option Text) (h : Held) → IfSome o IsKnown → long_fault c again o v h ≡ [] → Passed h.rows
+  long_passes : (o : Option Rule) (v : Option Text) (h : Held) → IfSome o IsWorkersOrHelp → long_fault c again o v h ≡ [] → Passed h.rows
       → Passed (long_met c o v h).0.rows
   long_passes None v h k e p = p
   long_passes (Some a) v h k e p = go (takes_values a) e
@@ -161,7 +161,7 @@ module _ (s : Shape) (known : AllByRecursion IsKnown s.rules) where
 
   -- a letter of a bundle, and what follows it
   short_passes : (o : Option Rule) (rest : Text) (h : Held) (fault : Held → Kinds) (met : Held → Held × Outcome)
-      → IfSome o IsKnown → ((g : Held) → fault g ≡ [] → Passed g.rows → Passed (met g).0.rows)
+      → IfSome o IsWorkersOrHelp → ((g : Held) → fault g ≡ [] → Passed g.rows → Passed (met g).0.rows)
       → short_fault c again o rest h fault ≡ [] → Passed h.rows → Passed (short_met c o rest h met).0.rows
   short_passes None rest h fault met k later e p = p
   short_passes (Some a) rest h fault met k later e p = go (takes_values a) e
@@ -269,14 +269,14 @@ module _ (s : Shape) (known : AllByRecursion IsKnown s.rules) where
 
   -- ---- after the walk
 
-  default_passes : (a : Rule) (rows : List Row) → IsKnown a → Passed rows → Passed (with_default rows a)
+  default_passes : (a : Rule) (rows : List Row) → IsWorkersOrHelp a → Passed rows → Passed (with_default rows a)
   default_passes a rows k p = go (has_row a.id rows)
     where
       go : (b : Bool) → Passed (cond b rows (default_rows a.id (reading_by a) a.defaults rows))
       go true = p
       go false = subst (λ (vs : List Text). Passed (default_rows a.id (reading_by a) vs rows)) (sym k.defaults) p
 
-  defaults_pass : (rules : List Rule) (rows : List Row) → AllByRecursion IsKnown rules → Passed rows → Passed (fold with_default rows rules)
+  defaults_pass : (rules : List Rule) (rows : List Row) → AllByRecursion IsWorkersOrHelp rules → Passed rows → Passed (fold with_default rows rules)
   defaults_pass [] rows k p = p
   defaults_pass (a ∷ rest) rows k p = defaults_pass rest (with_default rows a) k.1 (default_passes a rows k.0 p)
 
@@ -334,6 +334,6 @@ one_fits None h = tt
 one_fits (Some r) h = row_fits r h
 
 -- the value of an option that was found is a number from 1 to 256
-pub workers_fit : (s : Shape) → AllByRecursion IsKnown s.rules → (words : List Text) → level_fault s [] nothing_held words false [] ≡ []
+pub workers_fit : (s : Shape) → AllByRecursion IsWorkersOrHelp s.rules → (words : List Text) → level_fault s [] nothing_held words false [] ≡ []
     → IfSome (one_of (codes "workers") (rows_after s.rules [] words)) (λ t. is_unsigned_in 1 256 t ≡ true)
 workers_fit s known words e = one_fits _ (find_passed (λ r. bytes_eq r.id (codes "workers")) _ (rows_pass s known words e))

@@ -9,7 +9,7 @@ use Rattle.certificate.specs.Texts.{trace_text}
 use Rattle.checker.specs.declared.verdict.CheckFault.TheVariants as check
 use Rattle.recorder.specs.declared.fault.CallFault.{CallFault}
 use Rattle.scripts.specs.declared.script.Step.{Step}
-use Rattle.script_runs.specs.Runs.{IsRun, IsOfLine}
+use Rattle.script_runs.specs.Runs.{IsRunOf, IsOfLine}
 use Rattle.script_runs.specs.declared.fault.RunFault.{RunFault}
 use Rattle.script_runs.specs.declared.fault.RunFault.TheVariants as run
 use Rattle.taskaudit.specs.declared.work.AuditFault.{AuditFault}
@@ -24,7 +24,7 @@ pub record Records (bytes old new : Option (List ℕ)) : Type 0 where
   pub steps : List Step
   pub trace : TraceView
   pub script : AreSteps bytes steps
-  pub run : IsRun steps trace
+  pub run : IsRunOf steps trace
   pub written : Appends old new (trace_text trace)
 
 -- that text was written up to somewhere
@@ -32,7 +32,7 @@ pub record BreaksOffRecording (bytes old new : Option (List ℕ)) : Type 0 where
   pub steps : List Step
   pub trace : TraceView
   pub script : AreSteps bytes steps
-  pub run : IsRun steps trace
+  pub run : IsRunOf steps trace
   pub count : ℕ
   pub written : Appends old new (take count (trace_text trace))
 

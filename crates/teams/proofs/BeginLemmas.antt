@@ -22,9 +22,9 @@ use Rattle.ompt_events.proofs.PlaceLemmas.{own_more}
 use Rattle.ompt_events.proofs.RecordLemmas.{at_through, region_running}
 use Rattle.task_tree.specs.Numbering.{AreApart}
 use Rattle.task_tree.proofs.LinkLemmas.{get_set_same, get_set_other}
-use Rattle.teams.specs.Begins.{AreNumbered, IsPlaceAdded}
+use Rattle.teams.specs.Begins.{AreBeginsNumbered, IsPlaceAdded}
 use Rattle.task_states.specs.Rows.{row_at}
-use Rattle.teams.specs.Teams.{begins_before, AreBegins, IsNumberOf, AreBeginNumbers}
+use Rattle.teams.specs.Teams.{begins_before, AreBarrierBegins, IsNumberOf, AreBeginNumbers}
 
 -- ---- the record that begins a barrier
 
@@ -167,7 +167,7 @@ begun_number rs task n within begins =
 -- ---- the tables
 
 pub begins_other : (rs : List Record) (n : ℕ) (tasks : List ℕ) (begins : List (Vec ℕ))
-    → AreBegins rs n tasks begins → barrier_begun (at region rs n) ≡ None → AreBegins rs (n + 1) tasks begins
+    → AreBarrierBegins rs n tasks begins → barrier_begun (at region rs n) ≡ None → AreBarrierBegins rs (n + 1) tasks begins
 begins_other rs n tasks begins are none = record {
   within = are.within;
   each =
@@ -177,9 +177,9 @@ begins_other rs n tasks begins are none = record {
 
 -- one place more in the row of a task
 pub begins_added : (rs : List Record) (n own parent : ℕ) (tasks : List ℕ) (before after : List (Vec ℕ))
-    → AreApart tasks → AreBegins rs n tasks before → slice_get tasks own ≡ Some parent
+    → AreApart tasks → AreBarrierBegins rs n tasks before → slice_get tasks own ≡ Some parent
     → barrier_begun (at region rs n) ≡ Some parent → IsPlaceAdded before after own n
-    → AreBegins rs (n + 1) tasks after
+    → AreBarrierBegins rs (n + 1) tasks after
 begins_added rs n own parent tasks before after apart are is_own begun added = record {
   within = added.few (length tasks) are.within (slice_get_within tasks own parent is_own);
   each = λ index task is_task. elim (cases_eq index own) [
@@ -206,7 +206,7 @@ pub number_none : (rs : List Record) (n number : ℕ) → barrier_begun (at regi
 number_none rs n number none = λ task is. absurd (none-some task (sym none ∙ is))
 
 pub number_here : (rs : List Record) (n own parent number : ℕ) (tasks : List ℕ) (begins : List (Vec ℕ))
-    → AreBegins rs n tasks begins → n < length rs → slice_get tasks own ≡ Some parent
+    → AreBarrierBegins rs n tasks begins → n < length rs → slice_get tasks own ≡ Some parent
     → barrier_begun (at region rs n) ≡ Some parent → number ≡ length (row_at begins own)
     → IsNumberOf rs n number
 number_here rs n own parent number tasks begins are within is_own begun is = λ task begins_too.
@@ -217,8 +217,8 @@ number_here rs n own parent number tasks begins are within is_own begun is = λ 
     is ∙ ap length (are.each own parent is_own) in
     subst P same (subst Q (sym is_number) (begun_number rs parent n within begun))
 
-pub numbered_other : (rs : List Record) (n : ℕ) (numbers : List ℕ) → AreNumbered rs n numbers
-    → barrier_begun (at region rs n) ≡ None → AreNumbered rs (n + 1) numbers
+pub numbered_other : (rs : List Record) (n : ℕ) (numbers : List ℕ) → AreBeginsNumbered rs n numbers
+    → barrier_begun (at region rs n) ≡ None → AreBeginsNumbered rs (n + 1) numbers
 numbered_other rs n numbers are none = record {
   all = are.all;
   each = λ i number below stands. elim (cases_eq i n) [
@@ -228,8 +228,8 @@ numbered_other rs n numbers are none = record {
   ];
 }
 
-pub numbered_more : (rs : List Record) (n here : ℕ) (numbers : List ℕ) → AreNumbered rs n numbers
-    → n < length rs → IsNumberOf rs n here → AreNumbered rs (n + 1) (set numbers n here)
+pub numbered_more : (rs : List Record) (n here : ℕ) (numbers : List ℕ) → AreBeginsNumbered rs n numbers
+    → n < length rs → IsNumberOf rs n here → AreBeginsNumbered rs (n + 1) (set numbers n here)
 numbered_more rs n here numbers are within is = record {
   all = length-set numbers n here ∙ are.all;
   each = λ i number below stands. elim (cases_eq i n) [
@@ -246,7 +246,7 @@ numbered_more rs n here numbers are within is = record {
   ];
 }
 
-pub numbered_all : (rs : List Record) (n : ℕ) (numbers : List ℕ) → AreNumbered rs n numbers → length rs ≤ n
+pub numbered_all : (rs : List Record) (n : ℕ) (numbers : List ℕ) → AreBeginsNumbered rs n numbers → length rs ≤ n
     → AreBeginNumbers rs (length rs) numbers
 numbered_all rs n numbers are end = record {
   all = are.all;
@@ -259,7 +259,7 @@ numbered_all rs n numbers are end = record {
 }
 
 pub row_few : (rs : List Record) (n own parent : ℕ) (tasks : List ℕ) (begins : List (Vec ℕ))
-    → AreBegins rs n tasks begins → slice_get tasks own ≡ Some parent → length (row_at begins own) ≤ n
+    → AreBarrierBegins rs n tasks begins → slice_get tasks own ≡ Some parent → length (row_at begins own) ≤ n
 row_few rs n own parent tasks begins are is_own =
     let same = ap length (are.each own parent is_own) in
     let few = begins_few rs parent n in

@@ -17,7 +17,7 @@ use Rattle.ompt_events.specs.Regions.{is_barrier, barrier_begun}
 use Rattle.ompt_events.specs.Waits.{wait_kind}
 use Rattle.task_tree.specs.Runs.{RunView, IsWaitEvent, IsNoWaitEvent}
 use Rattle.task_tree.specs.Subjects.{Calls}
-use Rattle.task_states.specs.Regions.{IsBeginOf}
+use Rattle.task_states.specs.Regions.{IsRegionBegin}
 use Rattle.teams.specs.Missed.{IsBarrierEnd, EndsNoBarrier}
 use Rattle.teams.proofs.RegionEndLemmas.{ends_at}
 use Rattle.teams.proofs.MissedLemmas.{other_kind}
@@ -102,7 +102,7 @@ other_event_end run i index kind endpoint event apart =
     (other_wait event.sync kind event.waits apart)
 
 pub event_end : (run : RunView) (i index begin : ℕ) (kind : WaitKind) (endpoint : Endpoint)
-    → IsWaitEvent run i index kind endpoint → kind ≡ ForBarrier → IsBeginOf run.records i begin
+    → IsWaitEvent run i index kind endpoint → kind ≡ ForBarrier → IsRegionBegin run.records i begin
     → IsBarrierEnd run i index begin
 event_end run i index begin kind endpoint event is begins = record {
   barrier = record {

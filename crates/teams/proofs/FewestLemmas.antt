@@ -8,12 +8,12 @@ use Rattle.std.proofs.Math.ListN.{set}
 use Rattle.std.specs.Global.{Vec}
 use Rattle.std.specs.Prelude.{slice_get, min}
 use Rattle.task_tree.proofs.LinkLemmas.{get_set_same, get_set_other}
-use Rattle.teams.specs.Fewest.{IsReached, AreFewest}
+use Rattle.teams.specs.Fewest.{IsCountReached, AreFewest}
 use Rattle.task_states.specs.Rows.{row_at}
 
 reached_later : (teams : List (Option ℕ)) (begins : List (Vec ℕ)) (n team count : ℕ)
-    → (4294967295 ≤ count) ⊎ IsReached teams begins n team count
-    → (4294967295 ≤ count) ⊎ IsReached teams begins (n + 1) team count
+    → (4294967295 ≤ count) ⊎ IsCountReached teams begins n team count
+    → (4294967295 ≤ count) ⊎ IsCountReached teams begins (n + 1) team count
 reached_later teams begins n team count (inl most) = inl most
 reached_later teams begins n team count (inr is) =
     inr (record {
@@ -24,10 +24,10 @@ reached_later teams begins n team count (inr is) =
     })
 
 reached_same : (teams : List (Option ℕ)) (begins : List (Vec ℕ)) (n team count other : ℕ)
-    → (4294967295 ≤ count) ⊎ IsReached teams begins n team count → count ≡ other
-    → (4294967295 ≤ other) ⊎ IsReached teams begins n team other
+    → (4294967295 ≤ count) ⊎ IsCountReached teams begins n team count → count ≡ other
+    → (4294967295 ≤ other) ⊎ IsCountReached teams begins n team other
 reached_same teams begins n team count other is same =
-    let P : ℕ → Type 0 = λ k. (4294967295 ≤ k) ⊎ IsReached teams begins n team k in subst P same is
+    let P : ℕ → Type 0 = λ k. (4294967295 ≤ k) ⊎ IsCountReached teams begins n team k in subst P same is
 
 -- a task of no team
 pub fewest_same : (teams : List (Option ℕ)) (begins : List (Vec ℕ)) (n : ℕ) (fewest : List ℕ)
@@ -81,7 +81,7 @@ fewest_more teams begins n team old count new fewest are is_team is_old is_count
   reached = λ other least stands. elim (cases_eq other team) [
     | inl same ↦
         let is_least : least ≡ new = of_team other least same stands in
-        let P : ℕ → Type 0 = λ t. (4294967295 ≤ least) ⊎ IsReached teams begins (n + 1) t least in
+        let P : ℕ → Type 0 = λ t. (4294967295 ≤ least) ⊎ IsCountReached teams begins (n + 1) t least in
         subst P (sym same) (elim (cases_lt old count) [
           | inl less ↦
               reached_same teams begins (n + 1) team old least

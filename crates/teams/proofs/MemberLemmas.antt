@@ -50,14 +50,14 @@ none_of (Some x) never = absurd (never x refl)
 pub never_of : {X : Type 0} (o : Option X) (x : X) → o ≡ None → o ≡ Some x → ⊥
 never_of o x none is = none-some x (sym none ∙ is)
 
-not_both : (m x : Membership) (task own : ℕ) (b : Bool) → (if b then None else Some x) ≡ Some m
+not_root_and_initial : (m x : Membership) (task own : ℕ) (b : Bool) → (if b then None else Some x) ≡ Some m
     → (if b then Some own else None) ≡ Some task → ⊥
-not_both m x task own true is is' = none-some m is
-not_both m x task own false is is' = none-some task is'
+not_root_and_initial m x task own true is is' = none-some m is
+not_root_and_initial m x task own false is is' = none-some task is'
 
 not_both_body : (m : Membership) (task : ℕ) (b : Body) → joined b ≡ Some m → begun_initial b ≡ Some task → ⊥
 not_both_body m task (ImplicitTask Begin actual number flags parallel own) is is' =
-    not_both m (record { parallel = parallel; actual = actual; index = number; member = own }) task own
+    not_root_and_initial m (record { parallel = parallel; actual = actual; index = number; member = own }) task own
     (has_flag flags.0 flag.initial) is is'
 not_both_body m task _ is is' = none-some m is
 

@@ -14,9 +14,9 @@ use Rattle.ompt_events.specs.Teams.{IsTeammate}
 use Rattle.ompt_events.proofs.ListLemmas.{get_within}
 use Rattle.task_tree.specs.Makers.{AreNoted}
 use Rattle.task_states.specs.Rows.{row_at}
-use Rattle.teams.specs.Teams.{AreTeams, AreBegins, AreBeginNumbers}
+use Rattle.teams.specs.Teams.{AreTeams, AreBarrierBegins, AreBeginNumbers}
 use Rattle.std.specs.Global.{Vec}
-use Rattle.teams.specs.Missed.{EndsBarrier, EndsNoBarrier, IsMissed}
+use Rattle.teams.specs.Missed.{EndsBarrier, EndsNoBarrier, IsBarrierMissed}
 use Rattle.teams.specs.Fewest.{AreFewest, AreTeamsWithin}
 use Rattle.teams.proofs.BeginLemmas.{begins_few}
 use Rattle.teams.proofs.RegionEndLemmas.{ends_at, one_region}
@@ -49,7 +49,7 @@ pub record AreFewestOf (rs : List Record) (tasks : List ℕ) (teams : List (Opti
     0 where
   pub within : AreTeamsWithin teams
   pub begins : List (Vec ℕ)
-  pub are_begins : AreBegins rs (length rs) tasks begins
+  pub are_begins : AreBarrierBegins rs (length rs) tasks begins
   pub are_fewest : AreFewest teams begins (length teams) fewest
 
 pub record IsCompared (rs : List Record) (tasks : List ℕ) (teams : List (Option ℕ)) (fewest numbers : List ℕ)
@@ -76,7 +76,7 @@ numbered_there rs tasks teams fewest numbers i begin index team count number c =
 pub too_few : (rs : List Record) (tasks : List ℕ) (teams : List (Option ℕ)) (fewest numbers : List ℕ)
     (i begin index team count number : ℕ)
     → IsCompared rs tasks teams fewest numbers i begin index team count number → count ≤ number
-    → IsMissed rs i
+    → IsBarrierMissed rs i
 too_few rs tasks teams fewest numbers i begin index team count number c less =
     elim (c.are_fewest.are_fewest.reached team count c.is_count) [
       | inl most ↦
@@ -112,7 +112,7 @@ too_few rs tasks teams fewest numbers i begin index team count number c less =
     numbered = numbered_there rs tasks teams fewest numbers i begin index team count number c
 
 -- the missed barrier is that which ends there
-pub missed_mate : (rs : List Record) (i begin : ℕ) (b : EndsBarrier rs i begin) (m : IsMissed rs i)
+pub missed_mate : (rs : List Record) (i begin : ℕ) (b : EndsBarrier rs i begin) (m : IsBarrierMissed rs i)
     → IsTeammate rs b.task m.member × IsBarrierBegin rs b.task m.number begin
 missed_mate rs i begin b m =
     let same =
@@ -124,7 +124,7 @@ missed_mate rs i begin b m =
 
 pub missed_few : (rs : List Record) (tasks : List ℕ) (teams : List (Option ℕ)) (fewest numbers : List ℕ)
     (i begin index team count number : ℕ)
-    → IsCompared rs tasks teams fewest numbers i begin index team count number → IsMissed rs i
+    → IsCompared rs tasks teams fewest numbers i begin index team count number → IsBarrierMissed rs i
     → count ≤ number
 missed_few rs tasks teams fewest numbers i begin index team count number c m =
     let mate = missed_mate rs i begin c.barrier m in
@@ -154,6 +154,6 @@ missed_few rs tasks teams fewest numbers i begin index team count number c m =
 pub no_team_missed : (rs : List Record) (tasks : List ℕ) (teams : List (Option ℕ)) (i begin index : ℕ)
     (b : EndsBarrier rs i begin)
     → AreTeams rs tasks teams → slice_get tasks index ≡ Some b.task → slice_get teams index ≡ Some None
-    → IsMissed rs i → ⊥
+    → IsBarrierMissed rs i → ⊥
 no_team_missed rs tasks teams i begin index b are is_task none m =
     are.none index b.task m.member is_task none (missed_mate rs i begin b m).0

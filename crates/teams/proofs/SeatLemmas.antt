@@ -22,7 +22,7 @@ use Rattle.task_tree.proofs.LinkLemmas.{get_set_same, get_set_other}
 use Rattle.task_tree.proofs.OnceLemmas.{made_once}
 use Rattle.teams.specs.Members.{IsLead, IsLeadAt, AreSizes}
 use Rattle.teams.specs.Seats.{empty_seats, IsSeatOf, AreSeats, AreSeated, AreFirstSeats, own_seat, empty}
-use Rattle.teams.specs.Seats.{AreFirstRosters, Fits, HasSeat, LacksNothing, IsWholeBefore}
+use Rattle.teams.specs.Seats.{AreFirstRosters, FitsTeam, HasSeat, LacksNothing, IsWholeBefore}
 use Rattle.teams.proofs.MemberLemmas.{never_of, joined_at_made, initial_at_made, joined_once, own_lead}
 use Rattle.teams.proofs.MemberLemmas.{members_pushed, members_same, member_place, place_member, lead_one}
 use Rattle.teams.proofs.MemberLemmas.{lead_other}
@@ -258,7 +258,7 @@ too_small rs i tasks sizes lead size m are joins leads stands less =
 pub fits_there : (rs : List Record) (i : ℕ) (tasks sizes : List ℕ) (lead size : ℕ) (m : Membership)
     (leads : IsLead rs tasks m.parallel lead)
     → AreSizes rs (length rs) tasks sizes → IsWholeBefore rs i → slice_get sizes lead ≡ Some size
-    → m.actual ≤ size → m.index < m.actual → leads.first.actual ≡ m.actual → Fits rs i m
+    → m.actual ≤ size → m.index < m.actual → leads.first.actual ≡ m.actual → FitsTeam rs i m
 fits_there rs i tasks sizes lead size m leads are whole stands enough inside same = record {
   inside = inside;
   enough = let is = are.each m.parallel lead size leads stands in omega (arith, is, enough);
@@ -268,7 +268,7 @@ fits_there rs i tasks sizes lead size m leads are whole stands enough inside sam
 -- ---- whether its seat is empty
 
 pub seat_within : (rs : List Record) (i : ℕ) (tasks : List ℕ) (m : Membership) (seats : List (Option ℕ))
-    → Fits rs i m → AreSeats rs i tasks m.parallel seats → m.index < length seats
+    → FitsTeam rs i m → AreSeats rs i tasks m.parallel seats → m.index < length seats
 seat_within rs i tasks m seats fits are =
     let inside = fits.inside in
     let enough = fits.enough in let long = are.long in omega (arith, inside, enough, long)
@@ -283,7 +283,7 @@ seat_taken rs i tasks m seats other joins are stands =
     (place_member rs m.parallel i seat.place seat.m seat.before seat.joins seat.same) seat.numbered
 
 pub seat_free : (rs : List Record) (i : ℕ) (tasks : List ℕ) (m : Membership) (seats : List (Option ℕ))
-    → AreNoted made rs (length rs) tasks → at joined rs i ≡ Some m → Fits rs i m
+    → AreNoted made rs (length rs) tasks → at joined rs i ≡ Some m → FitsTeam rs i m
     → AreSeats rs i tasks m.parallel seats → slice_get seats m.index ≡ Some None → LacksNothing rs i
 seat_free rs i tasks m seats noted joins fits are free = λ x joins'.
     let is_x : m ≡ x = same_Some m x (sym joins ∙ joins') in

@@ -27,12 +27,12 @@ use Rattle.task_tree.proofs.RenamedCauseLemmas.{short_within}
 use Rattle.teams.specs.Tables.{TablesView, AreTables, tables_own}
 use Rattle.teams.specs.Fewest.{AreTeamsWithin, AreShort}
 use Rattle.teams.specs.Members.{IsInTeam, in_own, in_joined, AreInTeams}
-use Rattle.teams.specs.Missed.{IsMissed}
+use Rattle.teams.specs.Missed.{IsBarrierMissed}
 use Rattle.teams.proofs.MissedLemmas.{AreFewestOf}
 use Rattle.teams.specs.Seats.{IsSeatOf, AreSeats, AreSeated, LacksNothing, IsWholeBefore}
 use Rattle.task_states.specs.Rows.{row_items, row_at}
-use Rattle.teams.specs.Short.{IsFirstLack, IsSeated, IsMissedAt, IsMissedNowhere, FindsMissed, IsSearched}
-use Rattle.teams.specs.Teams.{IsMemberNumbered, alone, together, AreRosters, AreBegins, IsTeams}
+use Rattle.teams.specs.Short.{IsFirstLack, AreAllSeated, IsMissedAt, IsMissedNowhere, FindsMissed, IsSearched}
+use Rattle.teams.specs.Teams.{IsMemberNumbered, alone, together, AreRosters, AreBarrierBegins, IsTeams}
 use Rattle.teams.proofs.BeginLemmas.{begins_few}
 use Rattle.teams.proofs.RegionEndLemmas.{ends_at}
 use Rattle.teams.proofs.MemberLemmas.{member_place, place_member, initial_once, joined_once, teams_are}
@@ -55,14 +55,14 @@ region_joins rs i task kind endpoint says = there (slice_get rs i) says
     there None is = refl
     there (Some r) is = of r.body is
 
-missed_joins : (rs : List Record) (i : ℕ) → IsMissed rs i → is_some (at joined rs i) ≡ true → ⊥
+missed_joins : (rs : List Record) (i : ℕ) → IsBarrierMissed rs i → is_some (at joined rs i) ≡ true → ⊥
 missed_joins rs i m joins =
     let ends = ends_at rs i m.barrier.task m.begin m.barrier.kind m.barrier.ends in
     false≢true
     (sym (ap is_some (region_joins rs i m.barrier.task m.barrier.kind ends.endpoint ends.says)) ∙ joins)
 
 -- a record shows a lack where a member begins, or where a barrier ends that a member misses
-short_cases : (rs : List Record) (i : ℕ) → IsShort rs i → (is_some (at joined rs i) ≡ true) ⊎ IsMissed rs i
+short_cases : (rs : List Record) (i : ℕ) → IsShort rs i → (is_some (at joined rs i) ≡ true) ⊎ IsBarrierMissed rs i
 short_cases rs i (outside m joins out) = inl (ap is_some joins)
 short_cases rs i (same_index m e joins has same) = inl (ap is_some joins)
 short_cases rs i (other_size m e joins has different) = inl (ap is_some joins)
@@ -98,7 +98,7 @@ not_short rs i fine begins (missed task member begin number kind ends barrier nu
       never = never;
     }) begins
 
-missed_short : (rs : List Record) (i : ℕ) → IsMissed rs i → IsShort rs i
+missed_short : (rs : List Record) (i : ℕ) → IsBarrierMissed rs i → IsShort rs i
 missed_short rs i m =
     missed m.barrier.task m.member m.begin m.number m.barrier.kind m.barrier.ends m.barrier.barrier m.numbered
     m.mate m.never
@@ -117,11 +117,11 @@ whole_more rs n whole fine = λ k below joins short. elim (cases_eq k n) [
 
 -- one more place at which no barrier ends that a member misses
 pub nowhere_more : (own : OwnView) (place number : ℕ) → IsOwn own → slice_get own.places number ≡ Some place
-    → (IsMissed own.run.records number → ⊥) → IsMissedNowhere own place → IsMissedNowhere own (place + 1)
+    → (IsBarrierMissed own.run.records number → ⊥) → IsMissedNowhere own place → IsMissedNowhere own (place + 1)
 nowhere_more own place number is stands none before = λ k below there. elim (cases_eq k place) [
   | inl same ↦
       let one : there.0 ≡ number = is.places.apart there.0 number place (there.1 ∙ ap Some same) stands in
-      let P : ℕ → Type 0 = IsMissed own.run.records in
+      let P : ℕ → Type 0 = IsBarrierMissed own.run.records in
       none (subst P one there.2)
   | inr apart ↦ before k (omega (arith, below, apart)) there
 ]
@@ -141,11 +141,11 @@ lack_first own place k number is lack below stands joins short = elim (cases_ord
 ]
 
 -- a place below both bounds
-first_of : (own : OwnView) (place : ℕ) → HasCauseAt own TeamShort place
+first_place : (own : OwnView) (place : ℕ) → HasCauseAt own TeamShort place
     → ((k number : ℕ) → k < place → slice_get own.places number ≡ Some k
     → is_some (at joined own.run.records number) ≡ true → IsShort own.run.records number → ⊥)
     → IsMissedNowhere own place → IsFirstPlaceWith own TeamShort place
-first_of own place has whole none = record {
+first_place own place has whole none = record {
   has = has;
   first = λ k below there.
       let short = of_cause own.run.records there.0 there.2 in
@@ -173,20 +173,20 @@ missed_at own place there = (there.0, there.1, team_short (missed_short own.run.
 
 -- the lesser of both places
 pub searched : (own : OwnView) (rosters : List (Vec (Option ℕ))) (lacking found : Option ℕ) → IsOwn own
-    → IsSeated own rosters lacking → FindsMissed own (unwrap_or lacking (length own.run.records)) found
+    → AreAllSeated own rosters lacking → FindsMissed own (unwrap_or lacking (length own.run.records)) found
     → IsSearched own rosters (option_or found lacking)
 searched own rosters None None is seated none = (free_short own is seated.0 none, seated.1)
 searched own rosters (Some place) None is lack none =
-    first_of own place (lack.number, lack.stands, team_short lack.short)
+    first_place own place (lack.number, lack.stands, team_short lack.short)
     (λ k number below stands joins short. lack_first own place k number is lack below stands joins short)
     none
 searched own rosters None (Some place) is seated first =
-    first_of own place (missed_at own place first.missed)
+    first_place own place (missed_at own place first.missed)
     (λ k number below stands joins short.
     seated.0 number (short_within own.run.records number short) joins short)
     first.first
 searched own rosters (Some bound) (Some place) is lack first =
-    first_of own place (missed_at own place first.missed)
+    first_place own place (missed_at own place first.missed)
     (λ k number below stands joins short.
     lack_first own bound k number is lack (let before = first.before in omega (arith, below, before))
     stands joins short)
@@ -212,7 +212,7 @@ teams_within rs n tasks teams are = λ index team stands.
         slice_get_within tasks team leads.first.member leads.here
 
 pub begins_short : (rs : List Record) (n most : ℕ) (tasks : List ℕ) (begins : List (Vec ℕ))
-    → AreBegins rs n tasks begins → n ≤ most → AreShort begins most
+    → AreBarrierBegins rs n tasks begins → n ≤ most → AreShort begins most
 begins_short rs n most tasks begins are less = λ index. elim (cases_lt index (length tasks)) [
   | inl within ↦
       let task = get_or tasks index 0 in

@@ -6,7 +6,7 @@ use Rattle.task_states.specs.Rows.{row_at}
 use Rattle.teams.specs.Teams.{IsNumberOf}
 
 -- at each of the first n records that begins a barrier stands how many its task began before
-pub record AreNumbered (rs : List Record) (n : ℕ) (numbers : List ℕ) : Type 0 where
+pub record AreBeginsNumbered (rs : List Record) (n : ℕ) (numbers : List ℕ) : Type 0 where
   pub all : length numbers ≡ length rs
   pub each : (i number : ℕ) → i < n → slice_get numbers i ≡ Some number → IsNumberOf rs i number
 

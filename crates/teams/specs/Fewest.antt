@@ -4,7 +4,7 @@ use Rattle.std.specs.Global.{Vec}
 use Rattle.task_states.specs.Rows.{row_at}
 
 -- a member of the team, of the first n tasks, begins at most so many barriers
-pub record IsReached (teams : List (Option ℕ)) (begins : List (Vec ℕ)) (n team count : ℕ) : Type 0 where
+pub record IsCountReached (teams : List (Option ℕ)) (begins : List (Vec ℕ)) (n team count : ℕ) : Type 0 where
   pub index : ℕ
   pub before : index < n
   pub in_team : slice_get teams index ≡ Some (Some team)
@@ -17,7 +17,7 @@ pub record AreFewest (teams : List (Option ℕ)) (begins : List (Vec ℕ)) (n : 
   pub low : (index team count : ℕ) → index < n → slice_get teams index ≡ Some (Some team)
       → slice_get fewest team ≡ Some count → count ≤ length (row_at begins index)
   pub reached : (team count : ℕ) → slice_get fewest team ≡ Some count
-      → (4294967295 ≤ count) ⊎ IsReached teams begins n team count
+      → (4294967295 ≤ count) ⊎ IsCountReached teams begins n team count
 
 -- each number of a team is an index
 abbrev pub AreTeamsWithin : List (Option ℕ) → Type 0

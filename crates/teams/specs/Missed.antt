@@ -24,7 +24,7 @@ EndsNoBarrier rs i =
     (task begin : ℕ) (kind : SyncKind) → IsRegion rs i task kind begin → is_barrier kind ≡ true → ⊥
 
 -- a barrier ends there that a member of the team doesn't begin
-pub record IsMissed (rs : List Record) (i : ℕ) : Type 0 where
+pub record IsBarrierMissed (rs : List Record) (i : ℕ) : Type 0 where
   pub begin : ℕ
   pub barrier : EndsBarrier rs i begin
   pub number : ℕ

@@ -66,18 +66,18 @@ pub record AreFirstRosters (rs : List Record) (tasks sizes : List ℕ) (n : ℕ)
       → AreFirstSeats rs tasks sizes index roster.items
 
 -- the member's number is one of its team, which has as many members as it says, as each earlier one says
-pub record Fits (rs : List Record) (i : ℕ) (m : Membership) : Type 0 where
+pub record FitsTeam (rs : List Record) (i : ℕ) (m : Membership) : Type 0 where
   pub inside : m.index < m.actual
   pub enough : m.actual ≤ length (members rs m.parallel)
   pub one_size : (e : Membership) → Contains (members_before rs m.parallel i) e → e.actual ≡ m.actual
 
 abbrev pub IsFitting : List Record → ℕ → Membership → Bool → Type 0
-IsFitting rs i m true = Fits rs i m
+IsFitting rs i m true = FitsTeam rs i m
 IsFitting rs i m false = IsShort rs i
 
 -- and no earlier member has its number
 pub record HasSeat (rs : List Record) (i : ℕ) (m : Membership) : Type 0 where
-  pub fits : Fits rs i m
+  pub fits : FitsTeam rs i m
   pub alone : (e : Membership) → Contains (members_before rs m.parallel i) e → e.index ≡ m.index → ⊥
 
 -- the member that begins there, if one does, lacks nothing

@@ -7,7 +7,7 @@ use Rattle.ompt_events.specs.Records.{joined}
 use Rattle.ompt_events.specs.Places.{at}
 use Rattle.ompt_events.specs.Causes.{IsFreeOf, IsShort}
 use Rattle.task_tree.specs.Own.{OwnView, IsFirstPlaceWith}
-use Rattle.teams.specs.Missed.{IsMissed}
+use Rattle.teams.specs.Missed.{IsBarrierMissed}
 use Rattle.teams.specs.Seats.{AreSeated, IsWholeBefore}
 
 -- the record with this number, which stands at the place in the file, is the first in the tasks' own order at
@@ -20,30 +20,30 @@ pub record IsFirstLack (own : OwnView) (place : ℕ) : Type 0 where
   pub first : IsWholeBefore own.run.records number
 
 -- each member has its seat, and none shows such a team; or this is the first place at which one does
-abbrev pub IsSeated : OwnView → List (Vec (Option ℕ)) → Option ℕ → Type 0
-IsSeated own rosters None =
+abbrev pub AreAllSeated : OwnView → List (Vec (Option ℕ)) → Option ℕ → Type 0
+AreAllSeated own rosters None =
     IsWholeBefore own.run.records (length own.run.records)
     × AreSeated own.run.records (length own.run.records) own.run.family.tasks rosters
-IsSeated own rosters (Some place) = IsFirstLack own place
+AreAllSeated own rosters (Some place) = IsFirstLack own place
 
 -- a barrier ends at the place in the file that a member of the team doesn't begin
 abbrev pub IsMissedAt : OwnView → ℕ → Type 0
 IsMissedAt own place =
-    (number : ℕ) × (slice_get own.places number ≡ Some place) × IsMissed own.run.records number
+    (number : ℕ) × (slice_get own.places number ≡ Some place) × IsBarrierMissed own.run.records number
 
 -- none does before the place
 abbrev pub IsMissedNowhere : OwnView → ℕ → Type 0
 IsMissedNowhere own place = (k : ℕ) → k < place → IsMissedAt own k → ⊥
 
 -- it is the first such place, before the end
-pub record IsFirstMissed (own : OwnView) (end place : ℕ) : Type 0 where
+pub record IsFirstMissedBarrier (own : OwnView) (end place : ℕ) : Type 0 where
   pub before : place < end
   pub missed : IsMissedAt own place
   pub first : IsMissedNowhere own place
 
 -- the first such place before the end was found, or that there is none
 abbrev pub FindsMissed : OwnView → ℕ → Option ℕ → Type 0
-FindsMissed own end found = MatchOption found (IsMissedNowhere own end) (IsFirstMissed own end)
+FindsMissed own end found = MatchOption found (IsMissedNowhere own end) (IsFirstMissedBarrier own end)
 
 -- no record shows a team or a barrier that lacks a member, and each member has its seat; or this is the first
 -- place in the file at which one does

@@ -3,7 +3,7 @@ use Rattle.std.specs.Prelude.{ℕ, List, length, Option}
 use Rattle.std.specs.Global.{Vec}
 use Rattle.task_tree.specs.Runs.{RunView, IsRun}
 use Rattle.task_tree.specs.Own.{OwnView, IsOwn}
-use Rattle.teams.specs.Teams.{AreBegins, AreBeginNumbers}
+use Rattle.teams.specs.Teams.{AreBarrierBegins, AreBeginNumbers}
 use Rattle.teams.specs.Members.{AreInTeams, AreSizes}
 use Rattle.teams.specs.Fewest.{AreFewest}
 
@@ -31,6 +31,6 @@ pub record AreTables (tables : TablesView) : Type 0 where
   pub placed : IsOwn (tables_own tables)
   pub teams : AreInTeams tables.run.records (length tables.run.records) tables.run.family.tasks tables.teams
   pub sizes : AreSizes tables.run.records (length tables.run.records) tables.run.family.tasks tables.sizes
-  pub begins : AreBegins tables.run.records (length tables.run.records) tables.run.family.tasks tables.begins
+  pub begins : AreBarrierBegins tables.run.records (length tables.run.records) tables.run.family.tasks tables.begins
   pub numbers : AreBeginNumbers tables.run.records (length tables.run.records) tables.numbers
   pub fewest : AreFewest tables.teams tables.begins (length tables.teams) tables.fewest

@@ -64,7 +64,7 @@ pub record AreRosters (rs : List Record) (tasks : List ℕ) (teams : List (Optio
 
 -- in the row of each task stand the places at which it begins barriers, of the first n records; a task that
 -- begins none may have no row
-pub record AreBegins (rs : List Record) (n : ℕ) (tasks : List ℕ) (begins : List (Vec ℕ)) : Type 0 where
+pub record AreBarrierBegins (rs : List Record) (n : ℕ) (tasks : List ℕ) (begins : List (Vec ℕ)) : Type 0 where
   pub within : length begins ≤ length tasks
   pub each : (index task : ℕ) → slice_get tasks index ≡ Some task
       → row_at begins index ≡ begins_before rs task n
@@ -85,6 +85,6 @@ pub record IsTeams (view : TeamsView) : Type 0 where
   pub placed : IsOwn (own_of view)
   pub teams : AreTeams view.run.records view.run.family.tasks view.teams
   pub rosters : AreRosters view.run.records view.run.family.tasks view.teams view.rosters
-  pub begins : AreBegins view.run.records (length view.run.records) view.run.family.tasks view.begins
+  pub begins : AreBarrierBegins view.run.records (length view.run.records) view.run.family.tasks view.begins
   pub numbers : AreBeginNumbers view.run.records (length view.run.records) view.numbers
   pub whole : IsFreeOf view.run.records TeamShort

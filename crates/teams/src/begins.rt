@@ -6,7 +6,7 @@ ghost use Rattle.ompt_events.specs.Regions.{barrier_begun};
 ghost use Rattle.task_tree.specs.Subjects.{Calls};
 ghost use Rattle.teams.specs.Begins.{IsPlaceAdded};
 ghost use Rattle.task_states.specs.Rows.{row_at};
-ghost use Rattle.teams.specs.Teams.{AreBegins, AreBeginNumbers};
+ghost use Rattle.teams.specs.Teams.{AreBarrierBegins, AreBeginNumbers};
 
 use ompt_events::{Endpoint, WaitKind};
 use std::alloc::{AllocError, Global};
@@ -22,7 +22,7 @@ pub(crate) struct Begins {
 
 /// Where each task begins barriers.
 pub(crate) fn find_begins(alloc: Global, run: &Run) -> Result<Begins, AllocError>
-    ensures begins { IfOk result (λ found. AreBegins run.now.records
+    ensures begins { IfOk result (λ found. AreBarrierBegins run.now.records
         (length run.now.records) run.now.family.tasks found.begins.items) }
     ensures numbers { IfOk result (λ found. AreBeginNumbers run.now.records
         (length run.now.records) found.numbers.items) }

@@ -1,6 +1,6 @@
 //! Which ends of barriers show that a member of the team doesn't begin them.
 ghost use Rattle.std.specs.Prelude.{◌<◌, ◌↔◌, IsTrue, MatchOption, length};
-ghost use Rattle.teams.specs.Missed.{IsBarrierEnd, EndsNoBarrier, IsMissed};
+ghost use Rattle.teams.specs.Missed.{IsBarrierEnd, EndsNoBarrier, IsBarrierMissed};
 
 use crate::tables::Tables;
 use ompt_events::WaitKind;
@@ -19,7 +19,7 @@ pub struct BarrierEnd {
 /// begins fewer barriers lacks the last ones, so the least number of barriers in the team decides.
 pub(crate) fn is_missed(tables: &Tables, at: usize) -> bool
     requires { at < length tables.now.run.records }
-    ensures { IsTrue result ↔ IsMissed tables.now.run.records at }
+    ensures { IsTrue result ↔ IsBarrierMissed tables.now.run.records at }
 {
     let _run = tables.run();
     let Some(end) = barrier_end(tables.regions, at) else {

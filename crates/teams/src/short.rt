@@ -2,7 +2,7 @@
 ghost use Rattle.std.specs.Prelude.{◌≤◌, length};
 ghost use Rattle.teams.specs.Tables.{tables_own};
 ghost use Rattle.teams.specs.Seats.{AreSeated};
-ghost use Rattle.teams.specs.Short.{IsSeated, FindsMissed, IsSearched};
+ghost use Rattle.teams.specs.Short.{AreAllSeated, FindsMissed, IsSearched};
 
 use crate::missed::is_missed;
 use crate::seats::lacks_member;
@@ -24,7 +24,7 @@ pub(crate) fn find_short(tables: &Tables, rosters: &mut Vec<Vec<Slot>>) -> Optio
 /// team which lacks a member. Members begin in the same order in the file and in the tasks' own order.
 fn seat_members(tables: &Tables, rosters: &mut Vec<Vec<Slot>>) -> Option<usize>
     requires { AreSeated tables.now.run.records 0 tables.now.run.family.tasks rosters.old.items }
-    ensures { IsSeated (tables_own tables.now) rosters.new.items result }
+    ensures { AreAllSeated (tables_own tables.now) rosters.new.items result }
 {
     for number in 0..tables.run().len() {
         if lacks_member(tables, rosters, number) {

@@ -5,7 +5,7 @@ ghost use Rattle.ompt_events.specs.declared.names.SyncKind.{SyncKind};
 ghost use Rattle.ompt_events.specs.declared.cause.Cause.TheVariants.{TeamShort};
 ghost use Rattle.ompt_events.specs.Regions.{IsRegion};
 ghost use Rattle.task_tree.specs.Own.{IsOwnFault};
-ghost use Rattle.task_states.specs.Regions.{IsBeginOf};
+ghost use Rattle.task_states.specs.Regions.{IsRegionBegin};
 ghost use Rattle.teams.specs.Missed.{IsBarrierEnd, EndsNoBarrier};
 ghost use Rattle.task_states.specs.Rows.{row_at};
 ghost use Rattle.teams.specs.Teams.{own_of, IsTeams};
@@ -108,7 +108,7 @@ impl<'a> Teams<'a> {
         requires { number < length self.now.run.records }
         ensures { MatchOption result ((task begin : ℕ) (kind : SyncKind)
             → IsRegion self.now.run.records number task kind begin → ⊥)
-            (IsBeginOf self.now.run.records number) }
+            (IsRegionBegin self.now.run.records number) }
     {
         self.regions.begin_of(number)
     }

@@ -95,24 +95,24 @@ done_or_not rs n task = elim (part_or_not rs n task Whole) [
 -- ---- the half that is missing
 
 -- no part of the task is finished that has this half
-abbrev IsMissing : List Record → ℕ → ℕ → Half → Type 0
-IsMissing rs n task h =
+abbrev IsPartMissing : List Record → ℕ → ℕ → Half → Type 0
+IsPartMissing rs n task h =
     (part : Part) (z : List Half) → begins_with (h ∷ z) (part_halves part) ≡ true
     → IsPartFinished rs (λ k. seen_at rs k < n) task part → ⊥
 
 pub missing_half : (rs : List Record) (n task : ℕ) → (IsDone rs n task → ⊥)
-    → (h : Half) × IsMissing rs n task h
+    → (h : Half) × IsPartMissing rs n task h
 missing_half rs n task not_done = elim (part_or_not rs n task Body) [
   | inr no_body ↦ (Keep, without_body no_body)
   | inl body ↦ (Give, without_event body)
 ]
   where
-    without_body : (IsPartFinished rs (λ k. seen_at rs k < n) task Body → ⊥) → IsMissing rs n task Keep
+    without_body : (IsPartFinished rs (λ k. seen_at rs k < n) task Body → ⊥) → IsPartMissing rs n task Keep
     without_body no_body Whole z begun finished = not_done (inl finished)
     without_body no_body Body z begun finished = no_body finished
     without_body no_body Event z begun finished = false≢true begun
 
-    without_event : IsPartFinished rs (λ k. seen_at rs k < n) task Body → IsMissing rs n task Give
+    without_event : IsPartFinished rs (λ k. seen_at rs k < n) task Body → IsPartMissing rs n task Give
     without_event body Whole z begun finished = not_done (inl finished)
     without_event body Body z begun finished = false≢true begun
     without_event body Event z begun finished = not_done (inr (body, finished))

@@ -10,9 +10,9 @@ use Rattle.trace_ledger.specs.Credits.{IsHeldInTree, IsHeldInPool, IsFamilyDone}
 use Rattle.trace_ledger.proofs.TreeLaw.{IsKnown, tree_held, tree_done}
 use Rattle.trace_ledger.proofs.PoolLaw.{pool_held, pool_done}
 
-pub known_of : (rs : List Record) (entries : List Entry) → IsTrace rs → HasRightEntries rs
+pub known_trace : (rs : List Record) (entries : List Entry) → IsTrace rs → HasRightEntries rs
     → IsLedgerOf rs entries → IsKnown rs entries
-known_of rs entries trace right are = record {
+known_trace rs entries trace right are = record {
   trace = trace;
   once = right.once;
   right = right.right;
@@ -23,7 +23,7 @@ pub held_in_pool : (rs : List Record) (entries : List Entry) (n root parent numb
     → IsTrace rs → HasRightEntries rs → IsLedgerOf rs entries → HasPath rs root parent path
     → IsChild rs parent number task → IsDone rs n task ↔ IsHeldInPool (take n entries) root path number
 held_in_pool rs entries n root parent number task path trace right are stands numbered =
-    let known = known_of rs entries trace right are in (
+    let known = known_trace rs entries trace right are in (
       pool_held rs entries n root parent number task path known stands numbered,
       pool_done rs entries n root parent number task path known stands numbered,
     )
@@ -32,7 +32,7 @@ pub held_in_tree : (rs : List Record) (entries : List Entry) (n root task : ℕ)
     → HasRightEntries rs → IsLedgerOf rs entries → HasPath rs root task path
     → IsFamilyDone rs n task ↔ IsHeldInTree (take n entries) root path
 held_in_tree rs entries n root task path trace right are stands =
-    let known = known_of rs entries trace right are in (
+    let known = known_trace rs entries trace right are in (
       tree_held rs entries n root task path known stands,
       λ held member of. tree_done rs entries n root task member path known stands held of,
     )

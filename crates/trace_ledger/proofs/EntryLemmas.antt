@@ -20,7 +20,7 @@ use Rattle.credit_ledger.specs.Entries.{tree_share, tree_shares, pool_share, par
 use Rattle.credit_ledger.specs.Entries.{pool_shares, is_same_path}
 use Rattle.credit_ledger.proofs.CodeLemmas.{same_path-true, same_path-itself, cond_in as in_cond}
 use Rattle.credit_ledger.proofs.OverLemmas.{HasEntry, has_later}
-use Rattle.credit_ledger.proofs.RegionLemmas.{IsIn, IsIn-append_left, IsIn-append_right, IsIn-append_cases}
+use Rattle.credit_ledger.proofs.RegionLemmas.{IsShareIn, IsIn-append_left, IsIn-append_right, IsIn-append_cases}
 use Rattle.trace_ledger.specs.Entries.{claimed_entry, entry_of, IsEntryAt, IsLedgerOf}
 
 -- ---- the first entries
@@ -108,7 +108,7 @@ entry_right rs i e free from wrong =
 -- ---- and a finishing record of its entry
 
 -- the record's entry, with the task and the part that it finishes
-pub record IsEntered (rs : List Record) (i task : ℕ) (part : Part) (e : Entry) : Type 0 where
+pub record IsEntryMade (rs : List Record) (i task : ℕ) (part : Part) (e : Entry) : Type 0 where
   pub made : IsEntryAt rs i (seen_at rs i) e
   pub task_is : e.task ≡ task
   pub part_is : e.part ≡ part
@@ -119,12 +119,12 @@ claim_there None f x same is = absurd (false≢true (same ∙ ap is_some is))
 claim_there (Some c) f x same is = (c, refl)
 
 pub entry_made : (rs : List Record) (i task : ℕ) (part : Part) → IsTrace rs
-    → at finish rs i ≡ Some (task, part) → (e : Entry) × IsEntered rs i task part e
+    → at finish rs i ≡ Some (task, part) → (e : Entry) × IsEntryMade rs i task part e
 entry_made rs i task part trace finishes = there (slice_get rs i) refl finishes
   where
     there : (o : Option Record) → slice_get rs i ≡ o
         → option_and_then (λ (q : Record). finish q.body) o ≡ Some (task, part)
-        → (e : Entry) × IsEntered rs i task part e
+        → (e : Entry) × IsEntryMade rs i task part e
     there None here is = absurd (none-some (task, part) is)
     there (Some r) here is =
         let sound : IsSound (get_or rs i r).body = trace.sound i r (slice_get_within rs i r here) in
@@ -147,15 +147,15 @@ entry_made rs i task part trace finishes = there (slice_get rs i) refl finishes
 
 -- ---- shares of the root's credit, and of a pool
 
-cond_in : (b : _) (s : List Half) → b ≡ true → IsIn s (cond b (s ∷ []) [])
+cond_in : (b : _) (s : List Half) → b ≡ true → IsShareIn s (cond b (s ∷ []) [])
 cond_in true s e = inl refl
 cond_in false s e = absurd (false≢true e)
 
 pub in_tree : (root : ℕ) (entries : List Entry) (e : Entry) → HasEntry entries e → e.root ≡ root
-    → IsIn (tree_share e) (tree_shares root entries)
+    → IsShareIn (tree_share e) (tree_shares root entries)
 in_tree root [] e (k, is) own = absurd (none-some e is)
 in_tree root (f ∷ entries) e (zero, is) own =
-    let P : Entry → Type 0 = λ x. IsIn (tree_share e) (cond (x.root == root) (tree_share x ∷ []) []) in
+    let P : Entry → Type 0 = λ x. IsShareIn (tree_share e) (cond (x.root == root) (tree_share x ∷ []) []) in
     IsIn-append_left (tree_share e) (cond (f.root == root) (tree_share f ∷ []) []) (tree_shares root entries)
     (subst P (sym (same_Some f e is)) (cond_in (e.root == root) (tree_share e) (eq-eqb e.root root own)))
 in_tree root (f ∷ entries) e (suc k, is) own =
@@ -167,19 +167,19 @@ abbrev pub IsOfChild : List ℕ → Entry → ℕ → Type 0
 IsOfChild parent e number = parent_and_number e.path ≡ Some (parent, number)
 
 from_share : (parent : List ℕ) (child : Option (List ℕ × ℕ)) (part : Part) (x : List Half)
-    → IsIn x (share_in_pool parent child part)
+    → IsShareIn x (share_in_pool parent child part)
     → (number : ℕ) × (child ≡ Some (parent, number)) × (x ≡ pool_share number part)
 from_share parent None part x there = absurd there
 from_share parent (Some (up, number)) part x there =
     let is = in_cond (is_same_path up parent) x (pool_share number part) there in
     (number, ap (λ p. Some (p, number)) (same_path-true up parent is.0), is.1)
 
-under : (b : _) (x : List Half) (xs : List (List Half)) → IsIn x (cond b xs []) → (b ≡ true) × IsIn x xs
+under : (b : _) (x : List Half) (xs : List (List Half)) → IsShareIn x (cond b xs []) → (b ≡ true) × IsShareIn x xs
 under true x xs there = (refl, there)
 under false x xs there = absurd there
 
 pub from_pool : (root : ℕ) (parent : List ℕ) (entries : List Entry) (x : List Half)
-    → IsIn x (pool_shares root parent entries)
+    → IsShareIn x (pool_shares root parent entries)
     → (e : Entry) × (number : ℕ) × HasEntry entries e × (e.root ≡ root) × IsOfChild parent e number
     × (x ≡ pool_share number e.part)
 from_pool root parent [] x there = absurd there
@@ -198,10 +198,10 @@ from_pool root parent (f ∷ entries) x there =
     ]
 
 own_share : (root number : ℕ) (parent : List ℕ) (e : Entry) → e.root ≡ root → IsOfChild parent e number
-    → IsIn (pool_share number e.part)
+    → IsShareIn (pool_share number e.part)
     (cond (e.root == root) (share_in_pool parent (parent_and_number e.path) e.part) [])
 own_share root number parent e own of =
-    let P : List (List Half) → Type 0 = λ xs. IsIn (pool_share number e.part) xs in
+    let P : List (List Half) → Type 0 = λ xs. IsShareIn (pool_share number e.part) xs in
     let shares : cond (e.root == root) (share_in_pool parent (parent_and_number e.path) e.part) []
     ≡ cond (is_same_path parent parent) (pool_share number e.part ∷ []) [] =
     ap (λ b. cond b (share_in_pool parent (parent_and_number e.path) e.part) []) (eq-eqb e.root root own)
@@ -211,12 +211,12 @@ own_share root number parent e own of =
 
 pub in_pool : (root number : ℕ) (parent : List ℕ) (entries : List Entry) (e : Entry) → HasEntry entries e
     → e.root ≡ root → IsOfChild parent e number
-    → IsIn (pool_share number e.part) (pool_shares root parent entries)
+    → IsShareIn (pool_share number e.part) (pool_shares root parent entries)
 in_pool root number parent [] e (k, is) own of = absurd (none-some e is)
 in_pool root number parent (f ∷ entries) e (zero, is) own of =
     let P : Entry → Type 0 =
     λ x.
-    IsIn (pool_share number e.part)
+    IsShareIn (pool_share number e.part)
     (cond (x.root == root) (share_in_pool parent (parent_and_number x.path) x.part) []) in
     IsIn-append_left (pool_share number e.part)
     (cond (f.root == root) (share_in_pool parent (parent_and_number f.path) f.part) [])
@@ -240,6 +240,6 @@ below_from rs entries n e are (k, is) =
 
 -- and the other way round
 pub from_below : (rs : List Record) (entries : List Entry) (n i task : ℕ) (part : Part) (e : Entry)
-    → IsLedgerOf rs entries → IsEntered rs i task part e → seen_at rs i < n → HasEntry (take n entries) e
+    → IsLedgerOf rs entries → IsEntryMade rs i task part e → seen_at rs i < n → HasEntry (take n entries) e
 from_below rs entries n i task part e are entered less =
     (seen_at rs i, take_get entries n (seen_at rs i) e less ((are (seen_at rs i) e).1 (i, entered.made)))

@@ -8,8 +8,8 @@ use Rattle.std.proofs.lemmas.List.Elements.{recursion_from_All}
 use Rattle.credit.specs.declared.share.Half.{Half}
 use Rattle.credit.specs.declared.share.Half.TheVariants.{Keep, Give}
 use Rattle.credit.specs.Shares.{begins_with, start_share, Hold}
-use Rattle.credit.proofs.ShareLemmas.{IsShort}
-use Rattle.credit_ledger.proofs.RegionLemmas.{IsIn, list_any-in}
+use Rattle.credit.proofs.ShareLemmas.{IsAsLong}
+use Rattle.credit_ledger.proofs.RegionLemmas.{IsShareIn, list_any-in}
 use Rattle.credit_ledger.proofs.CodeLemmas.{start-begun, start-cons}
 
 -- ---- two shares of which one begins with the other
@@ -85,7 +85,7 @@ goes (suc m) (Keep ∷ r) = more (goes m r)
 
 -- ---- what is held
 
-all_short : (l : List Half) (xs : List (List Half)) → ByRecursion (IsShort l) xs → (x : List Half) → IsIn x xs
+all_short : (l : List Half) (xs : List (List Half)) → ByRecursion (IsAsLong l) xs → (x : List Half) → IsShareIn x xs
     → length x ≤ length l
 all_short l [] h x there = absurd there
 all_short l (y ∷ xs) h x there = elim there [
@@ -95,12 +95,12 @@ all_short l (y ∷ xs) h x there = elim there [
 
 -- shares hold one where no long list of halves that begins with it begins with none of them
 pub hold_from : (shares : List (List Half)) (s : List Half)
-    → ((l : List Half) → begins_with l s ≡ true → ((x : List Half) → IsIn x shares → length x ≤ length l)
-    → ((x : List Half) → IsIn x shares → begins_with l x ≡ true → ⊥) → ⊥)
+    → ((l : List Half) → begins_with l s ≡ true → ((x : List Half) → IsShareIn x shares → length x ≤ length l)
+    → ((x : List Half) → IsShareIn x shares → begins_with l x ≡ true → ⊥) → ⊥)
     → Hold shares s
 hold_from shares s never l begins long = elim (cases_Bool (list_any (λ t. begins_with l t) shares)) [
   | inl some ↦ Any-from_list_any (λ t. begins_with l t) shares some
   | inr none ↦
-      absurd (never l begins (all_short l shares (recursion_from_All (IsShort l) (s ∷ shares) long).1)
+      absurd (never l begins (all_short l shares (recursion_from_All (IsAsLong l) (s ∷ shares) long).1)
       (λ x there begun. false≢true (sym none ∙ list_any-in (λ t. begins_with l t) x shares there begun)))
 ]

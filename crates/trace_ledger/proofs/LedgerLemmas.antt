@@ -22,12 +22,12 @@ use Rattle.credit_ledger.specs.declared.entry.Entry.{Entry}
 use Rattle.credit_ledger.specs.declared.fault.LedgerFault.{LedgerFault}
 use Rattle.credit_ledger.specs.declared.fault.LedgerFault.TheVariants.{Memory, Overlap}
 use Rattle.credit_ledger.specs.declared.view.Call.TheVariants.{Enter}
-use Rattle.credit_ledger.specs.Entries.{is_overlap, is_full, fault_of}
+use Rattle.credit_ledger.specs.Entries.{is_overlap, is_ledger_full, entry_fault}
 use Rattle.credit_ledger.specs.Histories.{IsPossible}
 use Rattle.credit_ledger.proofs.OverlapLemmas.{position_from-none}
 use Rattle.trace_ledger.specs.Entries.{entry_of, IsEntryAt, IsLedgerOf, HasRightEntries}
 use Rattle.trace_ledger.specs.Ledger.{AreEntered}
-use Rattle.trace_ledger.specs.Makers.{AreMakers}
+use Rattle.trace_ledger.specs.Makers.{AreEntryRecords}
 use Rattle.trace_ledger.proofs.EntryLemmas.{entry_says, entry_made}
 use Rattle.trace_ledger.proofs.ApartLaw.{entries_apart}
 
@@ -35,9 +35,9 @@ use Rattle.trace_ledger.proofs.ApartLaw.{entries_apart}
 
 -- an entry that may be entered is refused for want of memory alone
 pub possible_fault : (entries : List Entry) (e : Entry) (fault : LedgerFault) → IsPossible entries (Enter e)
-    → fault ≡ fault_of entries e → fault ≡ Memory
+    → fault ≡ entry_fault entries e → fault ≡ Memory
 possible_fault entries e fault possible is =
-    is ∙ cond-false (is_full entries) _ _ possible.0
+    is ∙ cond-false (is_ledger_full entries) _ _ possible.0
     ∙ ap (λ o. option_map_or (λ index. Overlap index) o Memory)
     (position_from-none (is_overlap e) entries 0 possible.1)
 
@@ -49,15 +49,15 @@ sound_there rs i r trace here =
     (trace.sound i r (slice_get_within rs i r here))
 
 -- the record makes an entry, and its own one
-pub record Makes (rs : List Record) (i index : ℕ) (r : Record) : Type 0 where
+pub record MakesEntry (rs : List Record) (i index : ℕ) (r : Record) : Type 0 where
   pub sound : IsSound r.body
   pub entry : Entry
   pub made : entry_of r ≡ Some entry
   pub there : IsEntryAt rs i index entry
 
 pub made_by : (rs : List Record) (makers : List (Option ℕ)) (index i : ℕ) (r : Record) → IsTrace rs
-    → AreMakers rs (length rs) makers → slice_get makers index ≡ Some (Some i) → slice_get rs i ≡ Some r
-    → Makes rs i index r
+    → AreEntryRecords rs (length rs) makers → slice_get makers index ≡ Some (Some i) → slice_get rs i ≡ Some r
+    → MakesEntry rs i index r
 made_by rs makers index i r trace are is here =
     let (below, finishes, seen) = are.makes index i is in
     let (what, says) = some_of (at finish rs i) finishes in
@@ -71,7 +71,7 @@ made_by rs makers index i r trace are is here =
 
 -- the table names a record of the trace
 pub maker_below : (rs list : List Record) (makers : List (Option ℕ)) (n index i : ℕ) (slot : Option ℕ)
-    → list ≡ rs → AreMakers rs (length rs) makers → n ≡ length makers → index < n
+    → list ≡ rs → AreEntryRecords rs (length rs) makers → n ≡ length makers → index < n
     → slot ≡ get_or makers index slot → slot ≡ Some i → i < length list
 maker_below rs list makers n index i slot whole are long within read is =
     let below = (are.makes index i (slice_get_read makers n index slot long within read ∙ ap Some is)).0 in
@@ -82,9 +82,9 @@ maker_below rs list makers n index i slot whole are long within read is =
 pub maker_makes : (rs list : List Record) (makers : List (Option ℕ)) (n index i : ℕ) (slot : Option ℕ)
     (r : Record)
     → IsTrace rs
-    → list ≡ rs → AreMakers rs (length rs) makers → n ≡ length makers
+    → list ≡ rs → AreEntryRecords rs (length rs) makers → n ≡ length makers
     → index < n → slot ≡ get_or makers index slot → slot ≡ Some i
-    → r ≡ get_or list i r → Makes rs i index r
+    → r ≡ get_or list i r → MakesEntry rs i index r
 maker_makes rs list makers n index i slot r trace whole are long within read is here =
     let inside = maker_below rs list makers n index i slot whole are long within read is in
     made_by rs makers index i r trace are (slice_get_read makers n index slot long within read ∙ ap Some is)

@@ -16,7 +16,7 @@ use Rattle.ompt_events.specs.Causes.{entry_twice, entries_in, entry, length_ahea
 use Rattle.ompt_events.proofs.PlaceLemmas.{at_index}
 use Rattle.ompt_events.proofs.ListLemmas.{get_within}
 use Rattle.task_tree.proofs.LinkLemmas.{get_set_same, get_set_other}
-use Rattle.trace_ledger.specs.Makers.{IsMaker, free_entries, AreMakers}
+use Rattle.trace_ledger.specs.Makers.{IsEntryRecord, free_entries, AreEntryRecords}
 
 -- ---- entries without a record
 
@@ -62,12 +62,12 @@ entries_more rs n within finishes =
 
 -- ---- the table
 
-maker_later : (rs : List Record) (n index place : ℕ) → IsMaker rs n index place
-    → IsMaker rs (n + 1) index place
+maker_later : (rs : List Record) (n index place : ℕ) → IsEntryRecord rs n index place
+    → IsEntryRecord rs (n + 1) index place
 maker_later rs n index place (below, finishes, seen) = (omega (arith, below), finishes, seen)
 
 pub makers_start : (rs : List Record) (makers : List (Option ℕ)) → makers ≡ replicate (entries_in rs) None
-    → AreMakers rs 0 makers
+    → AreEntryRecords rs 0 makers
 makers_start rs makers empty = record {
   entries = ap length empty ∙ length-replicate (entries_in rs) None;
   makes = λ index place is. absurd (none_placed (entries_in rs) index place
@@ -77,7 +77,7 @@ makers_start rs makers empty = record {
 }
 
 pub makers_same : (rs : List Record) (n : ℕ) (makers : List (Option ℕ)) → n < length rs
-    → is_some (at finish rs n) ≡ false → AreMakers rs n makers → AreMakers rs (n + 1) makers
+    → is_some (at finish rs n) ≡ false → AreEntryRecords rs n makers → AreEntryRecords rs (n + 1) makers
 makers_same rs n makers within none are = record {
   entries = are.entries;
   makes = λ index place is. maker_later rs n index place (are.makes index place is);
@@ -87,7 +87,7 @@ makers_same rs n makers within none are = record {
 
 -- a finishing record names an entry of the table, which no earlier one names
 entry_free : (rs : List Record) (n : ℕ) (makers : List (Option ℕ)) → IsFinishing rs n → IsFreeOf rs EntryTwice
-    → IsFreeOf rs LengthAhead → AreMakers rs n makers → slice_get makers (seen_at rs n) ≡ Some None
+    → IsFreeOf rs LengthAhead → AreEntryRecords rs n makers → slice_get makers (seen_at rs n) ≡ Some None
 entry_free rs n makers finishes apart ahead are = elim (cases_lt (seen_at rs n) (length makers)) [
   | inr past ↦ absurd (ahead n
       (length_ahead (entry finishes (let all = are.entries in omega (arith, past, all)))))
@@ -102,7 +102,7 @@ entry_free rs n makers finishes apart ahead are = elim (cases_lt (seen_at rs n) 
         absurd (apart n (entry_twice (place, below, earlier, finishes, seen)))
 
 pub makers_more : (rs : List Record) (n : ℕ) (old new : List (Option ℕ)) → n < length rs → IsFinishing rs n
-    → new ≡ set old (seen_at rs n) (Some n) → AreMakers rs n old → AreMakers rs (n + 1) new
+    → new ≡ set old (seen_at rs n) (Some n) → AreEntryRecords rs n old → AreEntryRecords rs (n + 1) new
 makers_more rs n old new within finishes noted are = record {
   entries = ap length noted ∙ length-set old (seen_at rs n) (Some n) ∙ are.entries;
   makes = λ index place is. named index place (ap (λ l. slice_get l index) (sym noted) ∙ is);
@@ -116,7 +116,7 @@ makers_more rs n old new within finishes noted are = record {
 }
   where
     named : (index place : ℕ) → slice_get (set old (seen_at rs n) (Some n)) index ≡ Some (Some place)
-        → IsMaker rs (n + 1) index place
+        → IsEntryRecord rs (n + 1) index place
     named index place is = elim (cases_eq index (seen_at rs n)) [
       | inr apart ↦ maker_later rs n index place (are.makes index place
           (sym (get_set_other old (seen_at rs n) index (Some n) apart) ∙ is))
@@ -132,7 +132,7 @@ makers_more rs n old new within finishes noted are = record {
     ]
 
 -- at the end each entry has its record
-pub all_made : (rs : List Record) (makers : List (Option ℕ)) (index : ℕ) → AreMakers rs (length rs) makers
+pub all_made : (rs : List Record) (makers : List (Option ℕ)) (index : ℕ) → AreEntryRecords rs (length rs) makers
     → IsFreeOf rs EntryTwice → IsFreeOf rs LengthAhead → slice_get makers index ≡ Some None → ⊥
 all_made rs makers index are apart ahead is =
     let all = are.all apart ahead in

@@ -17,13 +17,13 @@ use Rattle.credit.proofs.HoldLemmas.{span}
 use Rattle.credit_ledger.specs.declared.entry.Entry.{Entry}
 use Rattle.credit_ledger.specs.Entries.{part_halves, parent_and_number, pool_share, pool_shares}
 use Rattle.credit_ledger.proofs.CodeLemmas.{start-begun}
-use Rattle.credit_ledger.proofs.RegionLemmas.{IsIn, IsSplit, split, IsSplit-begun, Passes, passes}
+use Rattle.credit_ledger.proofs.RegionLemmas.{IsShareIn, IsSplit, split, IsSplit-begun, Passes, passes}
 use Rattle.credit_ledger.proofs.RegionLemmas.{begins_with-shift}
 use Rattle.credit_ledger.proofs.OverLemmas.{held_begins}
 use Rattle.credit_ledger.proofs.OverlapLemmas.{parent_and_number-push}
 use Rattle.trace_ledger.specs.Entries.{IsDone}
 use Rattle.trace_ledger.proofs.HalfLemmas.{hold_from}
-use Rattle.trace_ledger.proofs.EntryLemmas.{IsRight, entry_right, IsEntered, entry_made, IsOfChild, from_pool}
+use Rattle.trace_ledger.proofs.EntryLemmas.{IsRight, entry_right, IsEntryMade, entry_made, IsOfChild, from_pool}
 use Rattle.trace_ledger.proofs.EntryLemmas.{in_pool, below_from, from_below}
 use Rattle.trace_ledger.proofs.StandLemmas.{one_task, push_of_parent}
 use Rattle.trace_ledger.proofs.CompleteLemmas.{done_or_not, missing_half}
@@ -40,20 +40,20 @@ share_pooled : (rs : List Record) (entries : List Entry) (n root parent number t
     (part : Part)
     → IsKnown rs entries → IsChildAt rs root parent number task path
     → IsPartFinished rs (λ k. seen_at rs k < n) task part
-    → (IsIn (pool_share number part) (pool_shares root path (take n entries)) → ⊥) → ⊥
+    → (IsShareIn (pool_share number part) (pool_shares root path (take n entries)) → ⊥) → ⊥
 share_pooled rs entries n root parent number task path part known at_path (i, finishes, seen) never =
     let entered = entry_made rs i task part known.trace finishes in
     right_entry rs entries i task part known entered (λ right. never (there entered.0 entered.1 right))
   where
-    there : (e : Entry) → IsEntered rs i task part e → IsRight rs e
-        → IsIn (pool_share number part) (pool_shares root path (take n entries))
+    there : (e : Entry) → IsEntryMade rs i task part e → IsRight rs e
+        → IsShareIn (pool_share number part) (pool_shares root path (take n entries))
     there e entered right =
         let P : ℕ → Type 0 = λ t. HasPath rs e.root t e.path in
         let one =
         one_path rs e.root root task e.path (path ++ number ∷ []) known.once
         (subst P entered.task_is right.stands) (below number at_path.stands at_path.numbered) in
         let of : IsOfChild path e number = ap parent_and_number one.1 ∙ parent_and_number-push path number in
-        let Q : Part → Type 0 = λ p. IsIn (pool_share number p) (pool_shares root path (take n entries)) in
+        let Q : Part → Type 0 = λ p. IsShareIn (pool_share number p) (pool_shares root path (take n entries)) in
         subst Q entered.part_is
         (in_pool root number path (take n entries) e
         (from_below rs entries n i task part e known.ledger entered seen) one.0 of)
@@ -71,7 +71,7 @@ pool_held rs entries n root parent number task path known stands numbered done =
     long none)
   where
     there : (part : Part) → IsPartFinished rs (λ k. seen_at rs k < n) task part
-        → (IsIn (pool_share number part) (pool_shares root path (take n entries)) → ⊥) → ⊥
+        → (IsShareIn (pool_share number part) (pool_shares root path (take n entries)) → ⊥) → ⊥
     there part =
         share_pooled rs entries n root parent number task path part known (record {
           stands = stands;
@@ -80,7 +80,7 @@ pool_held rs entries n root parent number task path known stands numbered done =
 
     goes_on : (part : Part) (l rest : List Half) → l ≡ start_share (number ∷ []) ++ rest
         → begins_with rest (part_halves part) ≡ true
-        → ((x : List Half) → IsIn x (pool_shares root path (take n entries)) → begins_with l x ≡ true → ⊥)
+        → ((x : List Half) → IsShareIn x (pool_shares root path (take n entries)) → begins_with l x ≡ true → ⊥)
         → IsPartFinished rs (λ k. seen_at rs k < n) task part → ⊥
     goes_on part l rest is begun none finished =
         there part finished (λ pooled. none (pool_share number part) pooled
@@ -88,8 +88,8 @@ pool_held rs entries n root parent number task path known stands numbered done =
         (begins_with-shift (start_share (number ∷ [])) rest (part_halves part) ∙ begun)))
 
     halved : (l rest : List Half) → l ≡ start_share (number ∷ []) ++ rest
-        → ((x : List Half) → IsIn x (pool_shares root path (take n entries)) → length x ≤ length l)
-        → ((x : List Half) → IsIn x (pool_shares root path (take n entries)) → begins_with l x ≡ true → ⊥)
+        → ((x : List Half) → IsShareIn x (pool_shares root path (take n entries)) → length x ≤ length l)
+        → ((x : List Half) → IsShareIn x (pool_shares root path (take n entries)) → begins_with l x ≡ true → ⊥)
         → IsPartFinished rs (λ k. seen_at rs k < n) task Body
         → IsPartFinished rs (λ k. seen_at rs k < n) task Event → ⊥
     halved l [] is long none body event =
@@ -102,8 +102,8 @@ pool_held rs entries n root parent number task path known stands numbered done =
     halved l (Give ∷ z) is long none body event = goes_on Event l (Give ∷ z) is refl none event
 
     from : (l : List Half) → IsSplit l (start_share (number ∷ [])) []
-        → ((x : List Half) → IsIn x (pool_shares root path (take n entries)) → length x ≤ length l)
-        → ((x : List Half) → IsIn x (pool_shares root path (take n entries)) → begins_with l x ≡ true → ⊥) → ⊥
+        → ((x : List Half) → IsShareIn x (pool_shares root path (take n entries)) → length x ≤ length l)
+        → ((x : List Half) → IsShareIn x (pool_shares root path (take n entries)) → begins_with l x ≡ true → ⊥) → ⊥
     from l (split rest is begun) long none = elim done [
       | inl whole ↦ goes_on Whole l rest is refl none whole
       | inr both ↦ halved l rest is long none both.0 both.1

@@ -36,13 +36,13 @@ last_of (x ∷ xs) = more (last_of xs)
 -- ---- one task at a path
 
 -- what stands at a path
-pub data Stands (rs : List Record) (root task : ℕ) (path : List ℕ) : Type 0 where
-  at_top : path ≡ [] → task ≡ root → Stands rs root task path
+pub data StandsAt (rs : List Record) (root task : ℕ) (path : List ℕ) : Type 0 where
+  at_top : path ≡ [] → task ≡ root → StandsAt rs root task path
   at_child : (number parent : ℕ) (up : List ℕ) → path ≡ up ++ number ∷ [] → HasPath rs root parent up
-      → IsChild rs parent number task → Stands rs root task path
+      → IsChild rs parent number task → StandsAt rs root task path
 
 pub stands : (rs : List Record) (root task : ℕ) (path : List ℕ) → HasPath rs root task path
-    → Stands rs root task path
+    → StandsAt rs root task path
 stands rs root task path (top is) = at_top refl refl
 stands rs root task path (below number {parent = parent} {path = up} higher numbered) =
     at_child number parent up refl higher numbered
@@ -51,14 +51,14 @@ pub one_task : (rs : List Record) (root task other : ℕ) (path : List ℕ) → 
     → HasPath rs root other path → task ≡ other
 one_task rs root task other path (top is) there = of (stands rs root other path there)
   where
-    of : Stands rs root other [] → root ≡ other
+    of : StandsAt rs root other [] → root ≡ other
     of (at_top e same) = sym same
     of (at_child number parent up e higher numbered) = absurd (pushed_none up number (sym e))
 one_task rs root task other path (below number {parent = parent} {path = up} higher numbered) there =
     of (λ parent'. one_task rs root parent parent' up higher) (stands rs root other (up ++ number ∷ []) there)
   where
     of : ((parent' : ℕ) → HasPath rs root parent' up → parent ≡ parent')
-        → Stands rs root other (up ++ number ∷ []) → task ≡ other
+        → StandsAt rs root other (up ++ number ∷ []) → task ≡ other
     of one (at_top e same) = absurd (pushed_none up number e)
     of one (at_child number' parent' up' e higher' numbered') =
         let parts = same_from_push up up' number number' e in
@@ -132,12 +132,12 @@ created_path rs root i parent task path creates higher =
     (created_child rs i parent task (length rs) creates (at_within creation rs i (parent, task) creates))
 
 -- the path of a task of the family goes on from that of its head
-pub record StandsBelow (rs : List Record) (root task : ℕ) (path : List ℕ) : Type 0 where
+pub record StandsUnder (rs : List Record) (root task : ℕ) (path : List ℕ) : Type 0 where
   pub more : List ℕ
   pub there : HasPath rs root task (path ++ more)
 
 below_by : (rs : List Record) (root i parent task : ℕ) (path : List ℕ) → IsCreatedAt rs i parent task
-    → StandsBelow rs root parent path → StandsBelow rs root task path
+    → StandsUnder rs root parent path → StandsUnder rs root task path
 below_by rs root i parent task path creates higher =
     let P : List ℕ → Type 0 = λ p. HasPath rs root task p in
     record {
@@ -148,14 +148,14 @@ below_by rs root i parent task path creates higher =
     }
 
 descendant_below : (rs : List Record) (root head task : ℕ) (path : List ℕ) → HasPath rs root head path
-    → IsDescendant rs head task → StandsBelow rs root task path
+    → IsDescendant rs head task → StandsUnder rs root task path
 descendant_below rs root head task path stand (child i creates) =
     record { more = child_number rs head i ∷ []; there = created_path rs root i head task path creates stand }
 descendant_below rs root head task path stand (deeper i {parent = parent} higher creates) =
     below_by rs root i parent task path creates (descendant_below rs root head parent path stand higher)
 
 pub family_below : (rs : List Record) (root head task : ℕ) (path : List ℕ) → HasPath rs root head path
-    → IsFamily rs head task → StandsBelow rs root task path
+    → IsFamily rs head task → StandsUnder rs root task path
 family_below rs root head task path stand (inl same) =
     let P : ℕ → List ℕ → Type 0 = λ t p. HasPath rs root t p in
     record {

@@ -13,33 +13,33 @@ use Rattle.ompt_events.proofs.ListLemmas.{get_within}
 use Rattle.credit_ledger.specs.declared.entry.Entry.{Entry}
 use Rattle.trace_ledger.specs.Entries.{IsEntryAt, IsLedgerOf, HasRightEntries}
 use Rattle.trace_ledger.specs.Ledger.{AreEntered}
-use Rattle.trace_ledger.specs.Makers.{AreMakers}
+use Rattle.trace_ledger.specs.Makers.{AreEntryRecords}
 use Rattle.trace_ledger.proofs.MakerLemmas.{makers_start, makers_same, makers_more, all_made}
 use Rattle.trace_ledger.proofs.LedgerLemmas.{made_by, none_entered, one_entered, are_all}
 
 -- a table of the records that make entries
-makers_there : (rs : List Record) (n : ℕ) → n ≤ length rs → (makers : List (Option ℕ)) × AreMakers rs n makers
+makers_there : (rs : List Record) (n : ℕ) → n ≤ length rs → (makers : List (Option ℕ)) × AreEntryRecords rs n makers
 makers_there rs zero low =
     (replicate (entries_in rs) None, makers_start rs (replicate (entries_in rs) None) refl)
 makers_there rs (suc n) low = of (is_some (at finish rs n)) refl (makers_there rs n (omega (arith, low)))
   where
-    of : (b : Bool) → is_some (at finish rs n) ≡ b → (makers : List (Option ℕ)) × AreMakers rs n makers
-        → (makers : List (Option ℕ)) × AreMakers rs (suc n) makers
+    of : (b : Bool) → is_some (at finish rs n) ≡ b → (makers : List (Option ℕ)) × AreEntryRecords rs n makers
+        → (makers : List (Option ℕ)) × AreEntryRecords rs (suc n) makers
     of true finishes (makers, are) = (
       set makers (seen_at rs n) (Some n),
-      subst (λ k. AreMakers rs k (set makers (seen_at rs n) (Some n))) (omega arith)
+      subst (λ k. AreEntryRecords rs k (set makers (seen_at rs n) (Some n))) (omega arith)
           (makers_more rs n makers (set makers (seen_at rs n) (Some n)) (omega (arith, low)) finishes refl
           are),
     )
     of false none (makers, are) = (
       makers,
-      subst (λ k. AreMakers rs k makers) (omega arith)
+      subst (λ k. AreEntryRecords rs k makers) (omega arith)
           (makers_same rs n makers (omega (arith, low)) none are),
     )
 
 -- the entries with the first n indices
 entered_there : (rs : List Record) (makers : List (Option ℕ)) (n : ℕ) → IsTrace rs → HasRightEntries rs
-    → AreMakers rs (length rs) makers → n ≤ entries_in rs → (entries : List Entry) × AreEntered rs n entries
+    → AreEntryRecords rs (length rs) makers → n ≤ entries_in rs → (entries : List Entry) × AreEntered rs n entries
 entered_there rs makers zero trace right are low = ([], none_entered rs)
 entered_there rs makers (suc n) trace right are low =
     let (entries, entered) = entered_there rs makers n trace right are (omega (arith, low)) in

@@ -23,13 +23,13 @@ use Rattle.credit.proofs.HoldLemmas.{span}
 use Rattle.credit.proofs.RunLemmas.{start_share-append}
 use Rattle.credit_ledger.specs.declared.entry.Entry.{Entry}
 use Rattle.credit_ledger.specs.Entries.{part_halves, tree_share, tree_shares}
-use Rattle.credit_ledger.proofs.RegionLemmas.{IsIn, IsSplit, split, IsSplit-begun, Passes, passes}
+use Rattle.credit_ledger.proofs.RegionLemmas.{IsShareIn, IsSplit, split, IsSplit-begun, Passes, passes}
 use Rattle.credit_ledger.proofs.RegionLemmas.{begins_with-shift}
 use Rattle.credit_ledger.proofs.OverLemmas.{from_tree, held_begins}
 use Rattle.credit_ledger.proofs.CodeLemmas.{start-cons}
 use Rattle.trace_ledger.specs.Entries.{IsLedgerOf, IsDone}
 use Rattle.trace_ledger.proofs.HalfLemmas.{Meets, meet, Goes, through, aside, short, goes, hold_from}
-use Rattle.trace_ledger.proofs.EntryLemmas.{IsFrom, entry_says, IsRight, entry_right, IsEntered, entry_made}
+use Rattle.trace_ledger.proofs.EntryLemmas.{IsFrom, entry_says, IsRight, entry_right, IsEntryMade, entry_made}
 use Rattle.trace_ledger.proofs.EntryLemmas.{in_tree, below_from, from_below}
 use Rattle.trace_ledger.proofs.StandLemmas.{family_below, family_child}
 use Rattle.trace_ledger.proofs.MeetLemmas.{one_of_meeting}
@@ -45,7 +45,7 @@ pub record IsKnown (rs : List Record) (entries : List Entry) : Type 0 where
 -- ---- the share of a finished task was entered
 
 pub right_entry : (rs : List Record) (entries : List Entry) (i task : ℕ) (part : Part) → IsKnown rs entries
-    → (entered : (e : Entry) × IsEntered rs i task part e) → (IsRight rs entered.0 → ⊥) → ⊥
+    → (entered : (e : Entry) × IsEntryMade rs i task part e) → (IsRight rs entered.0 → ⊥) → ⊥
 right_entry rs entries i task part known (e, entered) wrong =
     entry_right rs i e known.right (entry_says rs i e entered.made.made) wrong
 
@@ -55,13 +55,13 @@ left_share rs task path part = finish_share path (length (children rs task)) ++ 
 
 share_entered : (rs : List Record) (entries : List Entry) (n root task : ℕ) (path : List ℕ) (part : Part)
     → IsKnown rs entries → HasPath rs root task path → IsPartFinished rs (λ k. seen_at rs k < n) task part
-    → (IsIn (left_share rs task path part) (tree_shares root (take n entries)) → ⊥) → ⊥
+    → (IsShareIn (left_share rs task path part) (tree_shares root (take n entries)) → ⊥) → ⊥
 share_entered rs entries n root task path part known stands (i, finishes, seen) never =
     let entered = entry_made rs i task part known.trace finishes in
     right_entry rs entries i task part known entered (λ right. never (there entered.0 entered.1 right))
   where
-    there : (e : Entry) → IsEntered rs i task part e → IsRight rs e
-        → IsIn (left_share rs task path part) (tree_shares root (take n entries))
+    there : (e : Entry) → IsEntryMade rs i task part e → IsRight rs e
+        → IsShareIn (left_share rs task path part) (tree_shares root (take n entries))
     there e entered right =
         let P : ℕ → Type 0 = λ t. HasPath rs e.root t e.path in
         let one =
@@ -72,7 +72,7 @@ share_entered rs entries n root task path part known stands (i, finishes, seen) 
         ∙ ap (λ k. finish_share path k ++ part_halves e.part)
         (right.kept ∙ ap (λ t. length (children rs t)) entered.task_is)
         ∙ ap (λ q. finish_share path (length (children rs task)) ++ part_halves q) entered.part_is in
-        let Q : List Half → Type 0 = λ x. IsIn x (tree_shares root (take n entries)) in
+        let Q : List Half → Type 0 = λ x. IsShareIn x (tree_shares root (take n entries)) in
         subst Q share
         (in_tree root (take n entries) e (from_below rs entries n i task part e known.ledger entered seen)
         one.0)
@@ -81,13 +81,13 @@ share_entered rs entries n root task path part known stands (i, finishes, seen) 
 
 -- a list of halves that goes down from the head: no share that was entered is longer, and it begins with none
 record IsAstray (shares : List (List Half)) (l : List Half) : Type 0 where
-  pub long : (x : List Half) → IsIn x shares → length x ≤ length l
-  pub none : (x : List Half) → IsIn x shares → begins_with l x ≡ true → ⊥
+  pub long : (x : List Half) → IsShareIn x shares → length x ≤ length l
+  pub none : (x : List Half) → IsShareIn x shares → begins_with l x ≡ true → ⊥
 
 -- it can't end before the task's share does
 too_short : (path : List ℕ) (m : ℕ) (part : Part) (shares : List (List Half)) (l r : List Half)
     → IsAstray shares l → l ≡ start_share path ++ r → length r < m + length (part_halves part)
-    → IsIn (finish_share path m ++ part_halves part) shares → ⊥
+    → IsShareIn (finish_share path m ++ part_halves part) shares → ⊥
 too_short path m part shares l r astray parts less there =
     let long = astray.long (finish_share path m ++ part_halves part) there in
     let whole = length-append (finish_share path m) (part_halves part) in
@@ -99,7 +99,7 @@ too_short path m part shares l r astray parts less there =
 -- nor go on as the share does
 goes_on : (path : List ℕ) (m : ℕ) (part : Part) (shares : List (List Half)) (l rest : List Half)
     → IsAstray shares l → l ≡ start_share path ++ (replicate m Keep ++ rest)
-    → begins_with rest (part_halves part) ≡ true → IsIn (finish_share path m ++ part_halves part) shares → ⊥
+    → begins_with rest (part_halves part) ≡ true → IsShareIn (finish_share path m ++ part_halves part) shares → ⊥
 goes_on path m part shares l rest astray parts begun there =
     let P : List Half → Type 0 = λ k. begins_with k (finish_share path m ++ part_halves part) ≡ true in
     let whole : l ≡ finish_share path m ++ rest =

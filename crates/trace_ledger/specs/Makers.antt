@@ -8,8 +8,8 @@ use Rattle.ompt_events.specs.HappensBefore.{IsFinishing}
 use Rattle.ompt_events.specs.Causes.{entries_in, IsFreeOf}
 
 -- one of the first n records makes the entry
-abbrev pub IsMaker : List Record → ℕ → ℕ → ℕ → Type 0
-IsMaker rs n index place = (place < n) × IsFinishing rs place × (seen_at rs place ≡ index)
+abbrev pub IsEntryRecord : List Record → ℕ → ℕ → ℕ → Type 0
+IsEntryRecord rs n index place = (place < n) × IsFinishing rs place × (seen_at rs place ≡ index)
 
 -- how many entries have no record yet
 abbrev pub free_entries : List (Option ℕ) → ℕ
@@ -19,8 +19,8 @@ free_entries (Some place ∷ makers) = free_entries makers
 
 -- the table has a place for each entry, and of the first n records those that make one; each of them where
 -- none names the entry of another or one past the end
-pub record AreMakers (rs : List Record) (n : ℕ) (makers : List (Option ℕ)) : Type 0 where
+pub record AreEntryRecords (rs : List Record) (n : ℕ) (makers : List (Option ℕ)) : Type 0 where
   pub entries : length makers ≡ entries_in rs
-  pub makes : (index place : ℕ) → slice_get makers index ≡ Some (Some place) → IsMaker rs n index place
+  pub makes : (index place : ℕ) → slice_get makers index ≡ Some (Some place) → IsEntryRecord rs n index place
   pub all : IsFreeOf rs EntryTwice → IsFreeOf rs LengthAhead
       → free_entries makers + entries_in (take n rs) ≡ length makers

@@ -1,7 +1,7 @@
 //! Which record makes each entry of the ledger.
 ghost use Rattle.std.specs.Prelude.{◌≡◌, ◌<◌, IfOk, Some, length, slice_set};
 ghost use Rattle.ompt_events.specs.Causes.{entries_in};
-ghost use Rattle.trace_ledger.specs.Makers.{AreMakers};
+ghost use Rattle.trace_ledger.specs.Makers.{AreEntryRecords};
 
 use ompt_events::finish;
 use std::alloc::{AllocError, Global};
@@ -9,7 +9,7 @@ use task_tree::Run;
 
 /// By entry the place of the record that makes it, if one does. Takes as many steps as there are records.
 pub(crate) fn find_makers(alloc: Global, run: &Run) -> Result<Vec<Option<u32>>, AllocError>
-    ensures { IfOk result (λ makers. AreMakers run.now.records (length run.now.records) makers.items) }
+    ensures { IfOk result (λ makers. AreEntryRecords run.now.records (length run.now.records) makers.items) }
 {
     let mut makers = vec![in alloc; None; entry_count(run)]?;
     for at in 0..run.len() {

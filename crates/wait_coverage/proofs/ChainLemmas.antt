@@ -57,17 +57,17 @@ node_stays done nodes new head c child has = record {
 -- ---- gathering the nodes that are later than a begin
 
 -- those passed are at most the limit, the others are still ahead
-abbrev pub IsGathered : List Node → Option ℕ → ℕ → ℕ → Option ℕ → Type 0
-IsGathered nodes head begin limit rest = (place : ℕ) → IsOnChain nodes head place
+abbrev pub IsChainGathered : List Node → Option ℕ → ℕ → ℕ → Option ℕ → Type 0
+IsChainGathered nodes head begin limit rest = (place : ℕ) → IsOnChain nodes head place
     → IsOnChain nodes rest place
     ⊎ ((begin < place) × ((node : Node) → slice_get nodes place ≡ Some node → node.limit ≤ limit))
 
-pub gathered_start : (nodes : List Node) (head : Option ℕ) (begin : ℕ) → IsGathered nodes head begin 0 head
+pub gathered_start : (nodes : List Node) (head : Option ℕ) (begin : ℕ) → IsChainGathered nodes head begin 0 head
 gathered_start nodes head begin place on = inl on
 
 pub gathered_more : (nodes : List Node) (head rest : Option ℕ) (begin limit place : ℕ) (node : Node)
-    → IsGathered nodes head begin limit rest → rest ≡ Some place → begin < place
-    → slice_get nodes place ≡ Some node → IsGathered nodes head begin (max limit node.limit) node.previous
+    → IsChainGathered nodes head begin limit rest → rest ≡ Some place → begin < place
+    → slice_get nodes place ≡ Some node → IsChainGathered nodes head begin (max limit node.limit) node.previous
 gathered_more nodes head rest begin limit place node are is less there other on = elim (are other on) [
   | inl ahead ↦ of rest is ahead
   | inr passed ↦ inr (passed.0, λ n stands. let low = passed.1 n stands in omega (arith, low))
@@ -103,7 +103,7 @@ smaller_next nodes rest place node falls is there = rw is (of node.previous refl
     of (Some next) e = let less = falls place next node there e in omega (arith, less)
 
 pub gathers : (nodes : List Node) (head rest : Option ℕ) (begin limit : ℕ) → AreFalling nodes
-    → IsGathered nodes head begin limit rest → ((place : ℕ) → rest ≡ Some place → place < length nodes)
+    → IsChainGathered nodes head begin limit rest → ((place : ℕ) → rest ≡ Some place → place < length nodes)
     → ((place : ℕ) → rest ≡ Some place → begin < place → ⊥)
     → Gathers nodes head begin (record { limit = limit; previous = rest })
 gathers nodes head rest begin limit falls are inside stopped = record {

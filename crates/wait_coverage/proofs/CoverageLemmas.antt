@@ -39,7 +39,7 @@ use Rattle.task_states.specs.States.{StatesView, IsStates}
 use Rattle.teams.specs.Teams.{TeamsView, own_of, IsTeams, AreTeams, IsMemberNumbered}
 use Rattle.wait_coverage.specs.Waits.{EndsNoWaitAt, IsWaitAt, waits, groups, meets, cover_of, IsFirstOpen}
 use Rattle.wait_coverage.specs.Waits.{waiting}
-use Rattle.wait_coverage.specs.Coverage.{IsEnd, IsEndPlace, AreEnds, AreWaits, IsEndNumber, IsAnswer}
+use Rattle.wait_coverage.specs.Coverage.{IsEnd, IsEndPlace, AreWaitEnds, AreWaits, IsEndNumber, IsFirstOpenAnswer}
 use Rattle.wait_coverage.specs.Coverage.{IsCoverAt, IsOnly, HasBegun, HaveBegun, IsMemberSpan, AreRosterSpans}
 use Rattle.wait_coverage.specs.Coverage.{CoverageView, IsCoverage, AreFirstOpen}
 use Rattle.wait_coverage.specs.declared.waits.Wait.{Wait}
@@ -93,7 +93,7 @@ pub ends_told : (rs : List Record) (tasks : List ℕ) (i : ℕ) (found : Option 
 ends_told rs tasks i None none = (λ never. absurd (false≢true never), λ is. absurd (no_end rs i none is))
 ends_told rs tasks i (Some wait) is = (λ _. wait_end rs tasks i wait is, λ _. refl)
 
-pub ends_start : (own : OwnView) (ends : List ℕ) → ends ≡ [] → AreEnds own 0 ends
+pub ends_start : (own : OwnView) (ends : List ℕ) → ends ≡ [] → AreWaitEnds own 0 ends
 ends_start own ends empty = record {
   each = λ i below is. absurd (omega arith);
   only = λ k i there. absurd (nothing k i there);
@@ -113,8 +113,8 @@ one_end own number place is stands (other, there, end) =
     subst P (is.places.apart other number place there stands) end
 
 pub ends_other : (own : OwnView) (n number : ℕ) (ends : List ℕ) → IsOwn own
-    → slice_get own.places number ≡ Some n → AreEnds own n ends → EndsNoWaitAt own.run.records number
-    → AreEnds own (n + 1) ends
+    → slice_get own.places number ≡ Some n → AreWaitEnds own n ends → EndsNoWaitAt own.run.records number
+    → AreWaitEnds own (n + 1) ends
 ends_other own n number ends is_own stands are ends_none = record {
   each = λ i below is. elim (cases_eq i n) [
     | inl same ↦
@@ -128,8 +128,8 @@ ends_other own n number ends is_own stands are ends_none = record {
 }
 
 pub ends_more : (own : OwnView) (n number : ℕ) (wait : Wait) (ends : List ℕ)
-    → slice_get own.places number ≡ Some n → AreEnds own n ends
-    → IsWaitAt own.run.records own.run.family.tasks number wait → AreEnds own (n + 1) (ends ++ n ∷ [])
+    → slice_get own.places number ≡ Some n → AreWaitEnds own n ends
+    → IsWaitAt own.run.records own.run.family.tasks number wait → AreWaitEnds own (n + 1) (ends ++ n ∷ [])
 ends_more own n number wait ends stands are is_wait = record {
   each = λ i below is. elim (cases_eq i n) [
     | inl same ↦
@@ -313,7 +313,7 @@ wait_cover rs tasks end wait (meets {own = own} {begin = begin} {kind = kind} is
 -- ---- the members of a team
 
 -- the place at which a task begins its barrier with a number
-pub record IsStart (rs : List Record) (tasks : List ℕ) (numbers : List ℕ) (index number start : ℕ) : Type 0
+pub record IsBarrierStart (rs : List Record) (tasks : List ℕ) (numbers : List ℕ) (index number start : ℕ) : Type 0
   where
     pub within : index < length tasks
     pub inside : start < length numbers
@@ -321,7 +321,7 @@ pub record IsStart (rs : List Record) (tasks : List ℕ) (numbers : List ℕ) (i
 
 has_start : (coverage : CoverageView) (index number start : ℕ) → IsCoverage coverage
     → slice_get (row_at coverage.teams.begins index) number ≡ Some start
-    → IsStart coverage.teams.run.records coverage.teams.run.family.tasks coverage.numbers index number start
+    → IsBarrierStart coverage.teams.run.records coverage.teams.run.family.tasks coverage.numbers index number start
 has_start coverage index number start is there =
     let rs = coverage.teams.run.records in
     let tasks = coverage.teams.run.family.tasks in
@@ -341,7 +341,7 @@ has_start coverage index number start is there =
 -- the same of what is read in the table
 pub read_start : (coverage : CoverageView) (index number : ℕ) (list : List ℕ) → IsCoverage coverage
     → HasBegun coverage.teams.begins number index → list ≡ row_at coverage.teams.begins index
-    → IsStart coverage.teams.run.records coverage.teams.run.family.tasks coverage.numbers index number
+    → IsBarrierStart coverage.teams.run.records coverage.teams.run.family.tasks coverage.numbers index number
     (get_or list number 0)
 read_start coverage index number list is begun read =
     let long = ap length read in
@@ -351,7 +351,7 @@ read_start coverage index number list is begun read =
 
 pub member_span_is : (coverage : CoverageView) (index number start to id : ℕ) (span : Span)
     → IsCoverage coverage
-    → IsStart coverage.teams.run.records coverage.teams.run.family.tasks coverage.numbers index number start
+    → IsBarrierStart coverage.teams.run.records coverage.teams.run.family.tasks coverage.numbers index number start
     → slice_get coverage.numbers start ≡ Some to → slice_get coverage.teams.run.family.tasks index ≡ Some id
     → IsSpan coverage.teams.run.records id 0 to span → IsMemberSpan coverage.teams.run.records id number span
 member_span_is coverage index number start to id span is starts is_to is_id is_span =
@@ -547,7 +547,7 @@ none_asked coverage of found empty = record {
 pub one_more : (coverage : CoverageView) (of : List ℕ) (n index : ℕ) (answer : Option ℕ)
     (found : List (Option ℕ))
     → slice_get of n ≡ Some index → AreFirstOpen coverage of n found
-    → ((end : ℕ) → IsEndNumber coverage index end → IsAnswer coverage end answer)
+    → ((end : ℕ) → IsEndNumber coverage index end → IsFirstOpenAnswer coverage end answer)
     → AreFirstOpen coverage of (n + 1) (found ++ answer ∷ [])
 one_more coverage of n index answer found asked are is = record {
   count = length_push found answer ∙ ap (λ k. k + 1) are.count;
@@ -556,7 +556,7 @@ one_more coverage of n index answer found asked are is = record {
     | inr last ↦
         let at_n : k ≡ n = last.0 ∙ are.count in
         let same = same_Some other index (sym asked_there ∙ ap (slice_get of) at_n ∙ asked) in
-        let P : Option ℕ → Type 0 = IsAnswer coverage end in
+        let P : Option ℕ → Type 0 = IsFirstOpenAnswer coverage end in
         let Q : ℕ → Type 0 = λ k. IsEndNumber coverage k end in
         subst P last.1 (is end (subst Q same here))
   ];

@@ -33,7 +33,7 @@ use Rattle.teams.proofs.BarrierLemmas.{one_number}
 use Rattle.wait_coverage.proofs.MateLemmas.{one_member, number_of_mate, mate_of_number, begin_within}
 use Rattle.trace_ledger.proofs.TreeLaw.{IsKnown, tree_held, tree_done}
 use Rattle.trace_ledger.proofs.PoolLaw.{pool_held, pool_done}
-use Rattle.trace_ledger.proofs.CreditLaw.{known_of}
+use Rattle.trace_ledger.proofs.CreditLaw.{known_trace}
 
 -- ---- a span is held where its children are finished
 
@@ -307,7 +307,7 @@ pub held_is_complete : (rs : List Record) (entries : List Entry) (i : ℕ) (cove
     → IsTrace rs → HasRightEntries rs → IsFreeOf rs TeamShort → IsLedgerOf rs entries
     → AreSpans rs i cover spans → IsCoverComplete rs i ↔ AreHeldAt rs entries i cover spans
 held_is_complete rs entries i cover spans trace right whole are spans_are =
-    let known = known_of rs entries trace right are in (
+    let known = known_trace rs entries trace right are in (
       held_from rs entries i cover spans known spans_are,
       complete_from rs entries i cover spans known whole spans_are,
     )

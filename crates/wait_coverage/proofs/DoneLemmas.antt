@@ -23,8 +23,8 @@ use Rattle.task_tree.proofs.FamilyLemmas.{parent_noted}
 use Rattle.task_tree.proofs.LineageLemmas.{parent_at_is, parent_is_at, child_within}
 use Rattle.trace_ledger.specs.Entries.{IsLedgerOf}
 use Rattle.wait_coverage.specs.Lengths.{done_length, AreLengthsBy, AreLengths, AreLengthsBelow}
-use Rattle.wait_coverage.specs.Done.{DoneView, records_of, tasks_of, AreGreatest, IsDoneFrom, AreOwn}
-use Rattle.wait_coverage.specs.Done.{IsParentsFirst, raised, AreRaised, IsAbove}
+use Rattle.wait_coverage.specs.Done.{DoneView, records_of, tasks_of, AreFamilyLengths, IsDoneFrom, AreOwnLengths}
+use Rattle.wait_coverage.specs.Done.{IsParentsFirst, raised, AreRaised, IsAtOrAbove}
 use Rattle.wait_coverage.specs.Done.IsAbove.{itself, further}
 use Rattle.wait_coverage.specs.declared.lengths.Lengths.{Lengths}
 use Rattle.wait_coverage.proofs.LengthLemmas.{AllCount, all_recorded, all_entered, done_below, below_done}
@@ -33,7 +33,7 @@ use Rattle.wait_coverage.proofs.LengthLemmas.{AllCount, all_recorded, all_entere
 
 pub own_by : (rs : List Record) (counts : ℕ → Type 0) (tasks : List ℕ) (table : List Lengths) (own : List ℕ)
     → AllCount rs counts → AreLengthsBy rs counts tasks table → own ≡ map done_length table
-    → AreOwn rs tasks own
+    → AreOwnLengths rs tasks own
 own_by rs counts tasks table own all are is = record {
   all = ap length is ∙ length-map table done_length ∙ are.all;
   each = λ index task limit here stands.
@@ -55,14 +55,14 @@ own_by rs counts tasks table own all are is = record {
 }
 
 pub own_of_records : (rs : List Record) (tasks : List ℕ) (table : List Lengths) (own : List ℕ)
-    → AreLengths rs (length rs) tasks table → own ≡ map done_length table → AreOwn rs tasks own
+    → AreLengths rs (length rs) tasks table → own ≡ map done_length table → AreOwnLengths rs tasks own
 own_of_records rs tasks table own are is =
     own_by rs (λ k. k < length rs) tasks table own (all_recorded rs) are is
 
 pub own_of_entries : (rs : List Record) (entries : List Entry) (tasks : List ℕ) (table : List Lengths)
     (own : List ℕ)
     → IsTrace rs → IsLedgerOf rs entries → AreLengthsBelow rs (length entries) tasks table
-    → own ≡ map done_length table → AreOwn rs tasks own
+    → own ≡ map done_length table → AreOwnLengths rs tasks own
 own_of_entries rs entries tasks table own trace ledger are is =
     own_by rs (λ k. seen_at rs k < length entries) tasks table own (all_entered rs entries trace ledger) are
     is
@@ -94,7 +94,7 @@ raised_start family order floor limits same = record {
 
 -- what is above a task is above what the task is above
 above_child : (family : FamilyView) (index up : ℕ) → parent_index family index ≡ Some up → {below : ℕ}
-    → IsAbove family index below → IsAbove family up below
+    → IsAtOrAbove family index below → IsAtOrAbove family up below
 above_child family index up is itself = further is itself
 above_child family index up is (further step above) = further step (above_child family index up is above)
 
@@ -260,7 +260,7 @@ descends rs family limits ancestor top task are rising is_top (deeper i {parent 
 
 -- what a task is above is of its family
 above_family : (rs : List Record) (family : FamilyView) (top task : ℕ) → IsFamilyOf rs family
-    → slice_get family.tasks top ≡ Some task → {index : ℕ} → IsAbove family top index
+    → slice_get family.tasks top ≡ Some task → {index : ℕ} → IsAtOrAbove family top index
     → (t : ℕ) × (slice_get family.tasks index ≡ Some t) × IsFamily rs task t
 above_family rs family top task are here itself = (task, here, inl refl)
 above_family rs family top task are here (further {index = index} {up = up} step above) =
@@ -304,7 +304,7 @@ index_at xs i x is =
 -- the greatest of the lengths of a task and its descendants
 pub greatest_by : (done : DoneView) (order : List ℕ) → IsFamilyOf (records_of done) done.teams.run.family
     → length done.own ≡ length (tasks_of done) → IsParentsFirst done.teams.run.family order
-    → AreRaised done.teams.run.family order done.own 0 done.families → AreGreatest done
+    → AreRaised done.teams.run.family order done.own 0 done.families → AreFamilyLengths done
 greatest_by done order are own_all first raised_all = record {
   all = raised_all.all ∙ own_all;
   each = λ index task limit m here stands. (

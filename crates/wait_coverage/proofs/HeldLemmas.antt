@@ -104,9 +104,9 @@ pub record HasPlace (rs : List Record) (tasks : List ℕ) (task : ℕ) : Type 0 
   pub has_path : HasPath rs root parent path
   pub is_child : IsChild rs parent number task
 
-place_of : (rs : List Record) (family : FamilyView) (task : ℕ) → IsFamilyOf rs family → IsExplicit rs task
+place_known : (rs : List Record) (family : FamilyView) (task : ℕ) → IsFamilyOf rs family → IsExplicit rs task
     → HasPlace rs family.tasks task
-place_of rs family task are (i, is) =
+place_known rs family task are (i, is) =
     let made = created_at_creation task rs i is in
     let found = indices_of rs family i made.0 task are made.1 in
     let stands = root_known rs family made.0 found.up are found.is_parent in
@@ -129,7 +129,7 @@ pub held_children_done : (done : DoneView) (entries : List Entry) → IsDoneView
     → HasRightEntries (records_of done) → IsLedgerOf (records_of done) entries → AreHeldFrom done entries
     → AreChildrenDone done
 held_children_done done entries is right ledger from = λ task m explicit small.
-    let at = place_of (records_of done) done.teams.run.family task is.teams.run.family explicit in
+    let at = place_known (records_of done) done.teams.run.family task is.teams.run.family explicit in
     let held =
     held_in_pool (records_of done) entries m at.root at.parent at.number task at.path is.teams.run.trace
     right ledger at.has_path at.is_child in (

@@ -26,8 +26,8 @@ use Rattle.task_tree.specs.Numbering.{AreApart}
 use Rattle.task_tree.proofs.LinkLemmas.{get_set_same, get_set_other}
 use Rattle.wait_coverage.specs.Done.{DoneView, records_of, tasks_of, IsEarly}
 use Rattle.wait_coverage.specs.Limits.{IsFamilyLimit, IsChildLimit, IsFamiliesLimit, IsLimitOfBegin}
-use Rattle.wait_coverage.specs.Limits.{IsOnChain, Gathers, HasNode, AreLatest, AreLatestFamilies, AreChains}
-use Rattle.wait_coverage.specs.Limits.{IsMark, AreMarks, AreNoted}
+use Rattle.wait_coverage.specs.Limits.{IsOnChain, Gathers, HasNode, AreChildLimits, AreLatestFamilies, AreChains}
+use Rattle.wait_coverage.specs.Limits.{IsMark, AreLimitMarks, IsLimitProgress}
 use Rattle.wait_coverage.specs.declared.limits.Node.{Node}
 use Rattle.wait_coverage.specs.declared.limits.Progress.{Progress}
 use Rattle.teams.proofs.BarrierLemmas.{begun_region, begun_other, barrier_is_other}
@@ -165,8 +165,8 @@ covers_cases rs i task
 
 -- ---- one record more
 
-latest_other : (done : DoneView) (n : ℕ) (latest : List ℕ) → AreLatest done n latest
-    → at creation (records_of done) n ≡ None → AreLatest done (n + 1) latest
+latest_other : (done : DoneView) (n : ℕ) (latest : List ℕ) → AreChildLimits done n latest
+    → at creation (records_of done) n ≡ None → AreChildLimits done (n + 1) latest
 latest_other done n latest are none = record {
   all = are.all;
   each = λ index task limit is_task stands m c child small low below creates. elim (cases_eq c n) [
@@ -177,10 +177,10 @@ latest_other done n latest are none = record {
 }
 
 latest_more : (done : DoneView) (n own parent child value early d : ℕ) (latest : List ℕ)
-    → AreApart (tasks_of done) → AreLatest done n latest → slice_get (tasks_of done) own ≡ Some parent
+    → AreApart (tasks_of done) → AreChildLimits done n latest → slice_get (tasks_of done) own ≡ Some parent
     → at creation (records_of done) n ≡ Some (parent, child) → value ≡ max (get_or latest own d) early
     → ((m : ℕ) → m < 2 ^ 32 → early ≤ m → IsEarly done m child)
-    → AreLatest done (n + 1) (set latest own value)
+    → AreChildLimits done (n + 1) (set latest own value)
 latest_more done n own parent child value early d latest apart are is_own creates is_value finished = record {
   all = length-set latest own value ∙ are.all;
   each =
@@ -288,10 +288,10 @@ families_more done n own parent child value early d families apart are is_own cr
     weaker born low high limit less m t small at_most of = limit m t small (omega (arith, less, at_most)) of
 
 pub noted_push : (done : DoneView) (n : ℕ) (nodes : List Node) (new : Node) (before after : Progress)
-    → AreNoted done n nodes before → AreLatest done (n + 1) after.latest.items
+    → IsLimitProgress done n nodes before → AreChildLimits done (n + 1) after.latest.items
     → AreLatestFamilies done (n + 1) after.families.items
     → AreChains done (nodes ++ new ∷ []) after.heads.items → IsMark done n new.limit
-    → AreNoted done (n + 1) (nodes ++ new ∷ []) after
+    → IsLimitProgress done (n + 1) (nodes ++ new ∷ []) after
 noted_push done n nodes new before after are latest families chains mark = record {
   count = length_push nodes new ∙ ap (λ k. k + 1) are.count;
   latest = latest;
@@ -308,8 +308,8 @@ noted_push done n nodes new before after are latest families chains mark = recor
 }
 
 pub noted_alone : (done : DoneView) (n : ℕ) (nodes : List Node) (new : Node) (progress : Progress)
-    → AreNoted done n nodes progress → at creation (records_of done) n ≡ None → new.previous ≡ None
-    → IsMark done n new.limit → AreNoted done (n + 1) (nodes ++ new ∷ []) progress
+    → IsLimitProgress done n nodes progress → at creation (records_of done) n ≡ None → new.previous ≡ None
+    → IsMark done n new.limit → IsLimitProgress done (n + 1) (nodes ++ new ∷ []) progress
 noted_alone done n nodes new progress are none alone mark =
     noted_push done n nodes new progress progress are
     (latest_other done n progress.latest.items are.latest none)
@@ -336,7 +336,7 @@ creates_no_region rs i parent child own kind endpoint creates says = there (slic
 
 pub created_noted : (done : DoneView) (n own parent child early : ℕ) (nodes : List Node) (new : Node)
     (before after : Progress)
-    → AreApart (tasks_of done) → AreNoted done n nodes before
+    → AreApart (tasks_of done) → IsLimitProgress done n nodes before
     → at creation (records_of done) n ≡ Some (parent, child) → slice_get (tasks_of done) own ≡ Some parent
     → slice_get before.heads.items own ≡ Some new.previous → IsFamilyLimit done child new.limit
     → ((m : ℕ) → m < 2 ^ 32 → early ≤ m → IsEarly done m child)
@@ -345,11 +345,11 @@ pub created_noted : (done : DoneView) (n own parent child early : ℕ) (nodes : 
     → after.latest.items ≡ set before.latest.items own (max old early))
     → ((old : ℕ) → slice_get before.families.items own ≡ Some old
     → after.families.items ≡ set before.families.items own (max old new.limit))
-    → AreNoted done (n + 1) (nodes ++ new ∷ []) after
+    → IsLimitProgress done (n + 1) (nodes ++ new ∷ []) after
 created_noted done n own parent child early nodes new before after apart are creates is_own head_there limit
     finished heads latest families =
     noted_push done n nodes new before after are
-    (subst (AreLatest done (n + 1)) (sym latest_are)
+    (subst (AreChildLimits done (n + 1)) (sym latest_are)
     (latest_more done n own parent child (max (get_or before.latest.items own 0) early) early 0
     before.latest.items apart are.latest is_own creates refl finished))
     (subst (AreLatestFamilies done (n + 1)) (sym families_are)
@@ -417,15 +417,15 @@ created_noted done n own parent child early nodes new before after apart are cre
 
 pub closed_noted : (done : DoneView) (n own parent begin : ℕ) (nodes : List Node) (new : Node)
     (before after : Progress)
-    → AreApart (tasks_of done) → AreNoted done n nodes before
+    → AreApart (tasks_of done) → IsLimitProgress done n nodes before
     → EndsRegion (records_of done) n parent Taskgroup begin → slice_get (tasks_of done) own ≡ Some parent
     → (head : Option ℕ) → slice_get before.heads.items own ≡ Some head → Gathers nodes head begin new
     → after.heads.items ≡ set before.heads.items own (Some n) → after.latest.items ≡ before.latest.items
-    → after.families.items ≡ before.families.items → AreNoted done (n + 1) (nodes ++ new ∷ []) after
+    → after.families.items ≡ before.families.items → IsLimitProgress done (n + 1) (nodes ++ new ∷ []) after
 closed_noted done n own parent begin nodes new before after apart are ends is_own head head_there gathered
     heads latest families =
     noted_push done n nodes new before after are
-    (subst (AreLatest done (n + 1)) (sym latest)
+    (subst (AreChildLimits done (n + 1)) (sym latest)
     (latest_other done n before.latest.items are.latest no_creation))
     (subst (AreLatestFamilies done (n + 1)) (sym families)
     (families_other done n before.families.items are.families no_creation))
@@ -538,7 +538,7 @@ no_creation rs i own kind endpoint says = of (at creation rs i) refl
     of (Some (p, t)) e = absurd (creates_no_region rs i p t own kind endpoint e says)
 
 -- the end of a taskwait
-pub ended_mark : (done : DoneView) (n task limit : ℕ) (nodes : List Node) → AreMarks done nodes
+pub ended_mark : (done : DoneView) (n task limit : ℕ) (nodes : List Node) → AreLimitMarks done nodes
     → at region (records_of done) n ≡ Some (task, Taskwait, End)
     → IsLimitOfBegin (records_of done) nodes n limit → IsMark done n limit
 ended_mark done n task limit nodes marks says right = record {
@@ -698,9 +698,9 @@ quiet_mark done n limit none = record {
 
 -- the end of a taskgroup that belongs to no begin
 pub unended_noted : (done : DoneView) (n own : ℕ) (nodes : List Node) (new : Node) (progress : Progress)
-    → AreNoted done n nodes progress → at region (records_of done) n ≡ Some (own, Taskgroup, End)
+    → IsLimitProgress done n nodes progress → at region (records_of done) n ≡ Some (own, Taskgroup, End)
     → ((task begin : ℕ) (kind : SyncKind) → IsRegion (records_of done) n task kind begin → ⊥)
-    → new.previous ≡ None → AreNoted done (n + 1) (nodes ++ new ∷ []) progress
+    → new.previous ≡ None → IsLimitProgress done (n + 1) (nodes ++ new ∷ []) progress
 unended_noted done n own nodes new progress are says never alone =
     noted_alone done n nodes new progress are (no_creation (records_of done) n own Taskgroup End says) alone
     (record {

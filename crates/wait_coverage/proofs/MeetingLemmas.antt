@@ -23,7 +23,7 @@ use Rattle.task_tree.proofs.SubjectLemmas.{call_index}
 use Rattle.wait_coverage.specs.Done.{DoneView, records_of, tasks_of}
 use Rattle.wait_coverage.specs.Limits.{IsFamiliesLimit, IsWaitLimit, IsEndLimit, AreEndLimits}
 use Rattle.wait_coverage.specs.declared.limits.Node.{Node}
-use Rattle.wait_coverage.specs.Meetings.{IsMeeting, AreMet, IsRaised, AreMeetingsAdded}
+use Rattle.wait_coverage.specs.Meetings.{IsMeeting, AreMet, IsLimitRaised, AreMeetingsAdded}
 use Rattle.task_states.specs.Rows.{row_at, AreSameRows}
 use Rattle.teams.specs.Missed.{EndsBarrier, EndsNoBarrier, IsBarrierEnd}
 use Rattle.teams.specs.Teams.{IsTeams}
@@ -79,7 +79,7 @@ pub met_more : (done : DoneView) (n own task team number limit : ℕ) (meetings 
     → AreApart (tasks_of done) → AreMet done n meetings → AreSameRows meetings reached
     → slice_get (tasks_of done) own ≡ Some task → slice_get done.teams.teams own ≡ Some (Some team)
     → slice_get reached team ≡ Some old → IsBarrierBegin (records_of done) task number n
-    → IsFamiliesLimit done n task limit → IsRaised number limit old.items new.items
+    → IsFamiliesLimit done n task limit → IsLimitRaised number limit old.items new.items
     → AreMet done (n + 1) (set reached team new)
 met_more done n own task team number limit meetings reached old new apart met same_rows is_own in_team
     row_there begins families raised =

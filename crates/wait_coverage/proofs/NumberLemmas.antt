@@ -12,10 +12,10 @@ use Rattle.ompt_events.specs.Tree.{child_number, children_before}
 use Rattle.ompt_events.proofs.TreeLemmas.{children_same, children_more, child_at_none, child_at_other}
 use Rattle.task_tree.specs.Numbering.{AreApart}
 use Rattle.task_tree.proofs.LinkLemmas.{get_set_same, get_set_other}
-use Rattle.wait_coverage.specs.Numbers.{AreCounts}
+use Rattle.wait_coverage.specs.Numbers.{AreCreationCounts}
 
-pub counts_other : (rs : List Record) (n : ℕ) (tasks counts : List ℕ) → AreCounts rs n tasks counts
-    → at creation rs n ≡ None → AreCounts rs (n + 1) tasks counts
+pub counts_other : (rs : List Record) (n : ℕ) (tasks counts : List ℕ) → AreCreationCounts rs n tasks counts
+    → at creation rs n ≡ None → AreCreationCounts rs (n + 1) tasks counts
 counts_other rs n tasks counts are none = record {
   all = are.all;
   each =
@@ -25,8 +25,8 @@ counts_other rs n tasks counts are none = record {
 }
 
 pub counts_more : (rs : List Record) (n own parent child old : ℕ) (tasks counts : List ℕ) → AreApart tasks
-    → AreCounts rs n tasks counts → slice_get tasks own ≡ Some parent → slice_get counts own ≡ Some old
-    → at creation rs n ≡ Some (parent, child) → AreCounts rs (n + 1) tasks (set counts own (old + 1))
+    → AreCreationCounts rs n tasks counts → slice_get tasks own ≡ Some parent → slice_get counts own ≡ Some old
+    → at creation rs n ≡ Some (parent, child) → AreCreationCounts rs (n + 1) tasks (set counts own (old + 1))
 counts_more rs n own parent child old tasks counts apart are is_own stands_old creates = record {
   all = length-set counts own (old + 1) ∙ are.all;
   each = λ index task count is_task stands. elim (cases_eq index own) [

@@ -24,7 +24,7 @@ use Rattle.trace_ledger.specs.Entries.{IsDone}
 use Rattle.wait_coverage.specs.Spans.{IsCoverComplete}
 use Rattle.wait_coverage.specs.Done.{DoneView, records_of, tasks_of, IsDoneView, AreChildrenDone}
 use Rattle.wait_coverage.specs.Limits.{IsEndLimit}
-use Rattle.wait_coverage.specs.Waits.{EndsNoWaitAt, IsWaitAt, waits, groups, meets, IsWithin, before_begin}
+use Rattle.wait_coverage.specs.Waits.{EndsNoWaitAt, IsWaitAt, waits, groups, meets, IsInWait, before_begin}
 use Rattle.wait_coverage.specs.Waits.{in_group, by_member, cover_of, IsAwaitedBy, IsAwaited, IsOpen}
 use Rattle.wait_coverage.specs.Waits.{IsFirstOpen, IsLateTask, IsLateAt, IsFirstLate}
 use Rattle.wait_coverage.specs.declared.waits.Wait.{Wait}
@@ -67,7 +67,7 @@ awaited_covered rs tasks i task wait
     (waits {parent = parent} {begin = begin} {index = index} is_parent there) own =
     of own.within own.creates
   where
-    of : {p c : ℕ} → IsWithin rs tasks p c (ForTaskwait index begin) → at creation rs c ≡ Some (p, task)
+    of : {p c : ℕ} → IsInWait rs tasks p c (ForTaskwait index begin) → at creation rs c ≡ Some (p, task)
         → Covers rs i task
     of {p} {c} (before_begin own_is before) creates =
         waited there
@@ -78,7 +78,7 @@ awaited_covered rs tasks i task wait
     =
     of own.within own.creates
   where
-    of : {p c : ℕ} → IsWithin rs tasks p c (ForTaskgroup index begin i) → at creation rs c ≡ Some (p, first)
+    of : {p c : ℕ} → IsInWait rs tasks p c (ForTaskgroup index begin i) → at creation rs c ≡ Some (p, first)
         → Covers rs i task
     of {p} {c} (in_group own_is from before) creates =
         let ends = ends_at rs i parent begin Taskgroup there in
@@ -93,7 +93,7 @@ awaited_covered rs tasks i task wait
     (first, own, family) =
     of own.within own.creates
   where
-    of : {p c : ℕ} → IsWithin rs tasks p c (ForBarrier index number) → at creation rs c ≡ Some (p, first)
+    of : {p c : ℕ} → IsInWait rs tasks p c (ForBarrier index number) → at creation rs c ≡ Some (p, first)
         → Covers rs i task
     of {p} {c} (by_member {own = other} {start = start} own_is mate starts before) creates =
         let P : ℕ → Type 0 = λ t. IsTeammate rs t p in

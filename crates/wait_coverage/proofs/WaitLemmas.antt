@@ -21,13 +21,13 @@ use Rattle.ompt_events.specs.Coverage.{IsFamily}
 use Rattle.task_tree.specs.Family.{FamilyView, IsFamilyOf}
 use Rattle.task_tree.specs.Lineage.{parent_index, IsParentAt}
 use Rattle.task_tree.specs.Runs.{RunView, IsNoWaitEvent, IsWaitEvent}
-use Rattle.task_states.specs.Regions.{IsBeginOf}
+use Rattle.task_states.specs.Regions.{IsRegionBegin}
 use Rattle.task_tree.proofs.OnceLemmas.{made_once, creation_made}
 use Rattle.task_tree.proofs.LineageLemmas.{parent_is_at, parent_at_is}
 use Rattle.credit_ledger.specs.declared.entry.Cover.TheVariants.{Descendants}
 use Rattle.wait_coverage.specs.Done.{IsDoneView, DoneView, records_of, IsParentsFirst}
 use Rattle.wait_coverage.specs.Waits.{IsWaitAt, waits, groups, IsOwnChild, IsAwaitedBy, IsAwaited, AreAwaited}
-use Rattle.wait_coverage.specs.Waits.{AreMarked, EndsNoWaitAt, IsLateAt, cover_of, IsWithin, before_begin}
+use Rattle.wait_coverage.specs.Waits.{AreAwaitedMarked, EndsNoWaitAt, IsLateAt, cover_of, IsInWait, before_begin}
 use Rattle.wait_coverage.specs.Waits.{in_group, by_member, meets}
 use Rattle.wait_coverage.specs.Search.{SearchView, IsMarkedAbove}
 use Rattle.teams.specs.Teams.{AreBeginNumbers, begins_before}
@@ -51,7 +51,7 @@ pub own_by : (rs : List Record) (family : FamilyView) (index task up place : ℕ
     → IsFamilyOf rs family → slice_get family.tasks index ≡ Some task → parent_index family index ≡ Some up
     → at made rs place ≡ slice_get family.tasks index
     → ((parent : ℕ) → slice_get family.tasks up ≡ Some parent
-    → IsTrue answer ↔ IsWithin rs family.tasks parent place wait)
+    → IsTrue answer ↔ IsInWait rs family.tasks parent place wait)
     → IsTrue answer ↔ IsOwnChild rs family.tasks wait task
 own_by rs family index task up place wait answer are here above is_made exact = (
   λ yes_it. record {
@@ -67,8 +67,8 @@ own_by rs family index task up place wait answer are here above is_made exact = 
       let pair =
       same_Some (own.parent, task) (known.0, task)
       (sym own.creates ∙ ap (at creation rs) same_place ∙ creates) in
-      let P : ℕ → Type 0 = λ k. IsWithin rs family.tasks own.parent k wait in
-      let Q : ℕ → Type 0 = λ p. IsWithin rs family.tasks p place wait in
+      let P : ℕ → Type 0 = λ k. IsInWait rs family.tasks own.parent k wait in
+      let Q : ℕ → Type 0 = λ p. IsInWait rs family.tasks p place wait in
       (exact known.0 known.1).1 (subst Q (ap (λ (p : ℕ × ℕ). p.0) pair) (subst P same_place own.within)),
 )
   where
@@ -99,13 +99,13 @@ own_parentless rs family index task wait are here none own =
 pub within_taskwait : (rs : List Record) (tasks : List ℕ) (parent place index task begin : ℕ) (answer : Bool)
     → AreApart tasks → slice_get tasks index ≡ Some parent
     → IsTrue answer ↔ ((task ≡ index) × (0 ≤ place) × (place < begin))
-    → IsTrue answer ↔ IsWithin rs tasks parent place (ForTaskwait task begin)
+    → IsTrue answer ↔ IsInWait rs tasks parent place (ForTaskwait task begin)
 within_taskwait rs tasks parent place index task begin answer apart here exact = (
   λ yes_it. let known = exact.0 yes_it in before_begin (ap (slice_get tasks) known.0 ∙ here) known.2,
   λ within. exact.1 (of within),
 )
   where
-    of : IsWithin rs tasks parent place (ForTaskwait task begin)
+    of : IsInWait rs tasks parent place (ForTaskwait task begin)
         → (task ≡ index) × (0 ≤ place) × (place < begin)
     of (before_begin there less) = (apart task index parent there here, omega arith, less)
 
@@ -113,13 +113,13 @@ pub within_taskgroup : (rs : List Record) (tasks : List ℕ) (parent place index
     (answer : Bool)
     → AreApart tasks → slice_get tasks index ≡ Some parent
     → IsTrue answer ↔ ((task ≡ index) × (begin ≤ place) × (place < end))
-    → IsTrue answer ↔ IsWithin rs tasks parent place (ForTaskgroup task begin end)
+    → IsTrue answer ↔ IsInWait rs tasks parent place (ForTaskgroup task begin end)
 within_taskgroup rs tasks parent place index task begin end answer apart here exact = (
   λ yes_it. let known = exact.0 yes_it in in_group (ap (slice_get tasks) known.0 ∙ here) known.1 known.2,
   λ within. exact.1 (of within),
 )
   where
-    of : IsWithin rs tasks parent place (ForTaskgroup task begin end)
+    of : IsInWait rs tasks parent place (ForTaskgroup task begin end)
         → (task ≡ index) × (begin ≤ place) × (place < end)
     of (in_group there from less) = (apart task index parent there here, from, less)
 
@@ -131,14 +131,14 @@ pub within_barrier : (rs : List Record) (tasks places : List ℕ) (own parent pl
     (answer : Bool)
     → slice_get tasks task ≡ Some own → IsTeammate rs own parent
     → places ≡ begins_before rs parent (length rs) → IsTrue answer ↔ IsBeforeBegin places number place
-    → IsTrue answer ↔ IsWithin rs tasks parent place (ForBarrier task number)
+    → IsTrue answer ↔ IsInWait rs tasks parent place (ForBarrier task number)
 within_barrier rs tasks places own parent place index task number answer is_own mate are exact = (
   λ yes_it. let known =
       exact.0 yes_it in by_member is_own mate (ap (λ l. slice_get l number) (sym are) ∙ known.1) known.2,
   λ within. exact.1 (of within),
 )
   where
-    of : IsWithin rs tasks parent place (ForBarrier task number) → IsBeforeBegin places number place
+    of : IsInWait rs tasks parent place (ForBarrier task number) → IsBeforeBegin places number place
     of (by_member {start = start} there mates begins less) =
         (start, ap (λ l. slice_get l number) are ∙ begins, less)
 
@@ -219,7 +219,7 @@ parent_in run search index found same is =
 -- what is known of the parent of the task at the next place
 pub marked_above : (search : SearchView) (order : List ℕ) (n index : ℕ) (marks : List Bool)
     → IsParentsFirst search.teams.run.family order → slice_get order n ≡ Some index
-    → AreMarked search.teams.run.records search.teams.run.family.tasks search.wait order n marks
+    → AreAwaitedMarked search.teams.run.records search.teams.run.family.tasks search.wait order n marks
     → IsMarkedAbove search marks index
 marked_above search order n index marks first here marked up parent above is_parent =
     let place = first.all up (slice_get_within search.teams.run.family.tasks up parent is_parent) in
@@ -227,9 +227,9 @@ marked_above search order n index marks first here marked up parent above is_par
 
 pub marked_more : (rs : List Record) (tasks : List ℕ) (wait : Wait) (order : List ℕ) (n index : ℕ)
     (marks : List Bool) (mark : Bool)
-    → slice_get order n ≡ Some index → index < length tasks → AreMarked rs tasks wait order n marks
+    → slice_get order n ≡ Some index → index < length tasks → AreAwaitedMarked rs tasks wait order n marks
     → ((task : ℕ) → slice_get tasks index ≡ Some task → IsTrue mark ↔ IsAwaited rs tasks wait task)
-    → AreMarked rs tasks wait order (n + 1) (set marks index mark)
+    → AreAwaitedMarked rs tasks wait order (n + 1) (set marks index mark)
 marked_more rs tasks wait order n index marks mark here inside are exact = record {
   all = length-set marks index mark ∙ are.all;
   each = λ place other task below there is. elim (cases_eq other index) [
@@ -252,7 +252,7 @@ marked_more rs tasks wait order n index marks mark here inside are exact = recor
 
 pub marked_all : (rs : List Record) (family : FamilyView) (wait : Wait) (order : List ℕ) (n : ℕ)
     (marks : List Bool)
-    → IsParentsFirst family order → length order ≤ n → AreMarked rs family.tasks wait order n marks
+    → IsParentsFirst family order → length order ≤ n → AreAwaitedMarked rs family.tasks wait order n marks
     → AreAwaited rs family.tasks wait marks
 marked_all rs family wait order n marks first all are = record {
   all = are.all;
@@ -271,7 +271,7 @@ no_wait_there run i silent = λ task begin kind demands there.
     false≢true (sym (silent_sync kind (silent task kind ends.endpoint ends.says)) ∙ demands)
 
 pub taskwait_there : (run : RunView) (i index begin : ℕ) (kind : WaitKind) (endpoint : Endpoint)
-    → kind ≡ TaskwaitKind → IsWaitEvent run i index kind endpoint → IsBeginOf run.records i begin
+    → kind ≡ TaskwaitKind → IsWaitEvent run i index kind endpoint → IsRegionBegin run.records i begin
     → IsWaitAt run.records run.family.tasks i (ForTaskwait index begin)
 taskwait_there run i index begin kind endpoint is event begins =
     let P : SyncKind → Type 0 = λ k. IsRegion run.records i event.task k begin in
@@ -280,7 +280,7 @@ taskwait_there run i index begin kind endpoint is event begins =
     (begins event.task event.sync endpoint event.says))
 
 pub taskgroup_there : (run : RunView) (i index begin : ℕ) (kind : WaitKind) (endpoint : Endpoint)
-    → kind ≡ TaskgroupKind → IsWaitEvent run i index kind endpoint → IsBeginOf run.records i begin
+    → kind ≡ TaskgroupKind → IsWaitEvent run i index kind endpoint → IsRegionBegin run.records i begin
     → IsWaitAt run.records run.family.tasks i (ForTaskgroup index begin i)
 taskgroup_there run i index begin kind endpoint is event begins =
     let P : SyncKind → Type 0 = λ k. IsRegion run.records i event.task k begin in
@@ -290,7 +290,7 @@ taskgroup_there run i index begin kind endpoint is event begins =
 
 pub barrier_there : (run : RunView) (numbers : List ℕ) (i index begin number : ℕ) (kind : WaitKind)
     (endpoint : Endpoint)
-    → kind ≡ BarrierKind → IsWaitEvent run i index kind endpoint → IsBeginOf run.records i begin
+    → kind ≡ BarrierKind → IsWaitEvent run i index kind endpoint → IsRegionBegin run.records i begin
     → AreBeginNumbers run.records (length run.records) numbers → slice_get numbers begin ≡ Some number
     → IsWaitAt run.records run.family.tasks i (ForBarrier index number)
 barrier_there run numbers i index begin number kind endpoint is event begins are stands =
@@ -302,7 +302,7 @@ barrier_there run numbers i index begin number kind endpoint is event begins are
 
 -- a region begins at one of the records
 pub begins_within : (run : RunView) (i index begin : ℕ) (kind : WaitKind) (endpoint : Endpoint)
-    → IsWaitEvent run i index kind endpoint → IsBeginOf run.records i begin → begin < length run.records
+    → IsWaitEvent run i index kind endpoint → IsRegionBegin run.records i begin → begin < length run.records
 begins_within run i index begin kind endpoint event begins =
     let ends =
     ends_at run.records i event.task begin event.sync

@@ -11,9 +11,9 @@ abbrev pub code_of_length : ℕ → ℕ
 code_of_length length = if length == 4294967296 then 4294967295 else length
 
 -- each number of 32 bits is the code of what it stands for
-pub code_again : {X : Type 0} (make : ℕ → X) (code : ℕ) → code ≤ 4294967295
+pub length_code_again : {X : Type 0} (make : ℕ → X) (code : ℕ) → code ≤ 4294967295
     → make (code_of_length (length_of_code code)) ≡ make code
-code_again make code small = elim (cases_eq code 4294967295) [
+length_code_again make code small = elim (cases_eq code 4294967295) [
   | inl same ↦
       ap (λ (b : Bool). make (code_of_length (if b then 4294967296 else code))) (eq-eqb code 4294967295 same)
       ∙ ap make (sym same)

@@ -33,7 +33,7 @@ IsEndPlace own place =
     (number : ℕ) × (slice_get own.places number ≡ Some place) × IsEnd own.run.records number
 
 -- those of the first n places in the file, in file order
-pub record AreEnds (own : OwnView) (n : ℕ) (ends : List ℕ) : Type 0 where
+pub record AreWaitEnds (own : OwnView) (n : ℕ) (ends : List ℕ) : Type 0 where
   pub each : (place : ℕ) → place < n → IsEndPlace own place → Contains ends place
   pub only : (k place : ℕ) → slice_get ends k ≡ Some place → (place < n) × IsEndPlace own place
   pub rising : (k j place after : ℕ) → k < j → slice_get ends k ≡ Some place
@@ -109,7 +109,7 @@ pub record IsCoverage (coverage : CoverageView) : Type 0 where
   pub teams : IsTeams coverage.teams
   pub tree : IsTreeOfOwn (own_of coverage.teams) coverage.tree
   pub numbers : AreNumbers coverage.teams.run.records (length coverage.teams.run.records) coverage.numbers
-  pub ends : AreEnds (own_of coverage.teams) (length coverage.teams.run.records) coverage.ends
+  pub ends : AreWaitEnds (own_of coverage.teams) (length coverage.teams.run.records) coverage.ends
   pub waits : AreWaits (own_of coverage.teams) coverage.ends coverage.waits
 
 -- the end with this index among the ends is the record with this number
@@ -119,8 +119,8 @@ IsEndNumber coverage index number = (place : ℕ) × (slice_get coverage.ends in
 
 -- the answer is the first open task at the end with this number, or none where all that it covers is
 -- complete
-abbrev pub IsAnswer : CoverageView → ℕ → Option ℕ → Type 0
-IsAnswer coverage end answer = MatchOption answer (IsCoverComplete coverage.teams.run.records end)
+abbrev pub IsFirstOpenAnswer : CoverageView → ℕ → Option ℕ → Type 0
+IsFirstOpenAnswer coverage end answer = MatchOption answer (IsCoverComplete coverage.teams.run.records end)
     (IsFirstOpen (own_of coverage.teams) end)
 
 -- of the first n ends that are asked for, by their indices among the ends, the answer for each
@@ -128,4 +128,4 @@ pub record AreFirstOpen (coverage : CoverageView) (of : List ℕ) (n : ℕ)
     (found : List (Option ℕ)) : Type 0 where
   pub count : length found ≡ n
   pub each : (k index end : ℕ) (answer : Option ℕ) → slice_get of k ≡ Some index
-      → IsEndNumber coverage index end → slice_get found k ≡ Some answer → IsAnswer coverage end answer
+      → IsEndNumber coverage index end → slice_get found k ≡ Some answer → IsFirstOpenAnswer coverage end answer

@@ -33,7 +33,7 @@ abbrev pub IsFamilyEarly : DoneView → ℕ → ℕ → Type 0
 IsFamilyEarly done m task = (t : ℕ) → IsFamily (records_of done) task t → IsEarly done m t
 
 -- at the index of each task stands the greatest length of the task and its descendants
-pub record AreGreatest (done : DoneView) : Type 0 where
+pub record AreFamilyLengths (done : DoneView) : Type 0 where
   pub all : length done.families ≡ length (tasks_of done)
   pub each : (index task limit m : ℕ) → slice_get (tasks_of done) index ≡ Some task
       → slice_get done.families index ≡ Some limit → (limit ≤ m) ↔ IsFamilyEarly done m task
@@ -42,7 +42,7 @@ pub record AreGreatest (done : DoneView) : Type 0 where
 pub record IsDoneView (done : DoneView) : Type 0 where
   pub teams : IsTeams done.teams
   pub own : length done.own ≡ length (tasks_of done)
-  pub families : AreGreatest done
+  pub families : AreFamilyLengths done
 
 -- ---- the lengths that the records name
 
@@ -51,14 +51,14 @@ abbrev pub IsDoneFrom : List Record → ℕ → ℕ → Type 0
 IsDoneFrom rs task limit = (m : ℕ) → m < 2 ^ 32 → (limit ≤ m) ↔ IsDone rs m task
 
 -- at the index of each task stands the length from which on it is finished
-pub record AreOwn (rs : List Record) (tasks own : List ℕ) : Type 0 where
+pub record AreOwnLengths (rs : List Record) (tasks own : List ℕ) : Type 0 where
   pub all : length own ≡ length tasks
   pub each : (index task limit : ℕ) → slice_get tasks index ≡ Some task → slice_get own index ≡ Some limit
       → IsDoneFrom rs task limit
 
 -- the tasks' own lengths are those
 abbrev pub AreDone : DoneView → Type 0
-AreDone done = AreOwn (records_of done) (tasks_of done) done.own
+AreDone done = AreOwnLengths (records_of done) (tasks_of done) done.own
 
 -- the same of the tasks that another task created
 abbrev pub AreChildrenDone : DoneView → Type 0
@@ -86,10 +86,10 @@ raised family index limits = option_map_or
     (parent_index family index) limits
 
 -- the first index is that of the second's parent, of the parent's parent, and so on, or the second itself
-pub data IsAbove (family : FamilyView) (top : ℕ) : ℕ → Type 0 where
-  itself : IsAbove family top top
-  further : {index up : ℕ} → parent_index family index ≡ Some up → IsAbove family top up
-      → IsAbove family top index
+pub data IsAtOrAbove (family : FamilyView) (top : ℕ) : ℕ → Type 0 where
+  itself : IsAtOrAbove family top top
+  further : {index up : ℕ} → parent_index family index ≡ Some up → IsAtOrAbove family top up
+      → IsAtOrAbove family top index
 
 -- each has at least its floor, and the parents of the tasks from the place n on have at least what these
 -- have; none has more than the greatest floor of the tasks that it is above
@@ -98,5 +98,5 @@ pub record AreRaised (family : FamilyView) (order floor : List ℕ) (n : ℕ) (l
   pub own : (index : ℕ) → slice_index floor index ≤ slice_index limits index
   pub passed : (place child up : ℕ) → n ≤ place → slice_get order place ≡ Some child
       → parent_index family child ≡ Some up → slice_index limits child ≤ slice_index limits up
-  pub least : (top m : ℕ) → ((index : ℕ) → IsAbove family top index → slice_index floor index ≤ m)
+  pub least : (top m : ℕ) → ((index : ℕ) → IsAtOrAbove family top index → slice_index floor index ≤ m)
       → slice_index limits top ≤ m

@@ -13,8 +13,8 @@ pub record KnownView : Type 0 where
   pub done : DoneView
   pub nodes : List Node
 
-abbrev pub IsKnown : KnownView → Type 0
-IsKnown known = AreEndLimits known.done known.nodes
+abbrev pub AreLimitsKnown : KnownView → Type 0
+AreLimitsKnown known = AreEndLimits known.done known.nodes
 
 -- the entries hold the credit of each child in its parent's pool from its own length on, and not before; and
 -- that of each task in its root's tree from the length of its family on, and not before (F. Mattern, 1989)

@@ -78,7 +78,7 @@ pub record HasNode (done : DoneView) (nodes : List Node) (head : Option ℕ) (c 
   pub limit : IsFamilyLimit done child node.limit
 
 -- at the index of each task stands the limit of its children, of those that the first n records create
-pub record AreLatest (done : DoneView) (n : ℕ) (latest : List ℕ) : Type 0 where
+pub record AreChildLimits (done : DoneView) (n : ℕ) (latest : List ℕ) : Type 0 where
   pub all : length latest ≡ length (tasks_of done)
   pub each : (index task limit : ℕ) → slice_get (tasks_of done) index ≡ Some task
       → slice_get latest index ≡ Some limit
@@ -104,13 +104,13 @@ pub record AreChains (done : DoneView) (nodes : List Node)
       → HasNode done nodes head c child
 
 -- at each end stands the limit of what it covers
-abbrev pub AreKnown : DoneView → List Node → Type 0
-AreKnown done nodes = (i : ℕ) (node : Node) → slice_get nodes i ≡ Some node → IsEndLimit done i node.limit
+abbrev pub HaveEndLimits : DoneView → List Node → Type 0
+HaveEndLimits done nodes = (i : ℕ) (node : Node) → slice_get nodes i ≡ Some node → IsEndLimit done i node.limit
 
 -- at each record, where it is the end of a region, stands the limit of what this covers
 pub record AreEndLimits (done : DoneView) (nodes : List Node) : Type 0 where
   pub count : length nodes ≡ length (records_of done)
-  pub known : AreKnown done nodes
+  pub known : HaveEndLimits done nodes
 
 -- the limit is right for what begins or ends there: for the begin of a taskwait or of a barrier, and for the
 -- end of a taskwait or of a taskgroup
@@ -121,19 +121,19 @@ pub record IsMark (done : DoneView) (i limit : ℕ) : Type 0 where
       → IsFamiliesLimit done i task limit
   pub ends : IsWaitLimit done i limit
 
-abbrev pub AreMarks : DoneView → List Node → Type 0
-AreMarks done nodes = (i : ℕ) (node : Node) → slice_get nodes i ≡ Some node → IsMark done i node.limit
+abbrev pub AreLimitMarks : DoneView → List Node → Type 0
+AreLimitMarks done nodes = (i : ℕ) (node : Node) → slice_get nodes i ≡ Some node → IsMark done i node.limit
 
 -- at each record
 pub record AreNodes (done : DoneView) (nodes : List Node) : Type 0 where
   pub count : length nodes ≡ length (records_of done)
-  pub marks : AreMarks done nodes
+  pub marks : AreLimitMarks done nodes
 
 -- what is known behind the first n records
-pub record AreNoted (done : DoneView) (n : ℕ) (nodes : List Node)
+pub record IsLimitProgress (done : DoneView) (n : ℕ) (nodes : List Node)
     (progress : Progress) : Type 0 where
   pub count : length nodes ≡ n
-  pub latest : AreLatest done n progress.latest.items
+  pub latest : AreChildLimits done n progress.latest.items
   pub families : AreLatestFamilies done n progress.families.items
   pub chains : AreChains done nodes progress.heads.items
-  pub marks : AreMarks done nodes
+  pub marks : AreLimitMarks done nodes

@@ -22,7 +22,7 @@ pub record AreMet (done : DoneView) (n : ℕ) (meetings : List (Vec ℕ)) : Type
       → IsMeeting done task number i (row_at meetings team)
 
 -- each has at least what it had, and the one with this number at least the limit
-pub record IsRaised (number limit : ℕ) (before after : List ℕ) : Type 0 where
+pub record IsLimitRaised (number limit : ℕ) (before after : List ℕ) : Type 0 where
   pub kept : (k old : ℕ) → slice_get before k ≡ Some old
       → (new : ℕ) × (slice_get after k ≡ Some new) × (old ≤ new)
   pub raised : (new : ℕ) × (slice_get after number ≡ Some new) × (limit ≤ new)

@@ -6,7 +6,7 @@ use Rattle.ompt_events.specs.Tree.{child_number}
 use Rattle.task_tree.specs.Subjects.{subject}
 
 -- at the index of each task stands how many children it created by the first n records
-pub record AreCounts (rs : List Record) (n : ℕ) (tasks counts : List ℕ) : Type 0 where
+pub record AreCreationCounts (rs : List Record) (n : ℕ) (tasks counts : List ℕ) : Type 0 where
   pub all : length counts ≡ length tasks
   pub each : (index task count : ℕ) → slice_get tasks index ≡ Some task → slice_get counts index ≡ Some count
       → count ≡ child_number rs task n

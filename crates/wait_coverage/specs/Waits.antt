@@ -41,23 +41,23 @@ EndsNoWaitAt rs i =
     (task begin : ℕ) (kind : SyncKind) → waits_for_tasks kind ≡ true → IsRegion rs i task kind begin → ⊥
 
 -- a child that the parent creates at this record is waited for
-pub data IsWithin (rs : List Record) (tasks : List ℕ) (parent made : ℕ) : Wait → Type 0 where
+pub data IsInWait (rs : List Record) (tasks : List ℕ) (parent made : ℕ) : Wait → Type 0 where
   -- it is created before the taskwait begins
   before_begin : {index begin : ℕ} → slice_get tasks index ≡ Some parent → made < begin
-      → IsWithin rs tasks parent made (ForTaskwait index begin)
+      → IsInWait rs tasks parent made (ForTaskwait index begin)
   -- in the taskgroup
   in_group : {index begin end : ℕ} → slice_get tasks index ≡ Some parent → begin ≤ made → made < end
-      → IsWithin rs tasks parent made (ForTaskgroup index begin end)
+      → IsInWait rs tasks parent made (ForTaskgroup index begin end)
   -- or by a member of the team before its barrier with this number begins
   by_member : {index number own start : ℕ} → slice_get tasks index ≡ Some own → IsTeammate rs own parent
       → IsBarrierBegin rs parent number start → made < start
-      → IsWithin rs tasks parent made (ForBarrier index number)
+      → IsInWait rs tasks parent made (ForBarrier index number)
 
 -- the child is one of those that are waited for
 pub record IsOwnChild (rs : List Record) (tasks : List ℕ) (wait : Wait) (child : ℕ) : Type 0 where
   pub parent : ℕ
   pub made : ℕ
-  pub within : IsWithin rs tasks parent made wait
+  pub within : IsInWait rs tasks parent made wait
   pub creates : at creation rs made ≡ Some (parent, child)
 
 -- whether the descendants of the children are waited for too
@@ -88,7 +88,7 @@ pub record AreAwaited (rs : List Record) (tasks : List ℕ) (wait : Wait) (marks
       → IsTrue (slice_index_or marks index false) ↔ IsAwaited rs tasks wait task
 
 -- the same of the tasks at the first n places of an order
-pub record AreMarked (rs : List Record) (tasks : List ℕ) (wait : Wait) (order : List ℕ) (n : ℕ)
+pub record AreAwaitedMarked (rs : List Record) (tasks : List ℕ) (wait : Wait) (order : List ℕ) (n : ℕ)
     (marks : List Bool) : Type 0 where
   pub all : length marks ≡ length tasks
   pub each : (place index task : ℕ) → place < n → slice_get order place ≡ Some index

@@ -16,7 +16,7 @@ ghost use Rattle.trace_ledger.specs.Entries.{IsLedgerOf, HasRightEntries};
 ghost use Rattle.wait_coverage.specs.declared.waits.Wait.TheVariants.{Barrier};
 ghost use Rattle.wait_coverage.specs.Spans.{AreSpans, AreMemberSpans, IsSpan, IsCoverComplete};
 ghost use Rattle.wait_coverage.specs.Waits.{IsWaitAt, cover_of};
-ghost use Rattle.wait_coverage.specs.Coverage.{IsCoverage, AreAllHeld, AreShallow, AreEnds, AreWaits, IsEndNumber, IsAnswer, AreFirstOpen, IsCoverAt, IsOnly, HasBegun, HaveBegun, IsMemberSpan, AreRosterSpans};
+ghost use Rattle.wait_coverage.specs.Coverage.{IsCoverage, AreAllHeld, AreShallow, AreWaitEnds, AreWaits, IsEndNumber, IsFirstOpenAnswer, AreFirstOpen, IsCoverAt, IsOnly, HasBegun, HaveBegun, IsMemberSpan, AreRosterSpans};
 
 use crate::numbers::find_numbers;
 use crate::unfinished::{Known, open_at};
@@ -95,7 +95,7 @@ impl<'a> Coverage<'a> {
     /// The places in the file of the records that end a wait, in file order.
     pub fn ends(&self) -> &[usize]
         ensures value { result.now ≡ self.now.ends }
-        ensures ends { AreEnds (own_of self.now.teams) (length self.now.teams.run.records) result.now }
+        ensures ends { AreWaitEnds (own_of self.now.teams) (length self.now.teams.run.records) result.now }
     {
         self.ends.as_slice()
     }
@@ -133,7 +133,7 @@ impl<'a> Coverage<'a> {
         ensures first { IsLedgerOf self.now.teams.run.records ledger.now
             → HasRightEntries self.now.teams.run.records
             → IfOk result (λ found. (end : ℕ) → IsEndNumber self.now index end
-            → IsAnswer self.now end found) }
+            → IsFirstOpenAnswer self.now end found) }
     {
         if self.is_end_held(index, ledger)? {
             return Ok(None);
@@ -344,7 +344,7 @@ fn is_held(ledger: &Ledger, seen: u32, span: &Span, cover: Cover) -> Result<bool
 /// The places in the file of the records that end a wait, and what each waits for.
 fn find_ends(alloc: Global, teams: &Teams) -> Result<(Vec<usize>, Vec<Wait>), AllocError>
     ensures ends { IfOk result (λ found.
-        AreEnds (own_of teams.now) (length teams.now.run.records) found.0.items) }
+        AreWaitEnds (own_of teams.now) (length teams.now.run.records) found.0.items) }
     ensures waits { IfOk result (λ found. AreWaits (own_of teams.now) found.0.items found.1.items) }
 {
     let mut ends = Vec::new(alloc);

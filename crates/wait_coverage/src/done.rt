@@ -2,7 +2,7 @@
 ghost use Rattle.std.specs.Prelude.{ℕ, ◌≡◌, ◌<◌, List, Option, Some, IfOk, MatchOption, length, map, slice_get};
 ghost use Rattle.ompt_events.specs.declared.names.SyncKind.{SyncKind};
 ghost use Rattle.ompt_events.specs.Regions.{IsRegion};
-ghost use Rattle.task_states.specs.Regions.{IsBeginOf};
+ghost use Rattle.task_states.specs.Regions.{IsRegionBegin};
 ghost use Rattle.task_tree.specs.Lineage.{parent_index};
 ghost use Rattle.teams.specs.Missed.{IsBarrierEnd, EndsNoBarrier};
 ghost use Rattle.trace_ledger.specs.Entries.{IsLedgerOf};
@@ -129,7 +129,7 @@ impl<'a> Done<'a> {
         requires { at < length self.now.teams.run.records }
         ensures { MatchOption result ((task begin : ℕ) (kind : SyncKind)
             → IsRegion self.now.teams.run.records at task kind begin → ⊥)
-            (IsBeginOf self.now.teams.run.records at) }
+            (IsRegionBegin self.now.teams.run.records at) }
     {
         self.teams.begin_of(at)
     }

@@ -12,7 +12,7 @@ pub(crate) struct Limit {
 
 impl Model for Limit {
     ghost use Rattle.std.specs.Prelude.{ℕ, ◌≤◌};
-    ghost use Rattle.wait_coverage.specs.Codes.{length_of_code, code_of_length, code_again};
+    ghost use Rattle.wait_coverage.specs.Codes.{length_of_code, code_of_length, length_code_again};
 
     ghost Value = { ℕ };
 
@@ -22,7 +22,7 @@ impl Model for Limit {
 
     ghost inverse = { λ length. record { code = code_of_length length } };
 
-    ghost inverse_ok = { λ limit small. code_again (λ code. record { code = code }) limit.code small };
+    ghost inverse_ok = { λ limit small. length_code_again (λ code. record { code = code }) limit.code small };
 }
 
 /// The code of 2^32.

@@ -4,7 +4,7 @@ ghost use Rattle.ompt_events.specs.declared.names.SyncKind.{SyncKind};
 ghost use Rattle.ompt_events.specs.Records.{region};
 ghost use Rattle.ompt_events.specs.Places.{at as says_at};
 ghost use Rattle.task_tree.specs.Runs.{IsCreation, IsWaitEvent};
-ghost use Rattle.wait_coverage.specs.Limits.{IsLimitOfBegin, IsMark, AreFalling, Gathers, AreNoted, AreNodes};
+ghost use Rattle.wait_coverage.specs.Limits.{IsLimitOfBegin, IsMark, AreFalling, Gathers, IsLimitProgress, AreNodes};
 ghost use Rattle.wait_coverage.specs.Meetings.{AreMet};
 
 use crate::done::Done;
@@ -92,8 +92,8 @@ fn no_progress(alloc: Global, tasks: usize) -> Result<Progress, AllocError>
 /// The node of a record.
 fn node_at(done: &Done, nodes: &[Node], progress: &mut Progress, at: usize) -> Node
     requires within { at < length done.now.teams.run.records }
-    requires noted { AreNoted done.now at nodes.now progress.old }
-    ensures { AreNoted done.now (at + 1) (nodes.now ++ result ∷ []) progress.new }
+    requires noted { IsLimitProgress done.now at nodes.now progress.old }
+    ensures { IsLimitProgress done.now (at + 1) (nodes.now ++ result ∷ []) progress.new }
 {
     let run = done.run();
     if let Some(made) = run.creation(at) {
@@ -119,7 +119,7 @@ fn ends_taskgroup(event: WaitEvent) -> bool
 fn limit_at(done: &Done, nodes: &[Node], progress: &Progress, event: WaitEvent, at: usize) -> Limit
     requires within { at < length done.now.teams.run.records }
     requires event { IsWaitEvent done.now.teams.run at event.task event.kind event.endpoint }
-    requires noted { AreNoted done.now at nodes.now progress.now }
+    requires noted { IsLimitProgress done.now at nodes.now progress.now }
     ensures { (event.kind ≡ WaitKind.Taskgroup → event.endpoint ≡ Endpoint.End → ⊥)
         → IsMark done.now at result }
 {
@@ -139,8 +139,8 @@ fn limit_at(done: &Done, nodes: &[Node], progress: &Progress, event: WaitEvent, 
 /// The node of a creation, which is the child's.
 fn create(done: &Done, nodes: &[Node], progress: &mut Progress, made: Creation, at: usize) -> Node
     requires made { IsCreation done.now.teams.run at made.parent made.child }
-    requires noted { AreNoted done.now at nodes.now progress.old }
-    ensures { AreNoted done.now (at + 1) (nodes.now ++ result ∷ []) progress.new }
+    requires noted { IsLimitProgress done.now at nodes.now progress.old }
+    ensures { IsLimitProgress done.now (at + 1) (nodes.now ++ result ∷ []) progress.new }
 {
     let own = Limit::of(done.own()[made.child]);
     let limit = Limit::of(done.families()[made.child]);
@@ -155,8 +155,8 @@ fn create(done: &Done, nodes: &[Node], progress: &mut Progress, made: Creation, 
 fn close(done: &Done, nodes: &[Node], progress: &mut Progress, event: WaitEvent, at: usize) -> Node
     requires within { at < length done.now.teams.run.records }
     requires event { IsWaitEvent done.now.teams.run at event.task WaitKind.Taskgroup Endpoint.End }
-    requires noted { AreNoted done.now at nodes.now progress.old }
-    ensures { AreNoted done.now (at + 1) (nodes.now ++ result ∷ []) progress.new }
+    requires noted { IsLimitProgress done.now at nodes.now progress.old }
+    ensures { IsLimitProgress done.now (at + 1) (nodes.now ++ result ∷ []) progress.new }
 {
     let Some(begin) = done.begin_of(at) else {
         return Node::alone(Limit::zero());

@@ -6,7 +6,7 @@ ghost use Rattle.ompt_events.specs.Places.{at as says_at};
 ghost use Rattle.ompt_events.specs.Regions.{barrier_begun};
 ghost use Rattle.teams.specs.Missed.{IsBarrierEnd};
 ghost use Rattle.wait_coverage.specs.Limits.{IsFamiliesLimit, IsEndLimit, AreNodes, AreEndLimits};
-ghost use Rattle.wait_coverage.specs.Meetings.{AreMet, IsRaised, AreMeetingsAdded};
+ghost use Rattle.wait_coverage.specs.Meetings.{AreMet, IsLimitRaised, AreMeetingsAdded};
 
 use crate::done::Done;
 use crate::limit::Limit;
@@ -55,7 +55,7 @@ pub(crate) fn meet(
 
 /// The limit of the barrier with this number is at least the given one.
 fn raise(limits: &mut Vec<Limit>, number: usize, limit: Limit) -> Result<(), AllocError>
-    ensures { IfOk result (λ done. IsRaised number limit limits.old.items limits.new.items) }
+    ensures { IfOk result (λ done. IsLimitRaised number limit limits.old.items limits.new.items) }
 {
     'room: while limits.len() <= number {
         limits.push(Limit::zero())?;

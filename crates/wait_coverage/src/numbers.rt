@@ -1,6 +1,6 @@
 //! How many children a task had created before each of its records.
 ghost use Rattle.std.specs.Prelude.{◌≡◌, ◌<◌, ◌+◌, IfOk, length, replicate};
-ghost use Rattle.wait_coverage.specs.Numbers.{AreCounts, AreNumbers, IsNumberAt};
+ghost use Rattle.wait_coverage.specs.Numbers.{AreCreationCounts, AreNumbers, IsNumberAt};
 
 use std::alloc::{AllocError, Global};
 use task_tree::Run;
@@ -27,7 +27,7 @@ fn no_counts(alloc: Global, tasks: usize) -> Result<Vec<u32>, AllocError>
 
 /// How many children the task of a record has created so far; 0 where it is of none.
 fn number_at(run: &Run, counts: &[u32], at: usize) -> u32
-    requires { AreCounts run.now.records at run.now.family.tasks counts.now }
+    requires { AreCreationCounts run.now.records at run.now.family.tasks counts.now }
     ensures { IsNumberAt run.now.records at result }
 {
     match run.subject(at) {
@@ -39,8 +39,8 @@ fn number_at(run: &Run, counts: &[u32], at: usize) -> u32
 /// Counts the child that a record creates.
 fn count_child(run: &Run, counts: &mut Vec<u32>, at: usize)
     requires within { at < length run.now.records }
-    requires counts { AreCounts run.now.records at run.now.family.tasks counts.old.items }
-    ensures { AreCounts run.now.records (at + 1) run.now.family.tasks counts.new.items }
+    requires counts { AreCreationCounts run.now.records at run.now.family.tasks counts.old.items }
+    ensures { AreCreationCounts run.now.records (at + 1) run.now.family.tasks counts.new.items }
 {
     let _records = run.records();
     if let Some(made) = run.creation(at) {

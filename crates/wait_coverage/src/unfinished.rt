@@ -32,13 +32,13 @@ pub struct Known<'a> {
 }
 
 impl<'a> Model for Known<'a> {
-    ghost use Rattle.wait_coverage.specs.Known.{KnownView, IsKnown};
+    ghost use Rattle.wait_coverage.specs.Known.{KnownView, AreLimitsKnown};
 
     ghost Value = { KnownView };
 
     ghost view = { λ known. record { done = known.done; nodes = known.nodes.items } };
 
-    ghost invariant = { λ known. IsKnown (record { done = known.done; nodes = known.nodes.items }) };
+    ghost invariant = { λ known. AreLimitsKnown (record { done = known.done; nodes = known.nodes.items }) };
 }
 
 impl<'a> Known<'a> {

@@ -1,12 +1,12 @@
 //! What the end of a region waits for, and what of it is unfinished.
 ghost use Rattle.std.specs.Prelude.{ℕ, ◌≡◌, ◌<◌, ◌≤◌, ◌↔◌, IfOk, IsTrue, MatchOption, length, slice_get, replicate, Some, false};
 ghost use Rattle.ompt_events.specs.Teams.{IsTeammate};
-ghost use Rattle.task_states.specs.Regions.{IsBeginOf};
+ghost use Rattle.task_states.specs.Regions.{IsRegionBegin};
 ghost use Rattle.task_tree.specs.Runs.{IsWaitEvent};
 ghost use Rattle.task_states.specs.Rows.{row_at};
 ghost use Rattle.wait_coverage.specs.Done.{IsParentsFirst};
 ghost use Rattle.wait_coverage.specs.Search.{IsSearch, IsMarkedAbove};
-ghost use Rattle.wait_coverage.specs.Waits.{EndsNoWaitAt, IsWaitAt, IsWithin, IsOwnChild, IsAwaited, AreAwaited, IsLateTask, IsLateAt, IsFirstLate, cover_of, waiting};
+ghost use Rattle.wait_coverage.specs.Waits.{EndsNoWaitAt, IsWaitAt, IsInWait, IsOwnChild, IsAwaited, AreAwaited, IsLateTask, IsLateAt, IsFirstLate, cover_of, waiting};
 ghost use Rattle.wait_coverage.specs.declared.waits.Wait.{Wait};
 
 use crate::done::Done;
@@ -65,7 +65,7 @@ pub(crate) fn wait_at(teams: &Teams, at: usize) -> Option<Wait>
 /// What a region waits for that began at the one record and ends at the other.
 fn wait_of(teams: &Teams, event: WaitEvent, begin: usize, end: usize) -> Wait
     requires event { IsWaitEvent teams.now.run end event.task event.kind event.endpoint }
-    requires begin { IsBeginOf teams.now.run.records end begin }
+    requires begin { IsRegionBegin teams.now.run.records end begin }
     ensures { IsWaitAt teams.now.run.records teams.now.run.family.tasks end result }
 {
     let _run = teams.run();
@@ -163,7 +163,7 @@ impl<'a> Search<'a> {
     fn is_within(&self, index: usize, made: usize) -> bool
         requires { index < length self.now.teams.run.family.tasks }
         ensures { (parent : ℕ) → slice_get self.now.teams.run.family.tasks index ≡ Some parent
-            → IsTrue result ↔ IsWithin self.now.teams.run.records self.now.teams.run.family.tasks
+            → IsTrue result ↔ IsInWait self.now.teams.run.records self.now.teams.run.family.tasks
             parent made self.now.wait }
     {
         match self.wait {

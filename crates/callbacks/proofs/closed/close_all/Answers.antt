@@ -3,7 +3,7 @@ use Rattle.std.specs.Prelude.{map}
 use Rattle.std.specs.List.Sorted.{IsPermutation}
 use Rattle.std.proofs.lemmas.List.Sorted.{IsPermutation-map}
 use Rattle.credit_ledger.specs.Places.{ledger_id}
-use Rattle.credit_ledger.specs.Seats.{AreClaims, AreApart}
+use Rattle.credit_ledger.specs.Seats.{AreClaims, AreSeatsApart}
 use Rattle.callbacks.specs.Closed.{thread_of}
 use Rattle.callbacks.proofs.ClosedLemmas.{parts-claims, parts-threads, parts-seats, parts-closed}
 use Rattle.callbacks.proofs.closed.close_all.Goals as goal
@@ -31,7 +31,7 @@ returns-clause-closed g c =
     let h = c.close-ledger.ensures in
     let parts = c.take_apart-seats.result in
     let same = parts-claims c.args.recorders.items parts.0.items parts.1.items c.take_apart-seats.ensures in
-    (h.0, h.1, h.2, subst (AreClaims h.0) same h.3, subst AreApart same h.4)
+    (h.0, h.1, h.2, subst (AreClaims h.0) same h.3, subst AreSeatsApart same h.4)
 
 pub returns-clause-buffers : goal.returns-clause-buffers
 returns-clause-buffers g c =

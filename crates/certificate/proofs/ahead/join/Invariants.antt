@@ -2,7 +2,7 @@ use Rattle.std.proofs.Common.{◌≡◌, ◌≤◌, ◌+◌, ℕ, List}
 use Rattle.std.specs.Vec.Iter.{into_iter_items, into_iter_len}
 use Rattle.ompt_events.specs.Limits.{max_records}
 use Rattle.certificate.specs.Pieces.{AreJudged}
-use Rattle.certificate.specs.ReadingOn.{IsCounted}
+use Rattle.certificate.specs.ReadingOn.{IsLineCounted}
 use Rattle.certificate.proofs.JoinLemmas.{Joins}
 use Rattle.certificate.proofs.ahead.join.Given as goal
 
@@ -14,7 +14,7 @@ invariant-pieces l = record {
       → Joins l.fn.line l.fn.kept all l.line l.kept (into_iter_items l.rest);
   later : l.fn.line ≤ l.line;
   last : l.line ≤ max_records + 2;
-  counted : IsCounted l.line l.kept;
+  counted : IsLineCounted l.line l.kept;
   version : l.kept.version ≡ l.fn.kept.version;
 }
 

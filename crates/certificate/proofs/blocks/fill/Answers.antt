@@ -2,7 +2,7 @@ use Rattle.std.proofs.Common.{◌≡◌, ◌<◌, length, refl, arith, ap, ◌�
 use Rattle.std.proofs.lemmas.Result.{err_from_is_err_and}
 use Rattle.certificate.proofs.WindowLemmas.{Keeps-itself, Keeps-both}
 use Rattle.certificate.proofs.CountLemmas.{TakesTurns-none, TakesTurns-more, TakesTurns-left}
-use Rattle.certificate.proofs.BlockLemmas.{is_below}
+use Rattle.certificate.proofs.BlockLemmas.{below_bound}
 use Rattle.certificate.proofs.blocks.fill.Goals as goal
 
 pub asks-init : goal.asks-init
@@ -15,7 +15,7 @@ asks-init g c = record {
 }
 
 pub make_room-requires : goal.make_room-requires
-make_room-requires g c = is_below _ _ _ c.is_full.ensures.few c.is_full.ensures.full c.asks-test.true
+make_room-requires g c = below_bound _ _ _ c.is_full.ensures.few c.is_full.ensures.full c.asks-test.true
 
 pub returns-in_err-ask-clause-turns : goal.returns-in_err-ask-clause-turns
 returns-in_err-ask-clause-turns g c =
@@ -34,7 +34,7 @@ returns-then-branch-eq0-clause-turns g c =
 pub asks-smaller : goal.asks-smaller
 asks-smaller g c =
     let below : length c.asks.block.waiting < c.asks.block.limit =
-    is_below _ _ _ c.is_full.ensures.few c.is_full.ensures.full c.asks-test.true in
+    below_bound _ _ _ c.is_full.ensures.few c.is_full.ensures.full c.asks-test.true in
     let limit = c.asks.invariant.limit in
     omega (arith, c.in_ok-ask.ensures.more, ap length c.in-Ok.ensures.waiting, c.if-branch-eq0.false)
 

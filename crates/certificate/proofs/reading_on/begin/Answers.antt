@@ -5,7 +5,7 @@ use Rattle.certificate.specs.declared.faults.ReadCause.TheVariants.{Memory}
 use Rattle.certificate.specs.declared.pieces.Piece.{Piece}
 use Rattle.certificate.specs.Limits.{newest_version}
 use Rattle.certificate.specs.Pieces.{AreJudged}
-use Rattle.certificate.specs.ReadingOn.{IsCounted}
+use Rattle.certificate.specs.ReadingOn.{IsLineCounted}
 use Rattle.certificate.specs.Windows.{LineFeedAt}
 use Rattle.certificate.proofs.BlockLemmas.{whole_drop}
 use Rattle.certificate.proofs.RecordLemmas.{ok_not_err}
@@ -84,7 +84,7 @@ returns-clause-after c =
 
 pub returns-clause-ready : goal.returns-clause-ready
 returns-clause-ready c =
-    let counted : IsCounted 2 c.take_header.new.kept = search rules in
+    let counted : IsLineCounted 2 c.take_header.new.kept = search rules in
     let version : c.take_header.new.kept.version ≤ newest_version = search rules in
     record {
       in_hand = record {

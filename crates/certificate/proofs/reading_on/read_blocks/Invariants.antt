@@ -1,11 +1,11 @@
 use Rattle.std.proofs.Common.{◌≤◌, ◌+◌}
-use Rattle.certificate.specs.Ahead.{IsReady, Waits, HasMet, rounds_left}
+use Rattle.certificate.specs.Ahead.{IsRoundReady, Waits, HasMet, rounds_left}
 use Rattle.certificate.specs.ReadingOn.{room_of}
 use Rattle.certificate.proofs.reading_on.read_blocks.Given as goal
 
 abbrev pub invariant-rounds : goal.invariant-rounds
 invariant-rounds g l = record {
-  ready : IsReady l.front l.ahead;
+  ready : IsRoundReady l.front l.ahead;
   waits : Waits (g.S.Source.remaining l.fn.source) (g.S.Source.remaining l.source)
       (room_of l.fn.workers l.fn.block) l.front.waiting l.ahead;
   room : l.front.limit + l.front.limit ≤ room_of l.fn.workers l.fn.block;

@@ -7,7 +7,7 @@ use Rattle.ompt_events.specs.Places.{at, thread_at, seen_at}
 use Rattle.checker.specs.InOrder.{AreInOrder, FitsBehind}
 use Rattle.checker.proofs.LengthLemmas.{known_start, known_more, not_behind, free_of_back}
 use Rattle.checker.proofs.ScheduleLemmas.{steps_less, waits_within}
-use Rattle.checker.proofs.InOrderLemmas.{no_last, fit_more, entries_by_known, count_more, entries_most}
+use Rattle.checker.proofs.InOrderLemmas.{no_last, fit_more, entries_by_known, entries_count_more, entries_most}
 use Rattle.checker.proofs.InOrderLemmas.{awaited_more, AllFit, fit_once, fit_reached, fit_entered}
 use Rattle.checker.proofs.in_order.is_in_order.Goals as goal
 
@@ -44,7 +44,7 @@ loop-at-preserved c =
     let follows = c.in_ok-follows_awaited.ensures.follows c.if-not-branch.false in
     record {
       so_far = record {
-        count = count_more rs i c.loop-at.entries c.max-entries.result within was.count next;
+        count = entries_count_more rs i c.loop-at.entries c.max-entries.result within was.count next;
         short =
             let step = entries_most rs i c.loop-at.entries c.max-entries.result next in
             let before = was.short in omega (arith, step, before);

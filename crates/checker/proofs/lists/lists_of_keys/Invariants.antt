@@ -1,6 +1,6 @@
 use Rattle.std.proofs.Common.{◌≡◌, ◌+◌, ℕ, length}
 use Rattle.checker.specs.Merge.{key_of}
-use Rattle.checker.specs.Lists.{AreLists, IsRising}
+use Rattle.checker.specs.Lists.{AreLists, LeadsOn}
 use Rattle.checker.proofs.lists.lists_of_keys.Given as goal
 
 -- from the end on the records so far are in their lists
@@ -10,5 +10,5 @@ invariant-loop-step l = record {
   lists : (from : ℕ) → from + l.step ≡ length l.run.records
       → AreLists (key_of l.run.family.tasks l.run.records l.suspensions.rows.items) (length l.run.records)
       from l.lists.firsts.items l.lists.nexts.items;
-  rising : IsRising (length l.run.records) l.lists.nexts.items;
+  rising : LeadsOn (length l.run.records) l.lists.nexts.items;
 }

@@ -1,5 +1,5 @@
 use Rattle.std.proofs.Common.{◌≡◌, ◌∙◌, ◌+◌, ◌-◌, length, ap, arith}
-use Rattle.checker.specs.Merge.{length_of}
+use Rattle.checker.specs.Merge.{named_length}
 use Rattle.checker.proofs.ListsLemmas.{length_within, names_length}
 use Rattle.checker.proofs.lists.lists_of_lengths.Goals as goal
 
@@ -10,7 +10,7 @@ loop-step-init c =
     let new = rw count at c.in_ok-lists.ensures.lists in
     record {
       keys = c.in_ok-lists.ensures.keys ∙ ap (λ l. length l + 1) c.places.ensures;
-      lists = λ from is. let end : from ≡ length rs = omega (arith, is) in rw end (new (length_of rs));
+      lists = λ from is. let end : from ≡ length rs = omega (arith, is) in rw end (new (named_length rs));
       rising = rw count at c.in_ok-lists.ensures.rising;
     }
 
@@ -39,7 +39,7 @@ loop-step-preserved c =
     names_length rs at c.seen.result (omega (arith, inside, count))
     (rw c.run-run.ensures.value at c.seen.ensures) in
     let was = c.loop-step.invariant.lists (at + 1) (omega (arith, inside, count)) in
-    let more = c.put_first.ensures.lists (length_of rs) (length rs) names c.loop-step.invariant.rising was in
+    let more = c.put_first.ensures.lists (named_length rs) (length rs) names c.loop-step.invariant.rising was in
     record {
       keys = c.put_first.ensures.keys ∙ c.loop-step.invariant.keys;
       lists = λ from is. let here : from ≡ at = omega (arith, is, inside, count) in rw here more.0;

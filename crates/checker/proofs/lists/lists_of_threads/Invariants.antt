@@ -1,6 +1,6 @@
 use Rattle.std.proofs.Common.{◌≡◌, ◌<◌, ◌+◌, ℕ, Some, length}
 use Rattle.ompt_events.specs.Places.{thread_at}
-use Rattle.checker.specs.Lists.{AreLists, IsRising}
+use Rattle.checker.specs.Lists.{AreLists, LeadsOn}
 use Rattle.checker.proofs.lists.lists_of_threads.Given as goal
 
 -- from the end on the records so far are in their lists
@@ -10,5 +10,5 @@ invariant-loop-step l = record {
   lists : (from : ℕ) → from + l.step ≡ length l.run.records
       → AreLists (thread_at l.run.records) (length l.run.records) from l.lists.firsts.items
       l.lists.nexts.items;
-  rising : IsRising (length l.run.records) l.lists.nexts.items;
+  rising : LeadsOn (length l.run.records) l.lists.nexts.items;
 }

@@ -4,7 +4,7 @@ use Rattle.std.proofs.lemmas.List.{get_or_default, get_or-set_same}
 use Rattle.std.proofs.lemmas.Result.{err_from_is_err_and}
 use Rattle.std.specs.Prelude.{slice_index}
 use Rattle.ompt_events.specs.Faults.{FindsFirst}
-use Rattle.checker.specs.Merge.{Stands, IsUnplaced, IsTaken, MayFollow}
+use Rattle.checker.specs.Merge.{Stands, IsUnplaced, IsPlaceTaken, MayStandNext}
 use Rattle.ompt_events.specs.declared.cause.Cause.TheVariants.{NoOrder}
 use Rattle.checker.proofs.MergingLemmas.{IsMerging, merging_start, merging_more, missing_less, passed_more}
 use Rattle.checker.proofs.MergingLemmas.{finds_unordered, all_stand, all_ordered}
@@ -60,7 +60,7 @@ release-requires-clause-front c =
     let low = c.merge.low in
     let now_low = c.first_missing-low-in-Some.result in
     let merging = c.merge.invariant.merging in
-    let taken : IsTaken rs placed place c.take_first.new.ready =
+    let taken : IsPlaceTaken rs placed place c.take_first.new.ready =
     (rw c.deref-in-merge.ensures.value at c.in-Some.ensures.taken) rs c.merge.invariant.ready in
     let runs = thread_there rs place taken.next.within in
     let now_placed = c.place.new.self.placed.items in
@@ -91,7 +91,7 @@ release-requires-clause-front c =
 pub merge-smaller : goal.merge-smaller
 merge-smaller c =
     let placed = c.merge.standing.placed.items in
-    let taken : IsTaken c.run-run.result.now.records placed c.in-Some.place c.take_first.new.ready =
+    let taken : IsPlaceTaken c.run-run.result.now.records placed c.in-Some.place c.take_first.new.ready =
     (rw c.deref-in-merge.ensures.value at c.in-Some.ensures.taken) c.run-run.result.now.records
     c.merge.invariant.ready in
     rw c.place.ensures.placed
@@ -109,7 +109,7 @@ merge-preserved c =
     let low = c.merge.low in
     let now_low = c.first_missing-low-in-Some.result in
     let merging = c.merge.invariant.merging in
-    let taken : IsTaken rs placed place c.take_first.new.ready =
+    let taken : IsPlaceTaken rs placed place c.take_first.new.ready =
     (rw c.deref-in-merge.ensures.value at c.in-Some.ensures.taken) rs c.merge.invariant.ready in
     let runs = thread_there rs place taken.next.within in
     let now_placed = c.place.new.self.placed.items in
@@ -170,7 +170,7 @@ merge-preserved c =
 pub returns-in_err-exclude-clause-fault : goal.returns-in_err-exclude-clause-fault
 returns-in_err-exclude-clause-fault c =
     let rs = c.run-run.result.now.records in
-    let none : (j : ℕ) → MayFollow rs c.merge.standing.placed.items j → ⊥ =
+    let none : (j : ℕ) → MayStandNext rs c.merge.standing.placed.items j → ⊥ =
     (rw c.deref-in-merge.ensures.value at c.in_default.ensures.none) rs c.merge.invariant.ready in
     let finds : FindsFirst rs NoOrder c.first_unplaced.result =
     finds_unordered rs c.merge.standing.placed.items c.merge.standing.heads.items
@@ -186,7 +186,7 @@ returns-clause-linearization c =
     let rs = c.run-run.result.now.records in
     let placed = c.merge.standing.placed.items in
     let standing = c.merge.invariant.merging.standing in
-    let none : (j : ℕ) → MayFollow rs placed j → ⊥ =
+    let none : (j : ℕ) → MayStandNext rs placed j → ⊥ =
     (rw c.deref-in-merge.ensures.value at c.in_default.ensures.none) rs c.merge.invariant.ready in
     let finds : FindsFirst rs NoOrder c.first_unplaced.result =
     finds_unordered rs placed c.merge.standing.heads.items c.merge.standing.links.items
@@ -202,7 +202,7 @@ returns-clause-linearization c =
 pub returns-clause-free : goal.returns-clause-free
 returns-clause-free c =
     let rs = c.run-run.result.now.records in
-    let none : (j : ℕ) → MayFollow rs c.merge.standing.placed.items j → ⊥ =
+    let none : (j : ℕ) → MayStandNext rs c.merge.standing.placed.items j → ⊥ =
     (rw c.deref-in-merge.ensures.value at c.in_default.ensures.none) rs c.merge.invariant.ready in
     let finds : FindsFirst rs NoOrder c.first_unplaced.result =
     finds_unordered rs c.merge.standing.placed.items c.merge.standing.heads.items

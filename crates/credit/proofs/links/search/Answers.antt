@@ -1,6 +1,6 @@
 use Rattle.std.proofs.Common.{◌≡◌, ◌+◌, ◌-◌, ◌/◌, length, sym, ◌∙◌, ap, arith}
 use Rattle.credit.specs.declared.links.Link.{Link}
-use Rattle.credit.specs.Links.{behind, is_link_of, spot_within}
+use Rattle.credit.specs.Links.{link_behind, is_link_of, spot_within}
 use Rattle.credit.proofs.LinkLemmas.{search-missing, search-found, search-on}
 use Rattle.credit.proofs.links.search.Goals as goal
 
@@ -9,7 +9,7 @@ returns-then-next-eq0 c =
     sym
     (search-missing c.args.links.now (length c.args.links.now - c.links.counter) c.args.index c.args.number
     c.links.digits c.links.at c.behind-next.result c.links.side (omega arith)
-    (c.behind-next.ensures ∙ ap (λ (l : Link). behind l c.links.side) c.links.invariant.link)
+    (c.behind-next.ensures ∙ ap (λ (l : Link). link_behind l c.links.side) c.links.invariant.link)
     c.if-next-eq0.true)
     ∙ c.links.invariant.spot
 
@@ -18,7 +18,7 @@ returns-then-is_of c =
     sym
     (search-found c.args.links.now (length c.args.links.now - c.links.counter) c.args.index c.args.number
     c.links.digits c.links.at c.behind-next.result c.links.side (omega arith)
-    (c.behind-next.ensures ∙ ap (λ (l : Link). behind l c.links.side) c.links.invariant.link)
+    (c.behind-next.ensures ∙ ap (λ (l : Link). link_behind l c.links.side) c.links.invariant.link)
     (λ f. omega (arith, f, c.if-next-eq0.false))
     (ap (is_link_of c.args.index c.args.number) (sym c.link_of-sibling.ensures) ∙ sym c.is_of.ensures
     ∙ c.if-is_of.true))
@@ -43,7 +43,7 @@ links-preserved c =
           ∙ sym
           (search-on c.args.links.now (length c.args.links.now - c.links.counter) c.args.index c.args.number
           c.links.digits c.links.at c.behind-next.result c.links.side (omega arith)
-          (c.behind-next.ensures ∙ ap (λ (l : Link). behind l c.links.side) c.links.invariant.link)
+          (c.behind-next.ensures ∙ ap (λ (l : Link). link_behind l c.links.side) c.links.invariant.link)
           (λ f. omega (arith, f, c.if-next-eq0.false))
           (ap (is_link_of c.args.index c.args.number) (sym c.link_of-sibling.ensures) ∙ sym c.is_of.ensures
           ∙ c.if-is_of.false))

@@ -3,7 +3,7 @@ use Rattle.std.proofs.Common.{sym, ◌∙◌, subst, arith}
 use Rattle.std.specs.Prelude.{reverse}
 use Rattle.std.proofs.lemmas.Bool.{both_ways}
 use Rattle.credit.specs.declared.tree.Node.{Node}
-use Rattle.credit.specs.Trees.{child, place, node_at, with_child, progress_at, IsSettling, IsFull}
+use Rattle.credit.specs.Trees.{child, place, node_at, with_held_child, progress_at, IsSettling, IsFull}
 use Rattle.credit.proofs.TreeLemmas.{reverse_take_more, progress_at-place}
 use Rattle.credit.proofs.SettleLemmas.{IsKnown-stopped}
 use Rattle.credit.proofs.UpdateLemmas.{place-within}
@@ -105,11 +105,11 @@ levels-preserved c =
     ap (λ (x : Node). x.parent) c.node-index.ensures in
     let nodes : c.count_child.new.self.nodes.items
     ≡ set c.mark.new.self.nodes.items (node_at c.mark.new.self c.levels.index).parent
-    (with_child (node_at c.mark.new.self (node_at c.mark.new.self c.levels.index).parent)) =
+    (with_held_child (node_at c.mark.new.self (node_at c.mark.new.self c.levels.index).parent)) =
     subst
     (λ p.
     c.count_child.new.self.nodes.items
-    ≡ set c.mark.new.self.nodes.items p (with_child (node_at c.mark.new.self p))) e
+    ≡ set c.mark.new.self.nodes.items p (with_held_child (node_at c.mark.new.self p))) e
     c.count_child.ensures.nodes in
     let long =
     length-counted c.args.shares.now c.levels.tree c.mark.new.self c.levels.index

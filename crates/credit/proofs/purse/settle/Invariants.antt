@@ -1,11 +1,11 @@
 use Rattle.std.proofs.Common.{◌≡◌, ◌≤◌, ◌<◌, take, Some, length}
 use Rattle.std.specs.Prelude.{reverse}
-use Rattle.credit.specs.Trees.{place, child, progress_at, IsLinked, IsSettling}
+use Rattle.credit.specs.Trees.{place, child, progress_at, IsTreeLinked, IsSettling}
 use Rattle.credit.proofs.purse.settle.Given as goal
 
 abbrev pub invariant-levels : goal.invariant-levels
 invariant-levels l = record {
-  linked : IsLinked l.tree;
+  linked : IsTreeLinked l.tree;
   place : place (child l.tree) (reverse (take l.depth l.runs)) ≡ Some l.index;
   settling : IsSettling l.shares (progress_at l.tree) (reverse (take l.depth l.runs));
   within : 0 < length l.tree.nodes.items;

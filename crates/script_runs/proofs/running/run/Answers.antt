@@ -1,6 +1,6 @@
 use Rattle.std.proofs.Common.{◌∙◌, ap}
 use Rattle.ompt_events.specs.Traces.{TraceView}
-use Rattle.script_runs.specs.Calls.{records_of, recorded_calls}
+use Rattle.script_runs.specs.Calls.{thread_records, recorded_calls}
 use Rattle.script_runs.proofs.GatherLemmas.{gathered_calls}
 use Rattle.script_runs.proofs.running.run.Goals as goal
 
@@ -11,7 +11,7 @@ returns-in-Ok-gather-clause-trace g c =
     let made = c.in-Ok-gather.ensures in
     record {
       version = ap (λ (t : TraceView). t.version) made.trace;
-      calls = λ thread. ap (λ (t : TraceView). recorded_calls (records_of t.records thread)) made.trace
+      calls = λ thread. ap (λ (t : TraceView). recorded_calls (thread_records t.records thread)) made.trace
           ∙ gathered_calls c.args.script c.in_ok-script.recorders.items closed c.in_ok-script.ensures.run
           had.buffers had.are_closed made.apart thread;
       closed = closed;

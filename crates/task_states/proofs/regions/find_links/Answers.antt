@@ -7,7 +7,7 @@ use Rattle.ompt_events.specs.Records.{region}
 use Rattle.ompt_events.specs.Places.{at}
 use Rattle.ompt_events.specs.Causes.{HasCause}
 use Rattle.task_tree.specs.Runs.{RunView, IsRegionEvent}
-use Rattle.task_states.specs.Regions.{IsJudged, IsEarliest, top_after}
+use Rattle.task_states.specs.Regions.{IsPlaceJudged, IsEarliest, top_after}
 use Rattle.task_states.proofs.RegionLemmas.{top_of, free_of_order, innermost_here, judged_has}
 use Rattle.task_states.proofs.RegionLemmas.{earliest_silent, earliest_first, open_more_own, open_more_none}
 use Rattle.task_states.proofs.regions.find_links.Goals as goal
@@ -61,7 +61,7 @@ loop-number-preserved c =
     let is_top : opened ≡ top_of innermost event.task =
     c.index-opened.ensures
     ∙ get_or_default innermost event.task opened None (omega (arith, inside, tops)) in
-    let P : Option ℕ → Type 0 = λ o. IsJudged rs n o c.is_misplaced-misplaced.result in
+    let P : Option ℕ → Type 0 = λ o. IsPlaceJudged rs n o c.is_misplaced-misplaced.result in
     let judged = subst P c.get.ensures c.is_misplaced-misplaced.ensures in
     let Q : RunView → Type 0 =
     λ r. IsTrue c.is_misplaced-misplaced.result ↔ HasCause r.records n RegionOrder in

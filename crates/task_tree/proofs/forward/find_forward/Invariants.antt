@@ -1,6 +1,6 @@
-use Rattle.task_tree.specs.Forward.{AreStanding}
+use Rattle.task_tree.specs.Forward.{AreStandingsKnown}
 use Rattle.task_tree.proofs.forward.find_forward.Given as goal
 
 -- the tasks so far stand
 abbrev pub invariant-loop-index : goal.invariant-loop-index
-invariant-loop-index l = AreStanding l.records l.index l.tasks l.roots.items
+invariant-loop-index l = AreStandingsKnown l.records l.index l.tasks l.roots.items

@@ -2,7 +2,7 @@ use Rattle.std.proofs.Common.{◌∙◌, sym, ap, arith}
 use Rattle.std.proofs.lemmas.Bool.{false≢true, lt-ltb}
 use Rattle.std.specs.Prelude.{not, is_some}
 use Rattle.task_tree.specs.Rising.{may_next}
-use Rattle.task_tree.proofs.RisingPassLemmas.{may_follow}
+use Rattle.task_tree.proofs.RisingPassLemmas.{next_may_follow}
 use Rattle.task_tree.proofs.rising.may_begin.Goals as goal
 
 pub returns-then-not-is_next : goal.returns-then-not-is_next
@@ -13,7 +13,7 @@ returns-then-not-is_next c records task family stands = (
       (false≢true
       (sym c.if-not-is_next.true
       ∙ c.is_next.ensures.1
-      (may_follow records task c.args.begin.turn c.args.event.now.body c.args.known
+      (next_may_follow records task c.args.begin.turn c.args.event.now.body c.args.known
       (λ none.
       false≢true
       (sym (ap is_some (c.told_turns.ensures ∙ none)) ∙ c.is_none.ensures
@@ -35,7 +35,7 @@ returns-else-begin-gt0 c records task family stands =
       λ is. may_next (c.is_next.ensures.0 c.if-not-is_next.false) (λ first. explicit.0 is),
       λ may.
           explicit.1
-          ((may_follow records task c.args.begin.turn c.args.event.now.body c.args.known
+          ((next_may_follow records task c.args.begin.turn c.args.event.now.body c.args.known
           (λ none.
           false≢true
           (sym (ap is_some (c.told_turns.ensures ∙ none)) ∙ c.is_none.ensures

@@ -1,7 +1,7 @@
 use Rattle.std.proofs.Common.{◌≡◌, ◌<◌, ◌≤◌, ◌∙◌, Some, length, arith, rules, refl}
 use Rattle.std.specs.Prelude.{slice_get}
 use Rattle.std.proofs.lemmas.Option.{slice_get_within, slice_get_read}
-use Rattle.task_tree.proofs.RootLemmas.{below_it, task_reached, turned, spreads_keeps, roots_found}
+use Rattle.task_tree.proofs.RootLemmas.{below_it, task_reached, turn_seeded, spreads_keeps, roots_found}
 use Rattle.task_tree.proofs.roots.find_downward.Goals as goal
 
 pub row-requires : goal.row-requires
@@ -39,7 +39,7 @@ reached-preserved c =
     c.reached.invariant.reach.reach here in
     let list = c.row.ensures ∙ c.requires.rows.each entry.index own.0 own.1 in
     let turn =
-    turned rs c.args.tasks.now c.reached.roots.items order c.row.result.now
+    turn_seeded rs c.args.tasks.now c.reached.roots.items order c.row.result.now
     c.reach_children.new.roots.items c.reach_children.new.order.items c.reached.next own.0 entry
     c.reached.invariant.reach c.reached.invariant.closed within here own.1 list
     c.in_ok-reach_children.ensures in

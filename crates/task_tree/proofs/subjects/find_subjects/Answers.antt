@@ -4,7 +4,7 @@ use Rattle.std.proofs.lemmas.Option.{slice_get_within}
 use Rattle.ompt_events.specs.Records.{creation}
 use Rattle.ompt_events.specs.Places.{at}
 use Rattle.ompt_events.proofs.PlaceLemmas.{at_read, read_get, none_from_test}
-use Rattle.task_tree.specs.Rootless.{AreKnown}
+use Rattle.task_tree.specs.Rootless.{AllNameKnown}
 use Rattle.task_tree.proofs.RootlessLemmas.{known_start, known_more}
 use Rattle.task_tree.specs.Subjects.{subject, object}
 use Rattle.task_tree.proofs.SubjectLemmas.{up_to_start, up_to_more, up_to_end, created_names, finds_slot}
@@ -77,7 +77,7 @@ loop-at-preserved c =
     let objects =
     up_to_more object rs i tasks c.loop-at.objects.items found.object c.loop-at-test.true
     c.loop-at.invariant.objects (rw names c.look_up-found.ensures.object) in
-    let known : IsTrue c.look_up-found.new.known → AreKnown rs (i + 1) tasks c.args.regions.now = λ yes.
+    let known : IsTrue c.look_up-found.new.known → AllNameKnown rs (i + 1) tasks c.args.regions.now = λ yes.
     let both = c.look_up-found.ensures.known yes in
     known_more rs i tasks c.args.regions.now event (c.loop-at.invariant.known both.0)
     (read_get rs i event c.loop-at-test.true c.index-records-at.is) both.1 in

@@ -6,7 +6,7 @@ use Rattle.ompt_events.specs.Records.{running}
 use Rattle.ompt_events.specs.Places.{at}
 use Rattle.ompt_events.proofs.PlaceLemmas.{at_read, thread_read, read_get}
 use Rattle.task_tree.proofs.SubjectLemmas.{call_task}
-use Rattle.task_tree.specs.TurnTable.{no_mark, turn_on, AreMarks}
+use Rattle.task_tree.specs.TurnTable.{no_mark, turn_on, AreTurnMarks}
 use Rattle.task_tree.proofs.WalkLemmas.{turn_marked}
 use Rattle.task_tree.proofs.turn_table.turn_before.Goals as goal
 
@@ -30,4 +30,4 @@ returns-in-Some c thread by_thread marks =
     ∙ turn_marked rs tasks i index own.0 r mark c.args.marks.now
     (read_get rs i r c.requires.within c.index-records-at.is)
     (sym (at_read running rs i r c.requires.within c.index-records-at.is) ∙ own.1) own.2 there
-    (subst (λ t. AreMarks rs tasks t i c.args.marks.now) thread_is marks)
+    (subst (λ t. AreTurnMarks rs tasks t i c.args.marks.now) thread_is marks)

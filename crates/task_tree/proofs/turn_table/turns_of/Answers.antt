@@ -1,5 +1,5 @@
 use Rattle.std.proofs.Common.{◌≡◌, arith, rules, subst}
-use Rattle.task_tree.specs.TurnTable.{IsWalkAt}
+use Rattle.task_tree.specs.TurnTable.{IsTableAt}
 use Rattle.task_tree.proofs.WalkLemmas.{walked_turns, walked_order}
 use Rattle.task_tree.proofs.turn_table.turns_of.Goals as goal
 
@@ -10,7 +10,7 @@ returns-clause-turns c =
     let walk = c.loop-thread.walk in
     let chains = c.in_ok-chains.ensures in
     walked_turns rs tasks walk (λ i thread is. chains.narrow i thread (omega arith) is)
-    (subst (λ t. IsWalkAt rs tasks t 0 walk)
+    (subst (λ t. IsTableAt rs tasks t 0 walk)
     (let last : c.loop-thread.thread ≡ 256 = search rules in last) c.loop-thread.invariant)
 
 pub returns-clause-order : goal.returns-clause-order
@@ -22,6 +22,6 @@ returns-clause-order c =
     record {
       order =
           walked_order rs tasks walk (λ i thread is. chains.narrow i thread (omega arith) is)
-          (subst (λ t. IsWalkAt rs tasks t 0 walk)
+          (subst (λ t. IsTableAt rs tasks t 0 walk)
           (let last : c.loop-thread.thread ≡ 256 = search rules in last) c.loop-thread.invariant);
     }

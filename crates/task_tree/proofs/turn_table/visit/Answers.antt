@@ -4,7 +4,7 @@ use Rattle.std.proofs.lemmas.Option.{slice_get_within, slice_get_read, get_or_fr
 use Rattle.std.specs.Prelude.{slice_get}
 use Rattle.ompt_events.specs.declared.records.Record.{Record}
 use Rattle.ompt_events.proofs.PlaceLemmas.{thread_read, thread_index}
-use Rattle.task_tree.specs.TurnTable.{turn_on, AreMarks, IsWalkAt}
+use Rattle.task_tree.specs.TurnTable.{turn_on, AreTurnMarks, IsTableAt}
 use Rattle.std.specs.Vec.{with_item}
 use Rattle.task_tree.specs.declared.turn_table.Walk.{Walk}
 use Rattle.task_tree.proofs.WalkLemmas.{record_there, walk_keep, walk_put}
@@ -26,9 +26,9 @@ returns-in_default c thread by_thread =
     let same = there.2 in
     let before = c.requires.before r.thread (by_thread ∙ ap Some same) in
     let marks =
-    subst (AreMarks rs tasks thread i) (sym c.as_slice.ensures.value)
-    (subst (λ t. AreMarks rs tasks t i q.marks.items) (sym same) before.marks) in
-    subst (λ t. IsWalkAt rs tasks t (i + 1) new) (sym same)
+    subst (AreTurnMarks rs tasks thread i) (sym c.as_slice.ensures.value)
+    (subst (λ t. AreTurnMarks rs tasks t i q.marks.items) (sym same) before.marks) in
+    subst (λ t. IsTableAt rs tasks t (i + 1) new) (sym same)
     (walk_keep rs tasks i c.turn_before.result r q new c.requires.within
     (sym (get_or_from_slice_get rs i r r there.1)) before
     (c.turn_before.ensures thread by_thread marks) c.in_default.ensures refl refl refl)
@@ -83,10 +83,10 @@ returns c thread by_thread =
       in_order = c.stays_in_order-walk.result;
     } in
     let marks =
-    subst (AreMarks rs tasks thread i) (sym c.as_slice.ensures.value)
-    (subst (λ t. AreMarks rs tasks t i q.marks.items) (sym same) before.marks) in
+    subst (AreTurnMarks rs tasks thread i) (sym c.as_slice.ensures.value)
+    (subst (λ t. AreTurnMarks rs tasks t i q.marks.items) (sym same) before.marks) in
     let turn = c.turn_before.ensures thread by_thread marks in
-    subst (λ t. IsWalkAt rs tasks t (i + 1) new) (sym same) (walk_put rs tasks i c.turn_before.result index
+    subst (λ t. IsTableAt rs tasks t (i + 1) new) (sym same) (walk_put rs tasks i c.turn_before.result index
     start.task next r mark q new c.requires.within read before turn c.requires.family.makers.apart
     start.starts start.indexed marked refl
     (ap (λ (s : Record). set q.marks.items index (record { turn = next; thread = s.thread })) (sym read))

@@ -1,6 +1,6 @@
 use Rattle.std.proofs.Common.{◌≡◌, ◌<◌, ◌≤◌, ◌-◌, Some, length}
 use Rattle.ompt_events.specs.Places.{thread_at}
-use Rattle.task_tree.specs.TurnTable.{IsWalkAt}
+use Rattle.task_tree.specs.TurnTable.{IsTableAt}
 use Rattle.task_tree.proofs.turn_table.walk_thread.Given as goal
 
 -- the records of the thread before the next one are gone over
@@ -8,7 +8,7 @@ abbrev pub invariant-chain : goal.invariant-chain
 invariant-chain l = record {
   within : l.at ≤ length l.records;
   is : l.at < length l.records → thread_at l.records l.at ≡ Some l.thread;
-  walk : IsWalkAt l.records l.family.tasks l.thread l.at l.walk;
+  walk : IsTableAt l.records l.family.tasks l.thread l.at l.walk;
 }
 
 abbrev pub decreases-chain : goal.decreases-chain

@@ -1,5 +1,5 @@
 use Rattle.std.proofs.Common.{◌≡◌, ◌∙◌, rules, ◌<◌, None, replicate, length, sym, ap, subst, arith}
-use Rattle.trace_ledger.specs.Makers.{AreMakers}
+use Rattle.trace_ledger.specs.Makers.{AreEntryRecords}
 use Rattle.trace_ledger.proofs.MakerLemmas.{makers_start, makers_same, makers_more}
 use Rattle.trace_ledger.proofs.makers.find_makers.Goals as goal
 use Rattle.trace_ledger.proofs.makers.find_makers.Goals.{then-is_finishing, else-is_finishing}
@@ -30,4 +30,4 @@ returns c =
       c.loop-at.auto.at-end,
       c.len-at-end.ensures.value,
     ) in
-    subst (λ n. AreMakers rs n c.loop-at.makers.items) last c.loop-at.invariant
+    subst (λ n. AreEntryRecords rs n c.loop-at.makers.items) last c.loop-at.invariant

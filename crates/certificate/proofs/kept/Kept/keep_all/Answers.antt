@@ -4,7 +4,7 @@ use Rattle.std.specs.Prelude.{All}
 use Rattle.std.specs.Result.{is_ok}
 use Rattle.ompt_events.specs.Limits.{max_records, max_tasks}
 use Rattle.ompt_events.specs.Traces.{TraceView, IsSoundIn, tasks_in}
-use Rattle.certificate.specs.Keeping.{IsKept}
+use Rattle.certificate.specs.Keeping.{IsTraceKept}
 use Rattle.certificate.proofs.RoomLemmas.{HaveRoom-few, IsKept-append}
 use Rattle.certificate.proofs.kept.Kept.keep_all.Goals as goal
 
@@ -42,7 +42,7 @@ few_tasks c =
     )
 
 kept_is : (c : goal.After-drop-records-2)
-    → IsKept c.self-2.inside.version (c.self-2.inside.records.items ++ c.args.records.items)
+    → IsTraceKept c.self-2.inside.version (c.self-2.inside.records.items ++ c.args.records.items)
     (c.self-2.inside.tasks + c.args.tasks)
 kept_is c =
     let same : c.self-2.inside.version ≡ c.args.self.now.version =

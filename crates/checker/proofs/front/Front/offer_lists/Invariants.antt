@@ -1,7 +1,7 @@
 use Rattle.std.proofs.Common.{◌≡◌, ◌<◌, ◌≤◌, ℕ, Option, Some, length}
 use Rattle.std.specs.Prelude.{Contains}
 use Rattle.checker.specs.Lists.{AreLists}
-use Rattle.checker.specs.Merge.{MayFollow, AreMore}
+use Rattle.checker.specs.Merge.{MayStandNext, AreMore}
 use Rattle.checker.proofs.front.Front.offer_lists.Given as goal
 
 -- the lists so far are offered
@@ -11,5 +11,5 @@ invariant-loop-key l = record {
   offered : (of : ℕ → Option ℕ)
       → AreLists of (length l.self.run.now.records) 0 l.lists.firsts.items l.lists.nexts.items
       → (i k : ℕ) → l.from ≤ k → k < l.key → of i ≡ Some k
-      → MayFollow l.self.run.now.records l.self.placed.now i → Contains l.ready i;
+      → MayStandNext l.self.run.now.records l.self.placed.now i → Contains l.ready i;
 }

@@ -1,5 +1,5 @@
 use Rattle.std.proofs.Common.{arith}
-use Rattle.checker.specs.Merge.{length_of}
+use Rattle.checker.specs.Merge.{named_length}
 use Rattle.checker.proofs.FrontLemmas.{more_then}
 use Rattle.checker.proofs.waiting.Waiting.release.Goals as goal
 
@@ -26,5 +26,5 @@ returns-clause-awaiting c =
 pub returns-clause-naming : goal.returns-clause-naming
 returns-clause-naming c =
     λ i k above below is may.
-    c.in_ok-offer_lists.ensures.offered (length_of c.args.front.now.run.now.records)
+    c.in_ok-offer_lists.ensures.offered (named_length c.args.front.now.run.now.records)
     c.requires.waiting.naming i k (omega (arith, above)) (omega (arith, below)) is may

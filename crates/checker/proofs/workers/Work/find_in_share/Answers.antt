@@ -1,7 +1,7 @@
 use Rattle.std.proofs.Common.{sym, subst, ℕ, ◌<◌, ◌+◌}
 use Rattle.std.proofs.lemmas.Option.{slice_get-get_or}
 use Rattle.checker.specs.Readings.{by_task}
-use Rattle.checker.specs.Deciding.{WorkView, IsShared, IsMet}
+use Rattle.checker.specs.Deciding.{WorkView, IsShared, IsStopMet}
 use Rattle.checker.proofs.ShareLemmas.{met_more, met_whole, next_of_share}
 use Rattle.checker.proofs.workers.Work.find_in_share.Goals as goal
 
@@ -9,7 +9,7 @@ use Rattle.checker.proofs.workers.Work.find_in_share.Goals as goal
 abbrev Keeps : ℕ → ℕ → WorkView → Type 0
 Keeps worker next work = IsShared work.workers worker next
     × ((index : ℕ) → index < next → IsShared work.workers worker index
-    → IsMet (by_task work.records) work.stops index)
+    → IsStopMet (by_task work.records) work.stops index)
 
 pub loop-stop-preserved : goal.loop-stop-preserved
 loop-stop-preserved c =
@@ -29,7 +29,7 @@ pub returns-clause-found : goal.returns-clause-found
 returns-clause-found c =
     let inside = c.self.inside in
     let P : WorkView → Type 0 =
-    λ w. (index : ℕ) → IsShared w.workers c.args.worker index → IsMet (by_task w.records) w.stops index in
+    λ w. (index : ℕ) → IsShared w.workers c.args.worker index → IsStopMet (by_task w.records) w.stops index in
     let Q : WorkView → Type 0 = Keeps c.args.worker c.loop-stop.stop in
     let before = subst Q (sym c.self.view_is) c.loop-stop.invariant in
     subst P c.self.view_is

@@ -1,13 +1,13 @@
 use Rattle.std.proofs.Common.{◌∷◌, ◌++◌, [], length, Some, ◌∙◌, ap, refl, arith}
 use Rattle.credit_ledger.specs.Histories.{entries_after}
-use Rattle.credit_ledger.proofs.LockLemmas.{looks_as, calls_as, looked, entered, turned}
+use Rattle.credit_ledger.proofs.LockLemmas.{looks_as, calls_as, looked, entered, turn_view}
 use Rattle.credit_ledger.proofs.shared.SharedLedger.enter.Goals as goal
 
 pub store-requires : goal.store-requires
 store-requires g c =
     let h = c.await_turn.new.place.me.0.seen in
     let is =
-    turned c.args.seat.now.place.me.0 c.draw-ticket.result h c.draw-ticket.new.place.me
+    turn_view c.args.seat.now.place.me.0 c.draw-ticket.result h c.draw-ticket.new.place.me
     c.await_turn.new.place.me c.draw-ticket.ensures.ticket c.await_turn.ensures.view in (
       c.put.ensures.place ∙ c.await_turn.ensures.place ∙ c.draw-ticket.ensures.place ∙ c.requires.seat,
       omega (arith, c.args.self.now.counts.0),
@@ -26,7 +26,7 @@ store-requires-in-Err g c =
       looks_as c.args.self.now.board.shared.table_id.slots c.put.new.place.id c.put.new.place.me
           c.args.seat.now.place.me.0 c.draw-ticket.result h c.args.self.now.counts.1
           (c.in-Err.ensures.unchanged
-          ∙ turned c.args.seat.now.place.me.0 c.draw-ticket.result h c.draw-ticket.new.place.me
+          ∙ turn_view c.args.seat.now.place.me.0 c.draw-ticket.result h c.draw-ticket.new.place.me
           c.await_turn.new.place.me c.draw-ticket.ensures.ticket c.await_turn.ensures.view),
     )
 

@@ -1,6 +1,6 @@
 use Rattle.std.proofs.Common.{◌∷◌, [], Some, ap, ◌∙◌, arith}
 use Rattle.credit_ledger.specs.Histories.{entries_after}
-use Rattle.credit_ledger.specs.Seats.{with_turn}
+use Rattle.credit_ledger.specs.Seats.{turn_taken}
 use Rattle.credit_ledger.proofs.LockLemmas.{looks_as, looked}
 use Rattle.credit_ledger.proofs.shared.SharedLedger.look.Goals as goal
 
@@ -8,7 +8,7 @@ pub store-requires : goal.store-requires
 store-requires g c =
     let h = c.await_turn.new.place.me.0.seen in
     let is = c.count-len.ensures.view ∙ c.await_turn.ensures.view
-    ∙ ap (λ m. (with_turn m.0 h, (0, Some (entries_after h)) ∷ [])) c.draw-ticket.ensures.ticket in (
+    ∙ ap (λ m. (turn_taken m.0 h, (0, Some (entries_after h)) ∷ [])) c.draw-ticket.ensures.ticket in (
       c.count-len.ensures.place ∙ c.await_turn.ensures.place ∙ c.draw-ticket.ensures.place ∙ c.requires.seat,
       omega (arith, c.args.self.now.counts.0),
       looks_as c.args.self.now.board.shared.table_id.slots c.count-len.new.place.id c.count-len.new.place.me

@@ -4,7 +4,7 @@ use Rattle.credit_ledger.specs.declared.entry.Cover.TheVariants.{Descendants}
 use Rattle.credit_ledger.specs.Entries.{IsSpanHeld}
 use Rattle.credit_ledger.specs.Histories.{entries_after, IsOver}
 use Rattle.credit_ledger.proofs.OverLemmas.{over_by}
-use Rattle.credit_ledger.proofs.LockLemmas.{looks_as, looked, looked-list, turned, if_ok-map}
+use Rattle.credit_ledger.proofs.LockLemmas.{looks_as, looked, looked-list, turn_view, if_ok-map}
 use Rattle.credit_ledger.proofs.shared.SharedLedger.whole.Goals as goal
 
 pub store-requires : goal.store-requires
@@ -15,7 +15,7 @@ store-requires g c =
       looks_as c.args.self.now.board.shared.table_id.slots c.held-whole.new.place.id c.held-whole.new.place.me
           c.args.seat.now.place.me.0 c.draw-ticket.result h c.args.self.now.counts.1
           (c.held-whole.ensures.view
-          ∙ turned c.args.seat.now.place.me.0 c.draw-ticket.result h c.draw-ticket.new.place.me
+          ∙ turn_view c.args.seat.now.place.me.0 c.draw-ticket.result h c.draw-ticket.new.place.me
           c.await_turn.new.place.me c.draw-ticket.ensures.ticket c.await_turn.ensures.view),
     )
 

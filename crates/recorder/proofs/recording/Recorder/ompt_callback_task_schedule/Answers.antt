@@ -2,14 +2,14 @@ use Rattle.std.proofs.Common.{◌≡◌, subst, Some, MutBor}
 use Rattle.std.specs.Prelude.{OnOk, OnErr}
 use Rattle.std.proofs.lemmas.Option.{same_Some}
 use Rattle.std.proofs.lemmas.Result.{on_ok_weaker}
-use Rattle.recorder.specs.Tasks.{TaskView, started}
+use Rattle.recorder.specs.Tasks.{TaskView, after_start}
 use Rattle.recorder.specs.Schedules.{schedule_of}
 use Rattle.recorder.proofs.CreditLemmas.{moves_credit}
 use Rattle.recorder.proofs.recording.Recorder.ompt_callback_task_schedule.Goals as goal
 
 pub returns-in-Some-clause-started : goal.returns-in-Some-clause-started
 returns-in-Some-clause-started g c = rw c.in-Some.is (λ n same.
-    subst (λ (m : MutBor TaskView). OnOk c.switch.result (c.switch.new.next ≡ started m.now))
+    subst (λ (m : MutBor TaskView). OnOk c.switch.result (c.switch.new.next ≡ after_start m.now))
     (same_Some c.in-Some.next n same) c.switch.ensures.started)
 
 pub returns-in-Some-clause-unchanged : goal.returns-in-Some-clause-unchanged

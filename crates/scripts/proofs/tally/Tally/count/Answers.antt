@@ -1,7 +1,7 @@
 use Rattle.std.proofs.Common.{◌≡◌, ◌+◌, [], ◌∷◌, ◌++◌, true, false, cond, rules, arith, sym, ap, ◌∙◌}
 use Rattle.std.specs.Prelude.{is_some}
 use Rattle.ompt_events.specs.Records.{made}
-use Rattle.scripts.specs.Scripts.{tasks_of}
+use Rattle.scripts.specs.Scripts.{task_count}
 use Rattle.scripts.proofs.TallyLemmas.{beyond-more, counted-more, tasks-more}
 use Rattle.scripts.proofs.tally.Tally.count.Goals as goal
 
@@ -9,8 +9,8 @@ pub returns-then-is_some : goal.returns-then-is_some
 returns-then-is_some c = λ steps tally.
     let makes : is_some (made c.args.step.now.body) ≡ true =
     ap is_some (sym c.made.ensures) ∙ sym c.is_some.ensures ∙ c.if-is_some.true in
-    let more : tasks_of (steps ++ c.args.step.now ∷ []) ≡ tasks_of steps + 1 =
-    tasks-more steps c.args.step.now ∙ ap (λ b. tasks_of steps + cond b 1 0) makes in
+    let more : task_count (steps ++ c.args.step.now ∷ []) ≡ task_count steps + 1 =
+    tasks-more steps c.args.step.now ∙ ap (λ b. task_count steps + cond b 1 0) makes in
     record {
       threads = search rules;
       counted =
@@ -27,8 +27,8 @@ pub returns-else-is_some : goal.returns-else-is_some
 returns-else-is_some c = λ steps tally.
     let makes : is_some (made c.args.step.now.body) ≡ false =
     ap is_some (sym c.made.ensures) ∙ sym c.is_some.ensures ∙ c.if-is_some.false in
-    let more : tasks_of (steps ++ c.args.step.now ∷ []) ≡ tasks_of steps + 0 =
-    tasks-more steps c.args.step.now ∙ ap (λ b. tasks_of steps + cond b 1 0) makes in
+    let more : task_count (steps ++ c.args.step.now ∷ []) ≡ task_count steps + 0 =
+    tasks-more steps c.args.step.now ∙ ap (λ b. task_count steps + cond b 1 0) makes in
     record {
       threads = search rules;
       counted =

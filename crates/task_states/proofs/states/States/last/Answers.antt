@@ -1,6 +1,6 @@
 use Rattle.std.proofs.Common.{None, length, refl, subst, arith}
 use Rattle.std.proofs.lemmas.Option.{slice_get_within, slice_get_read}
-use Rattle.task_states.specs.States.{StatesView, IsLast}
+use Rattle.task_states.specs.States.{StatesView, IsLastState}
 use Rattle.task_states.proofs.StateLemmas.{last_is, last_none}
 use Rattle.task_states.proofs.states.States.last.Goals as goal
 
@@ -21,12 +21,12 @@ returns-in-Some c =
     let read =
     slice_get_read inside.states.items (length inside.states.items) c.in-Some.index c.index.result.now
     refl (omega (arith, all, within)) c.index.ensures in
-    let P : StatesView → Type 0 = λ s. IsLast s.run.records c.args.task c.index.result.now in
+    let P : StatesView → Type 0 = λ s. IsLastState s.run.records c.args.task c.index.result.now in
     subst P c.self.view_is
     (last_is _ c.args.task c.in-Some.index c.index.result.now c.self.invariant stands read)
 
 pub returns-in-None : goal.returns-in-None
 returns-in-None c =
-    let P : StatesView → Type 0 = λ s. IsLast s.run.records c.args.task None in
+    let P : StatesView → Type 0 = λ s. IsLastState s.run.records c.args.task None in
     subst P c.self.view_is
     (last_none _ c.args.task c.index_of.result c.self.invariant c.index_of.ensures c.in-None.is)

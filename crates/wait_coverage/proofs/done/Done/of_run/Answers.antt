@@ -4,7 +4,7 @@ use Rattle.std.specs.Prelude.{map}
 use Rattle.teams.specs.Teams.{TeamsView}
 use Rattle.task_tree.specs.Runs.{RunView}
 use Rattle.wait_coverage.specs.Lengths.{done_length, AreLengths}
-use Rattle.wait_coverage.specs.Done.{AreDone, AreOwn}
+use Rattle.wait_coverage.specs.Done.{AreDone, AreOwnLengths}
 use Rattle.wait_coverage.proofs.DoneLemmas.{ok_both, own_of_records}
 
 pub returns-clause-done : goal.returns-clause-done
@@ -17,7 +17,7 @@ returns-clause-done c =
     ok_both c.by_lengths.result (λ done. done.teams ≡ teams)
     (λ done. done.own ≡ map done_length c.as_slice.result.now) AreDone c.by_lengths.ensures.teams
     c.by_lengths.ensures.own (λ done same own.
-    let P : TeamsView → Type 0 = λ t. AreOwn t.run.records t.run.family.tasks done.own in
+    let P : TeamsView → Type 0 = λ t. AreOwnLengths t.run.records t.run.family.tasks done.own in
     subst P (sym same)
     (own_of_records teams.run.records teams.run.family.tasks table done.own are
     (own ∙ ap (map done_length) lengths)))

@@ -5,7 +5,7 @@ use Rattle.ompt_events.specs.Teams.{IsTeammate}
 use Rattle.task_states.specs.Rows.{row_at}
 use Rattle.teams.specs.Teams.{TeamsView}
 use Rattle.wait_coverage.specs.Search.{SearchView, IsSearch}
-use Rattle.wait_coverage.specs.Waits.{IsWithin, waiting}
+use Rattle.wait_coverage.specs.Waits.{IsInWait, waiting}
 use Rattle.wait_coverage.specs.declared.waits.Wait.{Wait}
 use Rattle.wait_coverage.proofs.WaitLemmas.{IsBeforeBegin, within_taskwait, within_taskgroup, within_barrier}
 use Rattle.wait_coverage.proofs.waits.Search.is_within.Goals as goal
@@ -17,7 +17,7 @@ returns-in-Taskwait c = λ parent here.
     let run = search.teams.run in
     let is_wait = sym c.in-Taskwait.is ∙ ap (λ (s : SearchView). s.wait) c.self.view_is in
     let P : Wait → Type 0 =
-    λ w. IsTrue c.is_between.result ↔ IsWithin run.records run.family.tasks parent c.args.made w in
+    λ w. IsTrue c.is_between.result ↔ IsInWait run.records run.family.tasks parent c.args.made w in
     subst P is_wait
     (within_taskwait run.records run.family.tasks parent c.args.made c.args.index c.in-Taskwait.task
     c.in-Taskwait.begin c.is_between.result known.teams.run.family.makers.apart here
@@ -30,7 +30,7 @@ returns-in-Taskgroup c = λ parent here.
     let run = search.teams.run in
     let is_wait = sym c.in-Taskgroup.is ∙ ap (λ (s : SearchView). s.wait) c.self.view_is in
     let answer = c.is_between-in-Taskgroup.result in
-    let P : Wait → Type 0 = λ w. IsTrue answer ↔ IsWithin run.records run.family.tasks parent c.args.made w in
+    let P : Wait → Type 0 = λ w. IsTrue answer ↔ IsInWait run.records run.family.tasks parent c.args.made w in
     subst P is_wait
     (within_taskgroup run.records run.family.tasks parent c.args.made c.args.index c.in-Taskgroup.task
     c.in-Taskgroup.begin c.in-Taskgroup.end answer known.teams.run.family.makers.apart here
@@ -61,7 +61,7 @@ returns-then-are_teammates c = λ parent here.
     let B : TeamsView → Type 0 =
     λ t. IsTrue answer ↔ IsBeforeBegin (row_at t.begins c.args.index) number c.args.made in
     let before = subst B teams_is c.is_before_begin.ensures in
-    let P : Wait → Type 0 = λ w. IsTrue answer ↔ IsWithin rs tasks parent c.args.made w in
+    let P : Wait → Type 0 = λ w. IsTrue answer ↔ IsInWait rs tasks parent c.args.made w in
     subst P is_wait
     (within_barrier rs tasks (row_at search.teams.begins c.args.index) own parent c.args.made c.args.index
     task number answer is_own (mates.0 c.if-are_teammates.true)
