@@ -203,7 +203,8 @@ same_thread closed i r are from k q is =
     eq-eqb q.thread r.thread (its ∙ sym (follows_of closed i r are from).thread_is)
 
 -- the records of the thread before i are those before it in its buffer
-pub buffer_before : (closed : ClosedView) (i : ℕ) (r : Record) → AreClosed closed → HaveOwnThreads closed.buffers
+pub buffer_before : (closed : ClosedView) (i : ℕ) (r : Record) → AreClosed closed
+    → HaveOwnThreads closed.buffers
     → (from : IsGathered closed.buffers i r)
     → filter (λ q. q.thread == r.thread) (take i (gathered closed.buffers))
     ≡ take from.place from.buffer.records

@@ -22,7 +22,8 @@ use Rattle.ompt_events.proofs.RecordLemmas.{created_unfinished}
 use Rattle.recorder.specs.Logs.{known_from, known_of, AreOrderly}
 use Rattle.recorder.proofs.LogLemmas.{known-pushed}
 use Rattle.callbacks.specs.Closed.{ClosedView, IsBuffer, AreClosed}
-use Rattle.callbacks.specs.Gathered.{gathered, HaveOwnThreads, AreHandedOver, started, was_discarded, was_fulfilled}
+use Rattle.callbacks.specs.Gathered.{gathered, HaveOwnThreads, AreHandedOver, started, was_discarded}
+use Rattle.callbacks.specs.Gathered.{was_fulfilled}
 use Rattle.callbacks.specs.Gathered.{runs_on}
 use Rattle.callbacks.proofs.GatherLemmas.{of_one, seen_get}
 
@@ -87,7 +88,8 @@ known_within thread own k r orderly is =
 -- ---- in the gathered trace
 
 -- what is known after a record is no more than a later one of its thread names
-pub known_later : (closed : ClosedView) (k i : ℕ) (q r : Record) → AreClosed closed → HaveOwnThreads closed.buffers
+pub known_later : (closed : ClosedView) (k i : ℕ) (q r : Record) → AreClosed closed
+    → HaveOwnThreads closed.buffers
     → k < i → slice_get (gathered closed.buffers) k ≡ Some q → slice_get (gathered closed.buffers) i ≡ Some r
     → q.thread ≡ r.thread → known_from q.seen q.body ≤ r.seen
 known_later closed k i q r are apart less first second same =
@@ -104,7 +106,8 @@ after_get rs i r is = ap (λ (o : Option Record).
     then option_map_or (λ (q : Record). q.seen) o 0 + 1
     else option_map_or (λ (q : Record). q.seen) o 0) is
 
-not_back_in_thread : (closed : ClosedView) (k i : ℕ) → AreClosed closed → HaveOwnThreads closed.buffers → k < i
+not_back_in_thread : (closed : ClosedView) (k i : ℕ) → AreClosed closed → HaveOwnThreads closed.buffers
+    → k < i
     → i < length (gathered closed.buffers)
     → thread_at (gathered closed.buffers) k ≡ thread_at (gathered closed.buffers) i
     → known_after (gathered closed.buffers) k ≤ seen_at (gathered closed.buffers) i

@@ -178,7 +178,8 @@ all_named closed q paired below =
     let (r, here, makes, seen) = entry_get rs i q e made in
     seen_among rs i q r here (entry_finishes r.thread (finish r.body) (claim r.body) e makes) seen
 
-pub count_from_paired : (closed : ClosedView) → AreClosed closed → HaveOwnThreads closed.buffers → ArePaired closed
+pub count_from_paired : (closed : ClosedView) → AreClosed closed → HaveOwnThreads closed.buffers
+    → ArePaired closed
     → entries_in (gathered closed.buffers) ≡ length closed.entries
 count_from_paired closed are apart paired =
     let rs = gathered closed.buffers in

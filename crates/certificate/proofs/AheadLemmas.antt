@@ -216,7 +216,8 @@ front_few known left room front old waits =
 
 pub added_fault : (known left : Option (List ℕ)) (room : ℕ) (front : List ℕ) (old new : Ahead)
     (cause : ReadCause)
-    → ArePiecesAdded (Err cause) old new → Waits known left room front old → IsToldNext cause known left room new
+    → ArePiecesAdded (Err cause) old new → Waits known left room front old
+    → IsToldNext cause known left room new
 added_fault known left room front old new cause added waits =
     added.between waits.bytes (front ++ old.block.waiting) known left room waits.judged waits.few
     waits.between

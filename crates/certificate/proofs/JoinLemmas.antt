@@ -173,7 +173,8 @@ pub Joins-piece : (n : ℕ) (kept : TraceView) (bytes : List ℕ) (n' n'' : ℕ)
     (piece : Piece) (pieces : List Piece)
     → kept''.version ≡ kept'.version
     → ((front : List ℕ) → IsPieceJudged kept'.version front piece → n'' ≡ n' + line_feeds front)
-    → ((front more : List ℕ) (known left : Option (List ℕ)) (room : ℕ) → IsPieceJudged kept'.version front piece
+    → ((front more : List ℕ) (known left : Option (List ℕ)) (room : ℕ)
+    → IsPieceJudged kept'.version front piece
     → length (front ++ more) ≤ room → IsBetweenLines known n' kept' (front ++ more) left
     → IsBetweenLines known n'' kept'' more left)
     → Joins n kept bytes n' kept' (piece ∷ pieces) → Joins n kept bytes n'' kept'' pieces

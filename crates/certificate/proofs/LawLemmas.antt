@@ -16,7 +16,8 @@ use Rattle.certificate.specs.declared.faults.ReadCause.TheVariants.{LineTooLong,
 use Rattle.certificate.specs.declared.faults.ReadFault.{ReadFault}
 use Rattle.certificate.specs.RecordLines.{line_says, header_says}
 use Rattle.certificate.specs.Formats.{cut, is_long, line_adds, end_adds, from_line, go_on, fault_in}
-use Rattle.certificate.specs.Files.{has_room, no_trace, with_record, with_header, text_adds, traces, line_fault}
+use Rattle.certificate.specs.Files.{has_room, no_trace, with_record, with_header, text_adds, traces}
+use Rattle.certificate.specs.Files.{line_fault}
 use Rattle.certificate.specs.Files.{file_says_to, trace_said, records_said, version_of, cause_in, trace_of}
 use Rattle.certificate.specs.Files.{StandsFor, IsFaultlessBefore, IsFirstFault}
 use Rattle.certificate.specs.Reading.{IsLineReached}

@@ -48,7 +48,8 @@ IsRising-put k d (member l e ms) rising =
   where
     by_order : IsBelowEach l ms → AreNamesRising ms → AreNamesRising (put k d ms) → (o : Ordering)
         → slice_cmp nat_cmp k l ≡ o
-        → AreNamesRising (match_ordering o (member k d (member l e ms)) (member l d ms) (member l e (put k d ms)))
+        → AreNamesRising
+        (match_ordering o (member k d (member l e ms)) (member l d ms) (member l e (put k d ms)))
     by_order below rest more Less is = ((is, IsBelowEach-less k l ms is below), (below, rest))
     by_order below rest more Equal is = (below, rest)
     by_order below rest more Greater is =

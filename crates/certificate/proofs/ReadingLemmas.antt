@@ -69,7 +69,8 @@ from_feeds n bytes rest from =
     omega (arith, ap line_feeds from.parts, line_feeds-append from.before rest, from.lines.count)
 
 -- a line that is reached is one of the file, and no line before it has a fault
-pub IsReached-within : {X : Type 0} (format : Format X) (n : ℕ) (bytes : List ℕ) → IsLineReached format n bytes
+pub IsReached-within : {X : Type 0} (format : Format X) (n : ℕ) (bytes : List ℕ)
+    → IsLineReached format n bytes
     → n ≤ line_feeds bytes + 1
 IsReached-within format n bytes reached = omega (arith, from_feeds n bytes reached.rest reached.begins)
 

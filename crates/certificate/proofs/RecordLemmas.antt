@@ -120,7 +120,8 @@ record-read version d thread seq seen t q s b is_thread is_seq is_seen is_body f
 -- ---- callbacks
 
 -- what was looked up before the claim
-pub record IsScheduleRead (version : ℕ) (d : Data) (st : Status) (prior : ℕ) (nx : Option ℕ) (told : Option Turns)
+pub record IsScheduleRead (version : ℕ) (d : Data) (st : Status) (prior : ℕ) (nx : Option ℕ)
+    (told : Option Turns)
     : Type 0 where
   pub is_status : Ok st ≡ ok_or (status member.status d) Field
   pub is_prior : Ok prior ≡ ok_or (whole member.prior d) Field

@@ -71,7 +71,8 @@ with_record-ok before after r h = by (has_room before.records r) refl h
     by false is e = absurd (ok_not_err after Limit e)
 
 -- many records more at a time
-pub IsKept-append : (version : ℕ) (before rs : List Record) (tasks more : ℕ) → IsTraceKept version before tasks
+pub IsKept-append : (version : ℕ) (before rs : List Record) (tasks more : ℕ)
+    → IsTraceKept version before tasks
     → All (λ r. IsSoundIn version r.body) rs → All IsInRange rs → more ≡ tasks_in rs
     → length before + length rs ≤ max_records → tasks + more ≤ max_tasks
     → IsTraceKept version (before ++ rs) (tasks + more)

@@ -142,7 +142,8 @@ Takes-digits rest len n taken =
 -- ---- items that are read one after another
 
 -- what was taken are these items, whatever comes behind them
-pub record AreItemsTaken {X : Type 0} (f : X → Data) (xs : List X) (later : Bool) (start rest text : List ℕ) : Type
+pub record AreItemsTaken {X : Type 0} (f : X → Data) (xs : List X) (later : Bool) (start rest text : List ℕ) :
+    Type
     0 where
   pub done : List ℕ
   pub takes : Takes start done rest

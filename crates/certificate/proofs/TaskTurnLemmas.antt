@@ -26,7 +26,8 @@ use Rattle.certificate.specs.declared.task_turns.TaskTurns.{TaskTurns}
 use Rattle.ompt_events.specs.Upgrades.{Moves, turn_counted, telling}
 use Rattle.ompt_events.proofs.PlaceLemmas.{at_get, thread_get, is_the_task, the_task}
 use Rattle.certificate.specs.TaskTurns.{no_turns, first_turn, noted, with_begin, with_start, with_turn}
-use Rattle.certificate.specs.TaskTurns.{one_later, turn_ended, IsElsewhere, IsAtHome, AreHomesNoted, AreTurnsNoted}
+use Rattle.certificate.specs.TaskTurns.{one_later, turn_ended, IsElsewhere, IsAtHome, AreHomesNoted}
+use Rattle.certificate.specs.TaskTurns.{AreTurnsNoted}
 use Rattle.certificate.specs.TaskTurns.{AreEnded, turns_told, told_by}
 
 -- ---- single records

@@ -37,7 +37,8 @@ use Rattle.certificate.specs.CallbackNames as callback
 use Rattle.certificate.specs.PlainData.{puts, IsPlain, MembersArePlain}
 use Rattle.certificate.specs.Texts.{Takes, is_plain_text, whole_number, number_or_null, names, flag_names}
 use Rattle.certificate.specs.Texts.{dep_data}
-use Rattle.certificate.specs.Unordered.{callback_name, rows, with_row, HaveValues, IsMemberInFront, IsObjectOf, SaysRecord}
+use Rattle.certificate.specs.Unordered.{callback_name, rows, with_row, HaveValues, IsMemberInFront}
+use Rattle.certificate.specs.Unordered.{IsObjectOf, SaysRecord}
 use Rattle.certificate.proofs.FlagLemmas.{task_flags-read}
 use Rattle.certificate.proofs.JsonLemmas.{value_of-members}
 use Rattle.certificate.proofs.LineLemmas.{fits}
@@ -70,14 +71,15 @@ plain-more no_members k d n all name plain = (name, plain, tt)
 plain-more (member l e ms) k d n all name plain = (all.0, all.1, plain-more ms k d n all.2 name plain)
 
 -- what was taken are these members, whatever comes behind them, and they have these rows
-pub record AreMembersMet (rs : List (List ℕ × Option Data)) (later : Bool) (start rest : List ℕ) : Type 0 where
-  pub members : Members
-  pub done : List ℕ
-  pub takes : Takes start done rest
-  pub whole : (tail : Members)
-      → done ++ members_text later tail ≡ 123 ∷ members_text false (followed members tail)
-  pub plain : MembersArePlain members 2
-  pub are : HaveValues (puts members no_members) rs
+pub record AreMembersMet (rs : List (List ℕ × Option Data)) (later : Bool) (start rest : List ℕ) : Type 0
+  where
+    pub members : Members
+    pub done : List ℕ
+    pub takes : Takes start done rest
+    pub whole : (tail : Members)
+        → done ++ members_text later tail ≡ 123 ∷ members_text false (followed members tail)
+    pub plain : MembersArePlain members 2
+    pub are : HaveValues (puts members no_members) rs
 
 pub IsMet-none : (rs : List (List ℕ × Option Data)) (start rest : List ℕ) → Takes start (123 ∷ []) rest
     → HaveValues no_members rs → AreMembersMet rs false start rest
@@ -99,7 +101,8 @@ member-more comma name text done tail =
 
 pub IsMet-more : (before after : List (List ℕ × Option Data)) (later : Bool)
     (start rest front behind : List ℕ)
-    → AreMembersMet before later start rest → Takes rest (comma_if later) front → IsMemberInFront before after front behind
+    → AreMembersMet before later start rest → Takes rest (comma_if later) front
+    → IsMemberInFront before after front behind
     → AreMembersMet after true start behind
 IsMet-more before after later start rest front behind met comma one =
     let ms = met.members in
@@ -189,7 +192,8 @@ makes-task_create version f thread seq seen child deps flags task is_callback is
 
 -- the turns, where some are told, were found
 abbrev pub AreTurnsFound : Found → Option Turns → Type 0
-AreTurnsFound f told = IfSome told (λ (t : Turns). (f.prior_turn ≡ Some t.prior) × (f.next_turn ≡ Some t.next))
+AreTurnsFound f told =
+    IfSome told (λ (t : Turns). (f.prior_turn ≡ Some t.prior) × (f.next_turn ≡ Some t.next))
 
 pub makes-switching : (version : ℕ) (f : Found) (thread : ℕ) (seq : ℕ) (seen : ℕ) (status : Status)
     (told : Option Turns) (prior : ℕ) (next : Option ℕ)

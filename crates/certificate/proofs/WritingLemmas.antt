@@ -70,7 +70,8 @@ text-prefix version sent block rs i n text =
         ap (λ l. sent ++ l) (sym (take-append-drop n block))
         ∙ sym (append_assoc sent (take n block) (drop n block))
 
-    whole : ended_lines (header_line version ∷ map line_of rs) ≡ (sent ++ take n block) ++ (drop n block ++ rest)
+    whole : ended_lines (header_line version ∷ map line_of rs)
+        ≡ (sent ++ take n block) ++ (drop n block ++ rest)
     whole =
         ap (λ list. ended_lines (header_line version ∷ map line_of list)) (sym (take-append-drop i rs))
         ∙ ap (λ lines. ended_lines (header_line version ∷ lines)) (map-append line_of (take i rs) (drop i rs))
@@ -98,7 +99,8 @@ sent-out version a b sent block rs i text first =
 
 -- all the lines are the text
 pub whole-out : (version : ℕ) (a b c : Option (List ℕ)) (sent block : List ℕ) (rs : List Record) (i : ℕ)
-    → sent ++ block ≡ ended_lines (header_line version ∷ map line_of (take i rs)) → length rs ≤ i → Appends a b sent
+    → sent ++ block ≡ ended_lines (header_line version ∷ map line_of (take i rs)) → length rs ≤ i
+    → Appends a b sent
     → Appends b c block → Appends a c (ended_lines (header_line version ∷ map line_of rs))
 whole-out version a b c sent block rs i text all first next =
     let P : List ℕ → Type 0 = λ bytes. Appends a c bytes in

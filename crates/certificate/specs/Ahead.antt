@@ -14,7 +14,8 @@ use Rattle.certificate.specs.Files.{no_trace, traces}
 use Rattle.certificate.specs.Pieces.{IsWholeLines, AreJudged}
 use Rattle.certificate.specs.Windows.{LineFeedAt}
 use Rattle.certificate.specs.Blocks.{BlockView, IsFillFault}
-use Rattle.certificate.specs.ReadingOn.{IsBetweenLines, IsToldWithin, IsJudgedUpTo, IsLineCounted, IsLineFault}
+use Rattle.certificate.specs.ReadingOn.{IsBetweenLines, IsToldWithin, IsJudgedUpTo, IsLineCounted}
+use Rattle.certificate.specs.ReadingOn.{IsLineFault}
 
 -- nothing was read, and so many bytes may wait
 pub record IsFirst (room : ℕ) (ahead : Ahead) : Type 0 where
@@ -145,7 +146,8 @@ pub record IsRefilled (old new : Ahead) (left left' : Option (List ℕ)) : Type 
 abbrev pub WorkedBeside : Result (Unit {0}) ReadCause → Ahead → Ahead → Option (List ℕ) → Option (List ℕ)
     → Type 0
 WorkedBeside (Ok u) old new left left' =
-    (middle : Ahead) × ArePiecesAdded (Ok u) old middle × SameSource old middle × IsRefilled middle new left left'
+    (middle : Ahead) × ArePiecesAdded (Ok u) old middle × SameSource old middle
+    × IsRefilled middle new left left'
 WorkedBeside (Err cause) old new left left' =
     ArePiecesAdded (Err cause) old new × SameSource old new × (left' ≡ left)
 

@@ -9,7 +9,8 @@ use Rattle.certificate.specs.Limits.{max_line, newest_version}
 use Rattle.certificate.specs.Counts.{TakesTurns, breaks_told}
 use Rattle.certificate.specs.Formats.{said}
 use Rattle.certificate.specs.Files.{IsFaultlessBefore, traces}
-use Rattle.certificate.specs.Reading.{IsFromLine, IsLineReached, IsToldIn, IsToldRightly, IsReadAnswer, IsBetween}
+use Rattle.certificate.specs.Reading.{IsFromLine, IsLineReached, IsToldIn, IsToldRightly, IsReadAnswer}
+use Rattle.certificate.specs.Reading.{IsBetween}
 
 -- the bytes of a block that `read_on` takes
 abbrev pub block_size : ℕ
@@ -94,7 +95,8 @@ IsLineCounted n kept = length kept.records ≡ n - 2
 -- at the end of what is read: all lines are kept, or the line of number n has a fault
 abbrev pub IsReadToEnd : Result (Unit {0}) ReadCause → Option (List ℕ) → ℕ → TraceView → ℕ → Option (List ℕ)
     → Type 0
-IsReadToEnd (Ok _) known n kept room left = IfSome known (λ bytes. said (traces newest_version) bytes ≡ Ok kept)
+IsReadToEnd (Ok _) known n kept room left =
+    IfSome known (λ bytes. said (traces newest_version) bytes ≡ Ok kept)
 IsReadToEnd (Err cause) known n kept room left = IfSome known (λ bytes. IsToldWithin room cause n bytes left)
 
 -- a fault that the lines have which a source gave, or that no memory was found for them

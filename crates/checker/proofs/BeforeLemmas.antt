@@ -180,7 +180,8 @@ pub makers_start : (rs : List Record) (bounds : List ℕ) → AreRaisedTo rs (Ma
 makers_start rs bounds =
     raised_none rs (MakesBelow rs 0) bounds (λ c (finishes, low). absurd (omega (arith, low)))
 
-pub makers_more : (rs : List Record) (n : ℕ) (makers old mid new : List ℕ) → AreEntryPlaces rs (length rs) makers
+pub makers_more : (rs : List Record) (n : ℕ) (makers old mid new : List ℕ)
+    → AreEntryPlaces rs (length rs) makers
     → n < length makers → slice_index makers n < length rs → AreRaisedTo rs (MakesBelow rs n) old mid
     → AreRaisedTo rs (λ c. c ≡ slice_index makers n) mid new → AreRaisedTo rs (MakesBelow rs (n + 1)) old new
 makers_more rs n makers old mid new are inside within one two =

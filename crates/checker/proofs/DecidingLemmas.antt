@@ -86,7 +86,8 @@ number_within view own i clear same within =
 
 -- what a search by the lengths finds at a place, where the credit is held from them on
 abbrev FindsByLengths : DoneView → (OwnView → Type 0) → Type 0
-FindsByLengths done IsThat = HasRightEntries (records_of done) → AreCreditLengths done → IsThat (own_of done.teams)
+FindsByLengths done IsThat =
+    HasRightEntries (records_of done) → AreCreditLengths done → IsThat (own_of done.teams)
 
 found_there : (view : ClearView) (done : DoneView) (IsThat : OwnView → Type 0) → IsClearView view
     → own_of done.teams ≡ view.own → AreCreditLengths done → FindsByLengths done IsThat → IsThat view.own
@@ -111,7 +112,8 @@ open_decided view own done number place task clear same teams credit stands find
 
 pub covered_decided : (view : ClearView) (own : OwnView) (done : DoneView) (number place : ℕ)
     → IsClearView view → own ≡ view.own → own_of done.teams ≡ view.own → AreCreditLengths done
-    → slice_get own.places number ≡ Some place → FindsByLengths done (λ o. IsCoverComplete o.run.records number)
+    → slice_get own.places number ≡ Some place
+    → FindsByLengths done (λ o. IsCoverComplete o.run.records number)
     → IsCompleteShown view.run.records place
 covered_decided view own done number place clear same teams credit stands finds =
     all_shown view.run.records view.own number place clear.one.of_file clear.one.is_own

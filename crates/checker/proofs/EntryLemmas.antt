@@ -26,7 +26,8 @@ made_later rs n e (k, below, finishes, seen) = (k, omega (arith, below), finishe
 
 -- one that does names its own
 pub named_more : (rs : List Record) (n own : ℕ) (old new : Named) → IsFinishing rs n → seen_at rs n ≡ own
-    → ((e : ℕ) → is_named (length rs) new e ≡ ((e == own) || is_named (length rs) old e)) → AreEntriesNamed rs n old
+    → ((e : ℕ) → is_named (length rs) new e ≡ ((e == own) || is_named (length rs) old e))
+    → AreEntriesNamed rs n old
     → AreEntriesNamed rs (n + 1) new
 named_more rs n own old new finishes seen more are e = (
   λ is. elim (or_cases (e == own) (is_named (length rs) old e) (sym (more e) ∙ is)) [

@@ -211,7 +211,8 @@ pub ready_more : (rs : List Record) (family : FamilyView) (known : Suspensions) 
     → IsFront rs family known placed heads low
     → IsFront rs family known (set placed place true) (set heads thread next) now_low
     → thread_at rs place ≡ Some thread → slice_index (set heads thread next) thread ≡ next
-    → place < length placed → IsPlaceTaken rs placed place rest → AreMore rs (set placed place true) rest ready
+    → place < length placed → IsPlaceTaken rs placed place rest
+    → AreMore rs (set placed place true) rest ready
     → (MayStandNext rs (set placed place true) next → Contains ready next)
     → ((i : ℕ) → Awaits rs i place → MayStandNext rs (set placed place true) i → Contains ready i)
     → ((i k : ℕ) → low + 1 ≤ k → k < now_low + 1 → named_length rs i ≡ Some k

@@ -95,7 +95,8 @@ fit_more rs n entries count fits before i below = elim (cases_eq i n) [
   | inr apart ↦ before i (omega (arith, below, apart))
 ]
 
-pub entries_count_more : (rs : List Record) (n entries after : ℕ) → n < length rs → entries ≡ entries_before rs n
+pub entries_count_more : (rs : List Record) (n entries after : ℕ) → n < length rs
+    → entries ≡ entries_before rs n
     → after ≡ cond (is_some (at finish rs n)) (entries + 1) entries → after ≡ entries_before rs (n + 1)
 entries_count_more rs n entries after within count is = of (is_some (at finish rs n)) refl is
   where

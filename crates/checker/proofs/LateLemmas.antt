@@ -38,7 +38,8 @@ use Rattle.checker.specs.declared.starts.Dependent.{Dependent}
 use Rattle.checker.specs.Readings.{by_task, IsPrecededBy}
 use Rattle.checker.specs.Starts.{IsLate, AreReady, IsFirstLateAt, IsDependentAt, IsPrecededByNone, IsBound}
 use Rattle.checker.specs.Starts.{AreNoLengths, AreStarts, StartsAt, StartsNoneAt, PrecedenceView}
-use Rattle.checker.specs.Starts.{IsPrecedence, IsUnfinishedPredecessor, AreDoneBefore, IsFirstBehind, IsAmongFirst}
+use Rattle.checker.specs.Starts.{IsPrecedence, IsUnfinishedPredecessor, AreDoneBefore, IsFirstBehind}
+use Rattle.checker.specs.Starts.{IsAmongFirst}
 use Rattle.checker.specs.Starts.{IsBehindAt, IsFirstOf, IsEarlierOf, the_only, the_first, the_other}
 use Rattle.wait_coverage.proofs.ShownLemmas.{own_done}
 use Rattle.checker.proofs.StartLemmas.{done_from, bound_still, complete_from_start}
@@ -177,7 +178,8 @@ all_done file own predecessors bound n task past are done predecessor is =
 
 -- the greatest length of the predecessors says so of all
 pub done_by_latest : (rs : List Record) (tasks own latest : List ℕ) (index task bound : ℕ)
-    → AreNoted made rs (length rs) tasks → AreOwnLengths rs tasks own → ArePredecessorLengths rs tasks own latest
+    → AreNoted made rs (length rs) tasks → AreOwnLengths rs tasks own
+    → ArePredecessorLengths rs tasks own latest
     → slice_get tasks index ≡ Some task → bound < 2 ^ 32 → slice_index latest index ≤ bound
     → AreDoneBefore rs task bound
 done_by_latest rs tasks own latest index task bound noted are_own are is small low predecessor precedes =

@@ -12,7 +12,8 @@ use Rattle.checker.specs.declared.workers.WorkerFault.{WorkerFault}
 use Rattle.checker.specs.Readings.{Reading, by_task}
 use Rattle.checker.specs.Verdicts.{AreComplete}
 use Rattle.checker.specs.Search.{IsFirstViolation}
-use Rattle.checker.specs.Deciding.{IsViolationAt, AreStops, WorkView, IsWork, IsShared, IsStopMet, IsFirstOfShare}
+use Rattle.checker.specs.Deciding.{IsViolationAt, AreStops, WorkView, IsWork, IsShared, IsStopMet}
+use Rattle.checker.specs.Deciding.{IsFirstOfShare}
 use Rattle.checker.specs.Deciding.{IsOutcome, found_by, IsLeastFinding, HaveAllDecided, IsLeastOf}
 use Rattle.checker.proofs.DecidingLemmas.{first_violation, complete_whole}
 
@@ -58,7 +59,8 @@ worker_of_stop workers index some = (mod-lt index some, (index / workers, sym (m
 -- up to its next stop nothing is open where nothing was at this one
 pub met_more : (reading : Reading) (stops : List ℕ) (workers worker stop place : ℕ)
     → slice_get stops stop ≡ Some place → AreComplete reading place → IsShared workers worker stop
-    → ((index : ℕ) → index < stop → IsShared workers worker index → IsStopMet reading stops index) → (index : ℕ)
+    → ((index : ℕ) → index < stop → IsShared workers worker index → IsStopMet reading stops index)
+    → (index : ℕ)
     → index < stop + workers → IsShared workers worker index → IsStopMet reading stops index
 met_more reading stops workers worker stop place stands complete shared before index below is =
     elim (cases_lt index stop) [
@@ -72,7 +74,8 @@ met_more reading stops workers worker stop place stands complete shared before i
 
 -- past the last stop there is nothing to decide
 pub met_whole : (reading : Reading) (stops : List ℕ) (workers worker stop : ℕ) → length stops ≤ stop
-    → ((index : ℕ) → index < stop → IsShared workers worker index → IsStopMet reading stops index) → (index : ℕ)
+    → ((index : ℕ) → index < stop → IsShared workers worker index → IsStopMet reading stops index)
+    → (index : ℕ)
     → IsShared workers worker index → IsStopMet reading stops index
 met_whole reading stops workers worker stop past before index is place there =
     let inside = slice_get_within stops index place there in

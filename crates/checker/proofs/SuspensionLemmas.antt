@@ -18,7 +18,8 @@ use Rattle.task_tree.specs.Family.{FamilyView, IsFamilyOf}
 use Rattle.task_tree.specs.Rising.{IsStartOf}
 use Rattle.checker.specs.declared.suspensions.Suspensions.{Suspensions}
 use Rattle.checker.specs.Schedule.{Awaits, awaits_creation, awaits_end, EachAwaitsOne}
-use Rattle.checker.specs.Suspensions.{IsEndOf, BeginsNoLater, HasSlot, AreRowsInOrder, HaveSlots, AreRowLengths}
+use Rattle.checker.specs.Suspensions.{IsEndOf, BeginsNoLater, HasSlot, AreRowsInOrder, HaveSlots}
+use Rattle.checker.specs.Suspensions.{AreRowLengths}
 use Rattle.checker.specs.Suspensions.{IsSlotBehind, HasNoSlotBehind, IsEndBefore, AreTurnEnds, AreSuspensions}
 use Rattle.checker.specs.Merge.{key_of}
 use Rattle.checker.proofs.ScheduleLemmas.{later_awaits_none, created_suspends, begun_index, key_creation}
@@ -134,7 +135,8 @@ slot_once rs tasks rows i one other apart a b =
     omega (arith, row, turn, is, is')
 
 pub ends_more : (rs : List Record) (n slot : ℕ) (tasks rows places : List ℕ) → n < length rs → AreApart tasks
-    → AreRowsInOrder rows → slot < length places → IsSlotBehind rs tasks rows n slot → AreTurnEnds rs n tasks rows places
+    → AreRowsInOrder rows → slot < length places → IsSlotBehind rs tasks rows n slot
+    → AreTurnEnds rs n tasks rows places
     → AreTurnEnds rs (n + 1) tasks rows (set places slot n)
 ends_more rs n slot tasks rows places within apart rise inside is are = record {
   only = only;

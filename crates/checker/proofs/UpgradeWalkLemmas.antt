@@ -31,7 +31,8 @@ BeganOn rs thread n task =
     (k : ℕ) × (k < n) × (at begun_root rs k ≡ Some task) × (thread_at rs k ≡ Some thread)
 
 abbrev pub RanOnThread : List Record → ℕ → ℕ → ℕ → Type 0
-RanOnThread rs thread n task = (k : ℕ) × (k < n) × (at started rs k ≡ Some task) × (thread_at rs k ≡ Some thread)
+RanOnThread rs thread n task =
+    (k : ℕ) × (k < n) × (at started rs k ≡ Some task) × (thread_at rs k ≡ Some thread)
 
 -- the open roots of the walk began so, and so did the task that runs, or it ran next
 record IsWalkFrom (rs : List Record) (thread n : ℕ) (walk : Walk) : Type 0 where

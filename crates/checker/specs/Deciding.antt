@@ -69,7 +69,8 @@ pub record IsFirstOfShare (reading : Reading) (stops : List ℕ) (workers worker
   pub stands : slice_get stops finding.stop ≡ Some place
   pub violation : IsViolationAt reading place finding.why
   pub shared : IsShared workers worker finding.stop
-  pub before : (index : ℕ) → index < finding.stop → IsShared workers worker index → IsStopMet reading stops index
+  pub before : (index : ℕ) → index < finding.stop → IsShared workers worker index
+      → IsStopMet reading stops index
 
 -- that stop, or all is complete at each of them
 abbrev pub IsFinding : Reading → List ℕ → ℕ → ℕ → Option Finding → Type 0

@@ -99,7 +99,8 @@ pub record IsFirstBehind (file own : List Record) (task bound predecessor : ℕ)
   pub behind : IsUnfinishedPredecessor own task bound predecessor
   pub creation : ℕ
   pub is_created : at created file creation ≡ Some predecessor
-  pub first : (k other : ℕ) → k < creation → at created file k ≡ Some other → IsUnfinishedPredecessor own task bound other
+  pub first : (k other : ℕ) → k < creation → at created file k ≡ Some other
+      → IsUnfinishedPredecessor own task bound other
       → ⊥
 
 -- they don't finish the task, which is created at the place in the file
@@ -146,7 +147,8 @@ pub record IsPrecedence (of_edges : RunView) (known : PrecedenceView) : Type 0 w
   pub is_own : IsOwn known.own
   pub of_file : IsOwnOf known.file.records known.own
   pub lengths : AreOwnLengths known.own.run.records known.own.run.family.tasks known.lengths
-  pub latest : ArePredecessorLengths known.own.run.records known.own.run.family.tasks known.lengths known.latest
+  pub latest : ArePredecessorLengths known.own.run.records known.own.run.family.tasks known.lengths
+      known.latest
   pub starts : MatchOption known.starts (AreNoLengths known.latest)
       (AreStarts known.file.records known.file.family.tasks)
   pub once : IsFreeOf known.file.records EntryTwice

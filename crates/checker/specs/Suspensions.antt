@@ -26,7 +26,8 @@ HasSlot rows index turn = slice_index rows index + turn < slice_index rows (inde
 
 -- no row begins before the one before it
 abbrev pub AreRowsInOrder : List ℕ → Type 0
-AreRowsInOrder rows = (index : ℕ) → index + 1 < length rows → slice_index rows index ≤ slice_index rows (index + 1)
+AreRowsInOrder rows =
+    (index : ℕ) → index + 1 < length rows → slice_index rows index ≤ slice_index rows (index + 1)
 
 -- each turn that begins has its slot
 abbrev pub HaveSlots : List Record → List ℕ → List ℕ → Type 0

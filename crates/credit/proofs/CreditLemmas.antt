@@ -193,7 +193,8 @@ IsSound-root cs task new sound = record {
       (cases_Bool (task == root));
 }
 
-pub IsSound-next_credits : (cs : List Credit) (e : Event) → AreCreditsSound cs → AreCreditsSound (next_credits cs e)
+pub IsSound-next_credits : (cs : List Credit) (e : Event) → AreCreditsSound cs
+    → AreCreditsSound (next_credits cs e)
 IsSound-next_credits cs (Root task) sound =
     cond_both (was_made task cs) cs _ AreCreditsSound (λ old. sound) (λ new. IsSound-root cs task new sound)
 IsSound-next_credits cs (Create creator child) sound =
@@ -209,7 +210,8 @@ IsSound-next_credits cs (Detach task) sound =
 IsSound-next_credits cs (Fulfil task) sound =
     IsSound-exchange (has_event_share task) entered_credit StandsFor-entered_credit cs sound
 
-pub IsSound-run : (cs : List Credit) (es : List Event) → AreCreditsSound cs → AreCreditsSound (fold next_credits cs es)
+pub IsSound-run : (cs : List Credit) (es : List Event) → AreCreditsSound cs
+    → AreCreditsSound (fold next_credits cs es)
 IsSound-run cs [] sound = sound
 IsSound-run cs (e ∷ es) sound = IsSound-run (next_credits cs e) es (IsSound-next_credits cs e sound)
 

@@ -12,7 +12,8 @@ use Rattle.credit.specs.declared.links.Side.{Side}
 use Rattle.credit.specs.declared.links.Side.TheVariants.{First}
 use Rattle.credit.specs.declared.links.Spot.TheVariants.{Missing}
 use Rattle.credit.specs.declared.links.Link.{Link}
-use Rattle.credit.specs.Links.{leaf_link, link_at, link_behind, with_link, is_link_of, spot_within, spot_of, found}
+use Rattle.credit.specs.Links.{leaf_link, link_at, link_behind, with_link, is_link_of, spot_within, spot_of}
+use Rattle.credit.specs.Links.{found}
 use Rattle.credit.specs.Links.{AreLinksRising}
 use Rattle.credit.proofs.LinkLemmas.{step-missing, link_at-past, IsLinkAdded, IsLinkAdded-set, IsRising-added}
 use Rattle.credit.proofs.LinkLemmas.{added-here, added-elsewhere, missing-at}

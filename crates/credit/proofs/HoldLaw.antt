@@ -185,7 +185,8 @@ is_root-live p root (c ∷ cs) h =
     (cases_Bool (c.root == root))
 
 -- no list of halves begins with a share that is held and with a live one
-Hold-apart : (cs : List Credit) (root : ℕ) (s u : List Half) → AreCreditsSound cs → Hold (entered_shares root cs) s
+Hold-apart : (cs : List Credit) (root : ℕ) (s u : List Half) → AreCreditsSound cs
+    → Hold (entered_shares root cs) s
     → list_any (λ x. begins_with u x) (live_shares root cs) ≡ true → begins_with u s ≡ true → ⊥
 Hold-apart cs root s u sound held live begins =
     let l : List Half = u ++ replicate (reach cs) Keep in
@@ -210,7 +211,8 @@ Hold-apart cs root s u sound held live begins =
     (λ x. begins_with-append u (replicate (reach cs) Keep) x) (live_shares root cs) live) in
     absurd (omega (arith, one, count_by-live-entered l root cs, entered_one, live_one))
 
-Hold-here : (cs : List Credit) (root : ℕ) (s : List Half) → AreCreditsSound cs → Hold (entered_shares root cs) s
+Hold-here : (cs : List Credit) (root : ℕ) (s : List Half) → AreCreditsSound cs
+    → Hold (entered_shares root cs) s
     → All (λ t. ¬ IsTrue (overlaps s t)) (live_shares root cs)
 Hold-here cs root s sound held k d within shared =
     let t : List Half = get_or (live_shares root cs) k d in

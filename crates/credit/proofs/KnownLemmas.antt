@@ -9,7 +9,8 @@ use Rattle.credit.specs.declared.tree.Run.{Run}
 use Rattle.credit.specs.declared.tree.Progress.{Progress}
 use Rattle.credit.specs.Shares.{begins_with}
 use Rattle.credit.specs.Paths.{keeps, prefix, path_of}
-use Rattle.credit.specs.Trees.{time_within, first_time, time_above, IsApart, HasNoShorter, IsHeldFrom, AreRunsCounted}
+use Rattle.credit.specs.Trees.{time_within, first_time, time_above, IsApart, HasNoShorter, IsHeldFrom}
+use Rattle.credit.specs.Trees.{AreRunsCounted}
 use Rattle.credit.proofs.ShareLemmas.{begins_with-append, begins_with_through, length-begins_with}
 use Rattle.credit.proofs.HoldLemmas.{begins_with-either}
 use Rattle.credit.proofs.PathLemmas.{keeps-path_of, keeps_apart, keeps-none, keeps-longer, length-keeps}
@@ -109,12 +110,14 @@ time_above-some at (n ∷ xs) up time e =
     ap (λ o. first_time o (time_within (at (xs ++ up)).run n)) (time_above-some at xs up time e)
 
 -- where no shorter share begins a node's, a share that begins a run of it is that run or a shorter one
-pub data IsRunOrShorter (shares : List (List Half)) (at : List ℕ → Progress) (p : List ℕ) (m i : ℕ) (t : List Half) :
+pub data IsRunOrShorter (shares : List (List Half)) (at : List ℕ → Progress) (p : List ℕ) (m i : ℕ)
+    (t : List Half) :
     Type 0 where
   is_run : (l : ℕ) → l ≤ m → t ≡ keeps (prefix p) l → (at p).run ≡ Some (record { keeps = l; time = i })
       → IsRunOrShorter shares at p m i t
 
-pub IsRun-begun : (shares : List (List Half)) (at : List ℕ → Progress) → AreRunsCounted shares at → (p : List ℕ)
+pub IsRun-begun : (shares : List (List Half)) (at : List ℕ → Progress) → AreRunsCounted shares at
+    → (p : List ℕ)
     → time_above at p ≡ None → (m i : ℕ) (t : List Half) → slice_get shares i ≡ Some t
     → begins_with (keeps (prefix p) m) t ≡ true → IsRunOrShorter shares at p m i t
 IsRun-begun shares at counted p none m i t entered begun =
@@ -139,7 +142,8 @@ IsRun-begun shares at counted p none m i t entered begun =
     by_case (higher n begun less) = absurd (no_higher n less (IsAbove-prefix p (n ∷ (path_of t).0) begun))
 
 -- where no shorter share begins a node's share, none does
-pub IsClear-above : (shares : List (List Half)) (at : List ℕ → Progress) → AreRunsCounted shares at → (p : List ℕ)
+pub IsClear-above : (shares : List (List Half)) (at : List ℕ → Progress) → AreRunsCounted shares at
+    → (p : List ℕ)
     → time_above at p ≡ None → HasNoShorter shares (prefix p)
 IsClear-above shares at counted p none i t entered begun =
     from_run
@@ -186,7 +190,8 @@ IsHeldFrom-none shares s m none upto = (
 
 -- a child before the end of the run is clear
 pub IsClear-child : (shares : List (List Half)) (at : List ℕ → Progress) → AreRunsCounted shares at
-    → (up : List ℕ) (r : Run) (k : ℕ) → (at up).run ≡ Some r → k < r.keeps → HasNoShorter shares (prefix (k ∷ up))
+    → (up : List ℕ) (r : Run) (k : ℕ) → (at up).run ≡ Some r → k < r.keeps
+    → HasNoShorter shares (prefix (k ∷ up))
 IsClear-child shares at counted up r k run less i t entered begun =
     ⊎_elim
     (λ (first : begins_with (keeps (prefix up) k) t ≡ true).

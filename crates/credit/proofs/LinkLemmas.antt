@@ -13,7 +13,8 @@ use Rattle.credit.specs.declared.links.Side.{Side}
 use Rattle.credit.specs.declared.links.Side.TheVariants.{First, Zero, One, Two, Three}
 use Rattle.credit.specs.declared.links.Spot.{Spot}
 use Rattle.credit.specs.declared.links.Spot.TheVariants.{Found, Missing}
-use Rattle.credit.specs.Links.{leaf_link, link_at, link_behind, with_link, is_link_of, side_of, spot_within, found}
+use Rattle.credit.specs.Links.{leaf_link, link_at, link_behind, with_link, is_link_of, side_of, spot_within}
+use Rattle.credit.specs.Links.{found}
 use Rattle.credit.specs.Links.{AreLinksRising}
 use Rattle.credit.proofs.KnownLemmas.{none_some}
 
@@ -68,7 +69,8 @@ step-missing links steps parent number digits here side e = cond-true _ _ _ (eq-
 step-found : (links : List Link) (steps parent number digits here : ℕ) (side : Side)
     → link_behind (link_at links here) side ≢ 0
     → is_link_of parent number (link_at links (link_behind (link_at links here) side)) ≡ true
-    → spot_within links (suc steps) parent number digits here side ≡ Found (link_behind (link_at links here) side)
+    → spot_within links (suc steps) parent number digits here side
+    ≡ Found (link_behind (link_at links here) side)
 step-found links steps parent number digits here side some is =
     cond-false _ _ _ (other (link_behind (link_at links here) side) some) ∙ cond-true _ _ _ is
   where
@@ -401,7 +403,8 @@ module _ (old new : List Link) (parent number j : ℕ) (s : Side) (rising : AreL
       let some_new : link_behind (link_at new here) side ≢ 0 = λ f. some (sym same ∙ f) in
       let key : is_link_of p n (link_at new (link_behind (link_at new here) side))
       ≡ is_link_of p n (link_at old (link_behind (link_at old here) side)) =
-      ap (λ k. is_link_of p n (link_at new k)) same ∙ added.keys (link_behind (link_at old here) side) up.1 p n in
+      ap (λ k. is_link_of p n (link_at new k)) same
+      ∙ added.keys (link_behind (link_at old here) side) up.1 p n in
       ⊎_elim
       (λ (is : is_link_of p n (link_at old (link_behind (link_at old here) side)) ≡ true).
       ap found
@@ -411,7 +414,8 @@ module _ (old new : List Link) (parent number j : ℕ) (s : Side) (rising : AreL
       ap found
       (step-on new (suc steps) p n digits here side some_new (key ∙ other)
       ∙ ap (λ k. spot_within new (suc steps) p n (digits / 4) k (side_of digits)) same)
-      ∙ added-elsewhere p n apart steps (digits / 4) (link_behind (link_at old here) side) (side_of digits) up.1
+      ∙ added-elsewhere p n apart steps (digits / 4) (link_behind (link_at old here) side) (side_of digits)
+      up.1
       (omega (arith, up.0, enough))
       ∙ ap found (sym (step-on old steps p n digits here side some other)))
       (cases_Bool (is_link_of p n (link_at old (link_behind (link_at old here) side)))))

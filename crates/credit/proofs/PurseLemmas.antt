@@ -73,7 +73,8 @@ IsHeldFrom-run shares at known p m r run less =
     (known.counted.run p r run) (keeps-longer (prefix p) m r.keeps less)
 
 -- a node's own share
-pub IsHeldFrom-node : (shares : List (List Half)) (at : List ℕ → Progress) → IsTreeKnown shares at → (p : List ℕ)
+pub IsHeldFrom-node : (shares : List (List Half)) (at : List ℕ → Progress) → IsTreeKnown shares at
+    → (p : List ℕ)
     → time_above at p ≡ None → IsHeldFrom shares (at p).since (keeps (prefix p) 0)
 IsHeldFrom-node shares at known p none =
     subst (λ s. IsHeldFrom shares (at p).since s) (sym (keeps-none (prefix p)))

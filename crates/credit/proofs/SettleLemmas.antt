@@ -12,7 +12,8 @@ use Rattle.credit.specs.declared.tree.Run.{Run}
 use Rattle.credit.specs.declared.tree.Progress.{Progress}
 use Rattle.credit.specs.Shares.{is_same_half, begins_with, Hold}
 use Rattle.credit.specs.Paths.{keeps, prefix}
-use Rattle.credit.specs.Trees.{is_by, count_below, IsApart, HasNoShorter, IsHeldFrom, AreRunsCounted, IsTreeKnown}
+use Rattle.credit.specs.Trees.{is_by, count_below, IsApart, HasNoShorter, IsHeldFrom, AreRunsCounted}
+use Rattle.credit.specs.Trees.{IsTreeKnown}
 use Rattle.credit.specs.Trees.{IsSettling, IsFull, full}
 use Rattle.credit.proofs.ShareLemmas.{same_half, begins_with-itself, begins_with-longer, begins_with_through}
 use Rattle.credit.proofs.ShareLemmas.{length-begins_with}
@@ -64,7 +65,8 @@ ChildrenKnown shares at up =
     (k : ℕ) → HasNoShorter shares (prefix (k ∷ up)) → IsHeldFrom shares (at (k ∷ up)).since (prefix (k ∷ up))
 
 -- a node with as many held children as its run has Keep halves is held
-pub Hold-complete : (shares : List (List Half)) (at : List ℕ → Progress) → AreRunsCounted shares at → (up : List ℕ)
+pub Hold-complete : (shares : List (List Half)) (at : List ℕ → Progress) → AreRunsCounted shares at
+    → (up : List ℕ)
     → ChildrenKnown shares at up → (r : Run) → (at up).run ≡ Some r → (at up).held_children ≡ r.keeps
     → Hold shares (prefix up)
 Hold-complete shares at counted up known r run even =
@@ -79,7 +81,8 @@ Hold-complete shares at counted up known r run even =
     (known j (IsClear-child shares at counted up r j run high)) held))
 
 -- and the other way round
-pub IsFull-held : (shares : List (List Half)) (at : List ℕ → Progress) → AreRunsCounted shares at → (up : List ℕ)
+pub IsFull-held : (shares : List (List Half)) (at : List ℕ → Progress) → AreRunsCounted shares at
+    → (up : List ℕ)
     → ChildrenKnown shares at up → HasNoShorter shares (prefix up) → Hold shares (prefix up) → IsFull (at up)
 IsFull-held shares at counted up known clear held = by_run (at up).run refl
   where
@@ -549,7 +552,8 @@ IsSettling-entered shares at new p m known free put = record {
         let by : is_by (at q).since x ≡ true = ap (λ o. is_by o x) e ∙ le-leb x x (omega arith) in
         absurd (nothing q begun x ((known.since q clear x).0 by))
 
-    settled : (q : List ℕ) → begins_with (prefix p) (prefix q) ≡ false → HasNoShorter (shares ++ s ∷ []) (prefix q)
+    settled : (q : List ℕ) → begins_with (prefix p) (prefix q) ≡ false
+        → HasNoShorter (shares ++ s ∷ []) (prefix q)
         → IsHeldFrom (shares ++ s ∷ []) (at q).since (prefix q)
     settled q off clear =
         IsHeldFrom-push shares s (prefix q) (at q).since

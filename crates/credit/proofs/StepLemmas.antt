@@ -6,7 +6,8 @@ use Rattle.credit.specs.declared.share.Half.{Half}
 use Rattle.credit.specs.declared.tree.Progress.{Progress}
 use Rattle.credit.specs.declared.tree.Tree.{Tree}
 use Rattle.credit.specs.Paths.{path_of}
-use Rattle.credit.specs.Trees.{node_at, child, place, progress_at, with_run, with_since, with_held_child, IsTreeLinked}
+use Rattle.credit.specs.Trees.{node_at, child, place, progress_at, with_run, with_since, with_held_child}
+use Rattle.credit.specs.Trees.{IsTreeLinked}
 use Rattle.credit.specs.Trees.{AreRunsCounted, IsTreeKnown, IsSettling, IsFull}
 use Rattle.credit.proofs.PathLemmas.{keeps-path_of}
 use Rattle.credit.proofs.SettleLemmas.{IsMarked, IsFree, IsRunPut, IsSettling-entered, IsSettling-parent}

@@ -70,7 +70,8 @@ pub time_above-more : (tree : Tree) (runs : List ℕ) (i index : ℕ) (next : Op
     → time_above (progress_at tree) (reverse (take (i + 1) runs)) ≡ next
 time_above-more tree runs i index next less here none run =
     ap (time_above (progress_at tree)) (reverse_take_more runs i 0 less)
-    ∙ ap (λ o. first_time o (time_within (progress_at tree (reverse (take i runs))).run (get_or runs i 0))) none
+    ∙ ap (λ o. first_time o (time_within (progress_at tree (reverse (take i runs))).run (get_or runs i 0)))
+    none
     ∙ ap (λ (p : Progress). time_within p.run (get_or runs i 0))
     (progress_at-place tree (reverse (take i runs)) index here)
     ∙ run

@@ -137,7 +137,8 @@ module _ (old new : Tree) (index : ℕ) (node : Node) (updated : IsUpdated old n
   progress_at-updated p here =
       progress_at-place new p index (updated-place p ∙ here) ∙ ap (λ (x : Node). x.progress) updated-here
 
-  pub progress_at-kept : IsTreeLinked old → (p : List ℕ) → place (child old) p ≡ Some index → (q : List ℕ) → q ≢ p
+  pub progress_at-kept : IsTreeLinked old → (p : List ℕ) → place (child old) p ≡ Some index → (q : List ℕ)
+      → q ≢ p
       → progress_at new q ≡ progress_at old q
   progress_at-kept linked p here q apart = by_place (place (child old) q) refl
     where

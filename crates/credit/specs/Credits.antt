@@ -92,7 +92,8 @@ exchange passes others (c ∷ credits) =
 abbrev pub next_credits : List Credit → Event → List Credit
 next_credits credits (Root task) = if was_made task credits then credits else whole_credit task ∷ credits
 next_credits credits (Create creator child) =
-    if was_made child credits then credits else exchange (has_task_share creator) (shared_halves child) credits
+    if was_made child credits then credits
+    else exchange (has_task_share creator) (shared_halves child) credits
 next_credits credits (Finish task) = exchange (has_task_share task) entered_credit credits
 next_credits credits (Detach task) = exchange (has_task_share task) detached_halves credits
 next_credits credits (Fulfil task) = exchange (has_event_share task) entered_credit credits

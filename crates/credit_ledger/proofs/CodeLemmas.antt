@@ -13,7 +13,8 @@ use Rattle.credit.proofs.RunLemmas.{begins_with-both, start_share-append}
 use Rattle.credit_ledger.specs.declared.entry.Entry.{Entry}
 use Rattle.credit_ledger.specs.Entries.{part_halves, tree_share, parent_and_number, is_same_path, tree_shares}
 use Rattle.credit_ledger.specs.Codes.{region_code, tree_code, pool_runs, second_code, codes, all_codes}
-use Rattle.credit_ledger.proofs.RegionLemmas.{IsShareIn, IsIn-append_left, IsIn-append_right, IsIn-append_cases}
+use Rattle.credit_ledger.proofs.RegionLemmas.{IsShareIn, IsIn-append_left, IsIn-append_right}
+use Rattle.credit_ledger.proofs.RegionLemmas.{IsIn-append_cases}
 use Rattle.credit_ledger.proofs.RegionLemmas.{IsShifted, shifted, AreShifted}
 
 -- ---- regions
@@ -134,7 +135,8 @@ IsRegion-flat_map a s f g each (e ∷ es) = join (IsRegion-flat_map a s f g each
         → AreShifted a s (f e ++ flat_map f es) (g e ++ flat_map g es)
     join rest = record {
       there = λ y h. ⊎_elim
-          (λ (here : IsShareIn y (g e)). IsIn-append_left (a ++ y) (f e) (flat_map f es) ((each e).there y here))
+          (λ (here : IsShareIn y (g e)).
+          IsIn-append_left (a ++ y) (f e) (flat_map f es) ((each e).there y here))
           (λ (later : IsShareIn y (flat_map g es)).
           IsIn-append_right (a ++ y) (f e) (flat_map f es) (rest.there y later))
           (IsIn-append_cases y (g e) (flat_map g es) h);

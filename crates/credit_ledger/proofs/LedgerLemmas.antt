@@ -19,7 +19,8 @@ use Rattle.credit_ledger.specs.Entries.{overlaps_in_pool, is_overlap, share_in_p
 use Rattle.credit_ledger.specs.Entries.{IsChildHeld, entry_fault}
 use Rattle.credit_ledger.specs.declared.fault.LedgerFault.TheVariants.{Memory, Overlap, Full}
 use Rattle.std.specs.Option.{option_map_or}
-use Rattle.credit_ledger.specs.Codes.{region_code, tree_code, pool_runs, second_code, codes, all_codes, start_code}
+use Rattle.credit_ledger.specs.Codes.{region_code, tree_code, pool_runs, second_code, codes, all_codes}
+use Rattle.credit_ledger.specs.Codes.{start_code}
 use Rattle.credit_ledger.proofs.RegionLemmas.{IsShareIn, IsIn-append_left, IsIn-append_right, list_any-in}
 use Rattle.credit_ledger.proofs.RegionLemmas.{begins_with-shift, IsShifted, shifted, AreShifted, Hold-outside}
 use Rattle.credit_ledger.proofs.RegionLemmas.{Hold-inside}
@@ -34,11 +35,13 @@ IsShifted-under : (b : Bool) (a x : List Half) (ys : List (List Half)) → b ≡
 IsShifted-under true a x ys e h = h
 IsShifted-under false a x ys e h = absurd (false≢true e)
 
-in_under : (b : Bool) (y : List Half) (ys : List (List Half)) → IsShareIn y (cond b ys []) → (b ≡ true) × IsShareIn y ys
+in_under : (b : Bool) (y : List Half) (ys : List (List Half)) → IsShareIn y (cond b ys [])
+    → (b ≡ true) × IsShareIn y ys
 in_under true y ys h = (refl, h)
 in_under false y ys h = absurd h
 
-under_in : (b : Bool) (y : List Half) (ys : List (List Half)) → b ≡ true → IsShareIn y ys → IsShareIn y (cond b ys [])
+under_in : (b : Bool) (y : List Half) (ys : List (List Half)) → b ≡ true → IsShareIn y ys
+    → IsShareIn y (cond b ys [])
 under_in true y ys e h = h
 under_in false y ys e h = absurd (false≢true e)
 

@@ -23,7 +23,8 @@ use Rattle.credit_ledger.specs.declared.view.View.{View}
 use Rattle.credit_ledger.specs.declared.view.Claim.{Claim}
 use Rattle.credit_ledger.specs.Histories.{after_call, IsPossible, IsLegalFrom, IsLegal, entries_after}
 use Rattle.credit_ledger.specs.Seats.{Slot, seat_calls, StartsWith, with_number, with_ticket, turn_taken}
-use Rattle.credit_ledger.specs.Seats.{with_call, seat_step, has_ticket, Knows, FitsAt, FitsHistory, IsHome, IsRuleKept}
+use Rattle.credit_ledger.specs.Seats.{with_call, seat_step, has_ticket, Knows, FitsAt, FitsHistory, IsHome}
+use Rattle.credit_ledger.specs.Seats.{IsRuleKept}
 use Rattle.credit_ledger.specs.Seats.{IsLater, Kept, Settled, Drawn, HasTurn, Served, Looked, Entered}
 use Rattle.credit_ledger.specs.Seats.{Extends, Sat, Told, newcomer, copied, told_of, spent, claim_of}
 use Rattle.credit_ledger.specs.Seats.{with_given, with_claim, AreOfOthers, IsSpentAt, IsHeld, AreSpent}
@@ -60,7 +61,8 @@ calls-own n h s is =
     filter-append (λ (x : Step). x.seat == n) h (s ∷ [])
     ∙ ap (λ l. seat_calls n h ++ l) (cond-true (s.seat == n) (s ∷ []) [] (eq-eqb s.seat n is))
 
-pub calls-other : (n : ℕ) (h : List Step) (s : Step) → s.seat ≢ n → seat_calls n (h ++ s ∷ []) ≡ seat_calls n h
+pub calls-other : (n : ℕ) (h : List Step) (s : Step) → s.seat ≢ n
+    → seat_calls n (h ++ s ∷ []) ≡ seat_calls n h
 calls-other n h s other =
     filter-append (λ (x : Step). x.seat == n) h (s ∷ [])
     ∙ ap (λ l. seat_calls n h ++ l)
@@ -209,7 +211,8 @@ kept-changed h next serving s k id v at h2 next2 serving2 words homes w words_ar
       seats = λ n u e.
           ⊎_elim
           (λ (is : (n ≡ id) × (w ≡ u)).
-          subst (λ m. FitsHistory h2 next2 serving2 m u) (sym is.0) (subst (FitsHistory h2 next2 serving2 id) is.1 mine))
+          subst (λ m. FitsHistory h2 next2 serving2 m u) (sym is.0)
+          (subst (FitsHistory h2 next2 serving2 id) is.1 mine))
           (λ (other : (n ≢ id) × (get_elem? s.views n ≡ some u)). others n u other.0 other.1)
           (at_set s.views id n w u e);
       strangers = λ n far. strangers n (omega (arith, far, length-set s.views id w));
@@ -271,7 +274,8 @@ no_left [] ys e = refl
 no_left (x ∷ xs) ys e = absurd (omega (arith, ap length e))
 
 -- a number of no call is that of no call in what a seat has seen
-pub no_calls : (n : ℕ) (h first : List Step) → StartsWith h first → seat_calls n h ≡ [] → seat_calls n first ≡ []
+pub no_calls : (n : ℕ) (h first : List Step) → StartsWith h first → seat_calls n h ≡ []
+    → seat_calls n first ≡ []
 no_calls n h first starts free =
     no_left (seat_calls n first) (seat_calls n starts.0)
     (sym (filter-append (λ (x : Step). x.seat == n) first starts.0) ∙ sym (ap (seat_calls n) starts.1) ∙ free)
@@ -720,7 +724,8 @@ looked-list given after gave =
     ap (λ m. entries_after m.0.seen) gave ∙ entries-more given.0.seen (seat_step given.0 Look)
 
 -- the view of a seat that has the turn
-pub turn_view : (v : View) (t : ℕ) (h : List Step) (drawn served : Me Slot View) → drawn ≡ (with_ticket v t, [])
+pub turn_view : (v : View) (t : ℕ) (h : List Step) (drawn served : Me Slot View)
+    → drawn ≡ (with_ticket v t, [])
     → served ≡ (turn_taken drawn.0 h, (0, Some (entries_after h)) ∷ [])
     → served ≡ (turn_taken (with_ticket v t) h, (0, Some (entries_after h)) ∷ [])
 turn_view v t h drawn served is has = has ∙ ap (λ m. (turn_taken m.0 h, (0, Some (entries_after h)) ∷ [])) is

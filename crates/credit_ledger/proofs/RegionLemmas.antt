@@ -27,7 +27,8 @@ pub IsIn-append_right : (x : List Half) (xs ys : List (List Half)) → IsShareIn
 IsIn-append_right x [] ys h = h
 IsIn-append_right x (y ∷ xs) ys h = inr (IsIn-append_right x xs ys h)
 
-pub IsIn-append_cases : (x : List Half) (xs ys : List (List Half)) → IsShareIn x (xs ++ ys) → IsShareIn x xs ⊎ IsShareIn x ys
+pub IsIn-append_cases : (x : List Half) (xs ys : List (List Half)) → IsShareIn x (xs ++ ys)
+    → IsShareIn x xs ⊎ IsShareIn x ys
 IsIn-append_cases x [] ys h = inr h
 IsIn-append_cases x (y ∷ xs) ys h =
     ⊎_elim (λ (same : x ≡ y). inl (inl same))
@@ -55,7 +56,8 @@ Passes-list_any test (y ∷ xs) h =
     later : Passes test xs → Passes test (y ∷ xs)
     later (passes x there ok) = passes x (inr there) ok
 
-short_from_all : (l : List Half) (xs : List (List Half)) → ((x : List Half) → IsShareIn x xs → length x ≤ length l)
+short_from_all : (l : List Half) (xs : List (List Half))
+    → ((x : List Half) → IsShareIn x xs → length x ≤ length l)
     → ByRecursion (IsAsLong l) xs
 short_from_all l [] all = tt
 short_from_all l (x ∷ xs) all = (all x (inl refl), short_from_all l xs (λ y there. all y (inr there)))

@@ -23,7 +23,8 @@ use Rattle.credit_ledger.specs.declared.view.View.{View}
 use Rattle.credit_ledger.specs.declared.view.Claim.{Claim}
 use Rattle.credit_ledger.specs.Histories.{after_call, IsPossible, IsLegalFrom, IsLegal, entries_after}
 use Rattle.credit_ledger.specs.Seats.{Slot, seat_calls, StartsWith, with_number, with_ticket, turn_taken}
-use Rattle.credit_ledger.specs.Seats.{with_call, seat_step, has_ticket, Knows, FitsAt, FitsHistory, IsHome, IsRuleKept}
+use Rattle.credit_ledger.specs.Seats.{with_call, seat_step, has_ticket, Knows, FitsAt, FitsHistory, IsHome}
+use Rattle.credit_ledger.specs.Seats.{IsRuleKept}
 use Rattle.credit_ledger.specs.Seats.{IsLater, Kept, Settled, Drawn, HasTurn, Served, Looked, Entered}
 use Rattle.credit_ledger.specs.Seats.{Extends, Sat, Told, newcomer, copied, told_of, spent, claim_of}
 use Rattle.credit_ledger.specs.Seats.{with_given, with_claim, AreOfOthers, IsSpentAt, IsHeld, AreSpent}

@@ -15,7 +15,8 @@ after_call entries Look = entries
 
 -- the call may be made: there is room for the entry, and it overlaps none
 abbrev pub IsPossible : List Entry → Call → Type 0
-IsPossible entries (Enter entry) = (is_ledger_full entries ≡ false) × (list_any (is_overlap entry) entries ≡ false)
+IsPossible entries (Enter entry) =
+    (is_ledger_full entries ≡ false) × (list_any (is_overlap entry) entries ≡ false)
 IsPossible entries Look = Unit {0}
 
 -- each call was possible, and its reply was the length that it met

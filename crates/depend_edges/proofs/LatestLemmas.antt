@@ -27,7 +27,8 @@ use Rattle.depend_edges.specs.declared.maxima.Maxima.{Maxima}
 use Rattle.depend_edges.specs.Maxima.{maximum_at, ConflictAlike, AreLengthsEntered, IsGreatest}
 use Rattle.depend_edges.specs.Edges.{ArePredecessorLengths}
 use Rattle.depend_edges.specs.Lists.{AreListed, HasList}
-use Rattle.depend_edges.specs.Latest.{IsUse, AreMaxima, IsGreatestLength, IsChildPassed, AreLatestSoFar, IsChildOfIndex}
+use Rattle.depend_edges.specs.Latest.{IsUse, AreMaxima, IsGreatestLength, IsChildPassed, AreLatestSoFar}
+use Rattle.depend_edges.specs.Latest.{IsChildOfIndex}
 use Rattle.depend_edges.specs.Latest.{AreMaximaAt}
 
 -- ---- the greatest lengths of the children so far
@@ -48,7 +49,8 @@ pub maxima_more : (rs : List Record) (tasks own siblings : List ℕ) (n index ta
     (old new : BTreeMap ℕ Maxima)
     → AreApart tasks → slice_get siblings n ≡ Some task → slice_get tasks index ≡ Some task
     → ((dep : Dep) → Contains items dep ↔ DependsOn rs task dep)
-    → AreLengthsEntered old new items (length items) (slice_index own index) → AreMaxima rs tasks own siblings n old
+    → AreLengthsEntered old new items (length items) (slice_index own index)
+    → AreMaxima rs tasks own siblings n old
     → AreMaxima rs tasks own siblings (n + 1) new
 maxima_more rs tasks own siblings n index task items old new apart here is_index depends entered are =
     record {
@@ -324,7 +326,8 @@ child_found rs family up number task are within child none =
 
 pub maxima_at_more : (rs : List Record) (family : FamilyView) (own : List ℕ) (up n index task : ℕ)
     (items : List Dep) (old new : BTreeMap ℕ Maxima)
-    → IsFamilyOf rs family → IsChildOfIndex rs family.tasks up n task → slice_get family.tasks index ≡ Some task
+    → IsFamilyOf rs family → IsChildOfIndex rs family.tasks up n task
+    → slice_get family.tasks index ≡ Some task
     → ((dep : Dep) → Contains items dep ↔ DependsOn rs task dep)
     → AreLengthsEntered old new items (length items) (slice_index own index)
     → AreMaximaAt rs family.tasks own up n old → AreMaximaAt rs family.tasks own up (n + 1) new
@@ -363,7 +366,8 @@ latest_at_next rs tasks own latest up n within long are =
 pub latest_none : (rs : List Record) (family : FamilyView) (own latest : List ℕ) (lists : List (Option ℕ))
     (listed : Bool)
     → IsFamilyOf rs family → AreListed rs (length rs) family.tasks lists → IsTrue listed ↔ HasList lists
-    → listed ≡ false → latest ≡ replicate (length family.tasks) 0 → ArePredecessorLengths rs family.tasks own latest
+    → listed ≡ false → latest ≡ replicate (length family.tasks) 0
+    → ArePredecessorLengths rs family.tasks own latest
 latest_none rs family own latest lists listed is are tells not_listed zeros = record {
   all = ap length zeros ∙ length-replicate (length family.tasks) 0;
   each =

@@ -14,7 +14,8 @@ use Rattle.ompt_events.specs.Names.{conflict}
 use Rattle.ompt_events.proofs.ListLemmas.{get_contains}
 use Rattle.ompt_events.proofs.NumberMaps.{updated_here, updated_there}
 use Rattle.depend_edges.specs.declared.maxima.Maxima.{Maxima}
-use Rattle.depend_edges.specs.Maxima.{maximum, maximum_at, IsKindRaised, IsGreatestConflicting, AreLengthsEntered, IsGreatest}
+use Rattle.depend_edges.specs.Maxima.{maximum, maximum_at, IsKindRaised, IsGreatestConflicting}
+use Rattle.depend_edges.specs.Maxima.{AreLengthsEntered, IsGreatest}
 
 -- the greater of two numbers
 pub max_cases : (a b : ℕ) → (max a b ≡ a) ⊎ (max a b ≡ b)
@@ -25,7 +26,8 @@ max_cases a b = elim (cases_lt b a) [
 
 -- ---- what an item waits for
 
-pub awaited_in : (m : Maxima) (a r : ℕ) → a ≡ max m.writers m.mutexes → r ≡ max a m.sets → IsGreatestConflicting m In r
+pub awaited_in : (m : Maxima) (a r : ℕ) → a ≡ max m.writers m.mutexes → r ≡ max a m.sets
+    → IsGreatestConflicting m In r
 awaited_in m a r first second = record {
   bound = bound;
   reached = elim (max_cases a m.sets) [

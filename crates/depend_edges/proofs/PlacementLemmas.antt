@@ -18,7 +18,8 @@ use Rattle.ompt_events.proofs.PlaceLemmas.{at_within}
 use Rattle.task_tree.proofs.LinkLemmas.{get_set_same, get_set_other}
 use Rattle.task_tree.specs.Runs.{RunView, IsRun, IsIndexOf, AreDependences}
 use Rattle.task_tree.proofs.SubjectLemmas.{call_task}
-use Rattle.depend_edges.specs.Placement.{IsLastOfThread, AreLastOfThreads, BelongTogether, HasDependences, HasNoneAt, IsListMarked}
+use Rattle.depend_edges.specs.Placement.{IsLastOfThread, AreLastOfThreads, BelongTogether, HasDependences}
+use Rattle.depend_edges.specs.Placement.{HasNoneAt, IsListMarked}
 use Rattle.depend_edges.specs.Placement.{AreListsMarked}
 
 -- ---- the last record of each thread
@@ -33,7 +34,8 @@ no_slot n k slots are below =
 pub slots_long : (n : ℕ) (slots : List (Option ℕ)) → slots ≡ replicate n None → length slots ≡ n
 slots_long n slots are = ap length are ∙ length-replicate n None
 
-pub last_none : (rs : List Record) (last : List (Option ℕ)) → last ≡ replicate 256 None → AreLastOfThreads rs 0 last
+pub last_none : (rs : List Record) (last : List (Option ℕ)) → last ≡ replicate 256 None
+    → AreLastOfThreads rs 0 last
 last_none rs last are = record {
   all = slots_long 256 last are;
   each = λ thread a below. (
@@ -43,14 +45,16 @@ last_none rs last are = record {
   );
 }
 
-last_here : (rs : List Record) (i thread : ℕ) → thread_at rs i ≡ Some thread → IsLastOfThread rs (i + 1) thread i
+last_here : (rs : List Record) (i thread : ℕ) → thread_at rs i ≡ Some thread
+    → IsLastOfThread rs (i + 1) thread i
 last_here rs i thread runs = record {
   before = omega arith;
   runs = runs;
   last = λ k after before. absurd (omega arith);
 }
 
-last_same : (rs : List Record) (i thread a : ℕ) → thread_at rs i ≡ Some thread → IsLastOfThread rs (i + 1) thread a
+last_same : (rs : List Record) (i thread a : ℕ) → thread_at rs i ≡ Some thread
+    → IsLastOfThread rs (i + 1) thread a
     → i ≡ a
 last_same rs i thread a runs is = elim (cases_lt a i) [
   | inl less ↦ absurd (is.last i less (omega arith) runs)
@@ -68,7 +72,8 @@ last_stays rs i thread a apart is = record {
   ];
 }
 
-last_back : (rs : List Record) (i thread a : ℕ) → thread_at rs i ≢ Some thread → IsLastOfThread rs (i + 1) thread a
+last_back : (rs : List Record) (i thread a : ℕ) → thread_at rs i ≢ Some thread
+    → IsLastOfThread rs (i + 1) thread a
     → IsLastOfThread rs i thread a
 last_back rs i thread a apart is = record {
   before = elim (cases_lt a i) [
@@ -135,7 +140,8 @@ last_next rs i own a last within runs low are stands =
     }
 
 pub next_is : (rs : List Record) (i own : ℕ) (last : List (Option ℕ)) (slot : Option ℕ) → i < length rs
-    → thread_at rs i ≡ Some own → own < 256 → AreLastOfThreads rs i last → slot ≡ get_or last own slot → (a : ℕ)
+    → thread_at rs i ≡ Some own → own < 256 → AreLastOfThreads rs i last → slot ≡ get_or last own slot
+    → (a : ℕ)
     → (slot ≡ Some a) ↔ IsNextInThread rs a i
 next_is rs i own last slot within runs low are read a =
     let stands : slice_get last own ≡ Some slot = slice_get_read last 256 own slot (sym are.all) low read in (
@@ -184,7 +190,8 @@ mark_stays marks i k stands = elim (cases_eq k i) [
   | inr apart ↦ get_set_other marks i k true apart ∙ stands
 ]
 
-mark_cases : (marks : List Bool) (i k : ℕ) → IsListMarked (set marks i true) k → IsListMarked marks k ⊎ (k ≡ i)
+mark_cases : (marks : List Bool) (i k : ℕ) → IsListMarked (set marks i true) k
+    → IsListMarked marks k ⊎ (k ≡ i)
 mark_cases marks i k stands = elim (cases_eq k i) [
   | inl same ↦ inr same
   | inr apart ↦ inl (sym (get_set_other marks i k true apart) ∙ stands)
@@ -335,7 +342,8 @@ none_found rs n before all i has =
 
 -- ---- a mark that was read
 
-pub unmark_here : (marks : List Bool) (i : ℕ) → slice_index_or marks i false ≡ false → IsListMarked marks i → ⊥
+pub unmark_here : (marks : List Bool) (i : ℕ) → slice_index_or marks i false ≡ false → IsListMarked marks i
+    → ⊥
 unmark_here marks i read stands =
     let within = slice_get_within marks i true stands in
     let is : slice_index_or marks i false ≡ true =

@@ -38,13 +38,14 @@ pub record IsGreatestConflicting (maxima : Maxima) (kind : DepKind) (greatest : 
   pub reached : (other : DepKind) × (conflict other kind ≡ true) × (maximum maxima other ≡ greatest)
 
 -- a length is entered for the first n items
-pub record AreLengthsEntered (old new : BTreeMap ℕ Maxima) (items : List Dep) (n task_length : ℕ) : Type 0 where
-  pub rises : (var : ℕ) (kind : DepKind) → maximum_at old var kind ≤ maximum_at new var kind
-  pub entered : (k : ℕ) (item : Dep) → k < n → slice_get items k ≡ Some item
-      → task_length ≤ maximum_at new item.var item.kind
-  pub only : (var : ℕ) (kind : DepKind) → (maximum_at new var kind ≡ maximum_at old var kind)
-      ⊎ ((item : Dep) × Contains items item × (item.var ≡ var) × ConflictAlike item.kind kind
-      × (maximum_at new var kind ≡ task_length))
+pub record AreLengthsEntered (old new : BTreeMap ℕ Maxima) (items : List Dep) (n task_length : ℕ) : Type 0
+  where
+    pub rises : (var : ℕ) (kind : DepKind) → maximum_at old var kind ≤ maximum_at new var kind
+    pub entered : (k : ℕ) (item : Dep) → k < n → slice_get items k ≡ Some item
+        → task_length ≤ maximum_at new item.var item.kind
+    pub only : (var : ℕ) (kind : DepKind) → (maximum_at new var kind ≡ maximum_at old var kind)
+        ⊎ ((item : Dep) × Contains items item × (item.var ≡ var) × ConflictAlike item.kind kind
+        × (maximum_at new var kind ≡ task_length))
 
 -- the greatest length of those that conflict with one of the first n items, 0 where there is none
 pub record IsGreatest (map : BTreeMap ℕ Maxima) (items : List Dep) (n greatest : ℕ) : Type 0 where

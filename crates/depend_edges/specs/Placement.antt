@@ -16,7 +16,8 @@ pub record IsLastOfThread (rs : List Record) (n thread a : ℕ) : Type 0 where
 -- by thread the place of the last of its records among the first n
 pub record AreLastOfThreads (rs : List Record) (n : ℕ) (last : List (Option ℕ)) : Type 0 where
   pub all : length last ≡ 256
-  pub each : (thread a : ℕ) → thread < 256 → (slice_get last thread ≡ Some (Some a)) ↔ IsLastOfThread rs n thread a
+  pub each : (thread a : ℕ) → thread < 256
+      → (slice_get last thread ≡ Some (Some a)) ↔ IsLastOfThread rs n thread a
 
 -- the one record creates a task with dependences, and the other lists those of that task
 abbrev pub BelongTogether : List Record → ℕ → ℕ → Type 0

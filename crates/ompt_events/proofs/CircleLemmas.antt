@@ -351,7 +351,8 @@ reach rs old x all = record {
 
 -- either the way back from i passes a place twice, or x and all before it stand in a grounded list
 go_back : (rs : List Record) (i fuel x : ℕ) (path : List ℕ) → IsTrail rs i x path
-    → length rs ≤ length path + fuel → (old : List ℕ) → IsGrounded rs old → Circle rs i ⊎ ReachesRecord rs old x
+    → length rs ≤ length path + fuel → (old : List ℕ) → IsGrounded rs old
+    → Circle rs i ⊎ ReachesRecord rs old x
 go_back rs i zero x path trail enough old grounded =
     let few : length (x ∷ path) ≤ length rs =
     length-le_from_distinct_below (x ∷ path) (length rs) trail.distinct trail.below in
@@ -368,7 +369,8 @@ go_back rs i (suc fuel) x path trail enough old grounded =
     visit :
         ((y : ℕ) → IsTrail rs i y (x ∷ path) → (order : List ℕ) → IsGrounded rs order
         → Circle rs i ⊎ ReachesRecord rs order y)
-        → (y : ℕ) → IsStep rs y x → (order : List ℕ) → IsGrounded rs order → Circle rs i ⊎ ReachesRecord rs order y
+        → (y : ℕ) → IsStep rs y x → (order : List ℕ) → IsGrounded rs order
+        → Circle rs i ⊎ ReachesRecord rs order y
     visit further y leads order is_grounded = elim (cases_Bool (list_any (eqb y) (x ∷ path))) [
       | inl passed ↦ inl (closes rs i x y path trail leads passed)
       | inr new ↦ further y (longer rs i x y path trail leads new) order is_grounded

@@ -88,7 +88,8 @@ pub record IsOwnBegin (rs : List Record) (task n begin : ℕ) : Type 0 where
   pub kind : SyncKind
   pub begins : at region rs begin ≡ Some (task, kind, Begin)
 
-own_begin_later : (rs : List Record) (task n begin : ℕ) → IsOwnBegin rs task n begin → IsOwnBegin rs task (n + 1) begin
+own_begin_later : (rs : List Record) (task n begin : ℕ) → IsOwnBegin rs task n begin
+    → IsOwnBegin rs task (n + 1) begin
 own_begin_later rs task n begin is = record {
   before = let h = is.before in omega arith;
   kind = is.kind;

@@ -21,7 +21,8 @@ use Rattle.atomic_table.specs.Seated.{TableId}
 use Rattle.credit_ledger.specs.Entries as ledger
 use Rattle.recorder.specs.declared.fault.CallFault.{CallFault}
 use Rattle.recorder.specs.Calls.{ledger_refusal}
-use Rattle.recorder.specs.Recorders.{RecorderView, entries_of, HaveEntries, IsBacked, entry_by, IsFinishRefused}
+use Rattle.recorder.specs.Recorders.{RecorderView, entries_of, HaveEntries, IsBacked, entry_by}
+use Rattle.recorder.specs.Recorders.{IsFinishRefused}
 use Rattle.recorder.specs.Recorders.{by_ledger}
 
 entered-pushed : (own : List Record) (r : Record) (first later : List Entry) → HaveEntries own first

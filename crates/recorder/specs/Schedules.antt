@@ -24,7 +24,8 @@ use Rattle.recorder.specs.declared.fault.CallFault.{CallFault}
 use Rattle.recorder.specs.declared.fault.CallFault.TheVariants.{WrongState}
 use Rattle.recorder.specs.Standing.{innermost}
 use Rattle.recorder.specs.Logs.{standing_of}
-use Rattle.recorder.specs.Tasks.{TaskView, parent_of, place_of, is_root_on, state_moved, current_turn, turn_after}
+use Rattle.recorder.specs.Tasks.{TaskView, parent_of, place_of, is_root_on, state_moved, current_turn}
+use Rattle.recorder.specs.Tasks.{turn_after}
 use Rattle.recorder.specs.Tasks.{after_stop, entry_of_part}
 use Rattle.recorder.specs.Recorders.{RecorderView, IsObserved, IsConcluded, refusal_at}
 

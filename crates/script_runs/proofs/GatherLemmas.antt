@@ -96,7 +96,8 @@ find_thread (b ∷ buffers) thread own apart = elim (eqb_tells b.thread thread) 
         refl,
         same.1,
         records_more b buffers thread
-            ∙ ap (λ l. l ++ thread_records (gathered buffers) thread) (of_thread b thread (own 0 b refl) same.1)
+            ∙ ap (λ l. l ++ thread_records (gathered buffers) thread)
+            (of_thread b thread (own 0 b refl) same.1)
             ∙ ap (λ l. b.records ++ l) (of_nowhere buffers thread (λ i it is. own (suc i) it is) others)
             ∙ append-nil b.records,
       )

@@ -12,7 +12,8 @@ use Rattle.task_states.specs.Rows.{row_at}
 use Rattle.recorder.specs.Recorders.{RecorderView}
 use Rattle.callbacks.proofs.KnownLaw.{take_next}
 use Rattle.script_runs.specs.Calls.{called, step_calls, steps_of, calls_of, recorded_calls}
-use Rattle.script_runs.specs.Parts.{call_at, ArePlaces, IsCalled, IsPlaceAdded, IsStepTaken, HasRecorded, HasRunTo}
+use Rattle.script_runs.specs.Parts.{call_at, ArePlaces, IsCalled, IsPlaceAdded, IsStepTaken, HasRecorded}
+use Rattle.script_runs.specs.Parts.{HasRunTo}
 
 -- ---- lists of what is there
 

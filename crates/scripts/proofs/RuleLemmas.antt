@@ -20,7 +20,8 @@ use Rattle.ompt_events.specs.Records.{made, named, claim, told_turns}
 use Rattle.scripts.specs.declared.script.Step.{Step}
 use Rattle.scripts.specs.declared.lives.Life.{Life}
 use Rattle.scripts.specs.declared.lives.Life.TheVariants.{Live, Over}
-use Rattle.scripts.specs.Scripts.{is_call, ended, life_after, life, step_count, task_count, is_earlier, has_twice}
+use Rattle.scripts.specs.Scripts.{is_call, ended, life_after, life, step_count, task_count, is_earlier}
+use Rattle.scripts.specs.Scripts.{has_twice}
 use Rattle.scripts.specs.Scripts.{is_made, may_be_named, may_follow, IsScript}
 use Rattle.scripts.specs.Rules.{IsMadeByStep, IsEnded, MayFollow}
 use Rattle.scripts.proofs.CallLemmas.{making_ends_none, made_is_named, ended_is_named, apart_from_test}
@@ -34,7 +35,8 @@ IsLife steps task None = (IsMadeByStep steps task → ⊥) × (IsEnded steps tas
 IsLife steps task (Some Live) = IsMadeByStep steps task × (IsEnded steps task → ⊥)
 IsLife steps task (Some Over) = IsMadeByStep steps task × IsEnded steps task
 
-made_stays : (steps : List Step) (s : Step) (task : ℕ) → IsMadeByStep steps task → IsMadeByStep (steps ++ s ∷ []) task
+made_stays : (steps : List Step) (s : Step) (task : ℕ) → IsMadeByStep steps task
+    → IsMadeByStep (steps ++ s ∷ []) task
 made_stays steps s task (x, has, says) = (x, Contains-append_left steps (s ∷ []) x has, says)
 
 ended_stays : (steps : List Step) (s : Step) (task : ℕ) → IsEnded steps task → IsEnded (steps ++ s ∷ []) task

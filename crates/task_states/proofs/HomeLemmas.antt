@@ -161,8 +161,10 @@ ran_still rs n task (On thread) none ran = record {
 ran_still rs n task Many none ran = off_longer rs n task ran
 
 -- a record that starts no explicit task changes nothing
-pub homes_other : (rs : List Record) (i : ℕ) (tasks : List ℕ) (homes : List Home) → AreHomesBelow rs i tasks homes
-    → ((task : ℕ) → at started rs i ≡ Some task → IsExplicit rs task → ⊥) → AreHomesBelow rs (i + 1) tasks homes
+pub homes_other : (rs : List Record) (i : ℕ) (tasks : List ℕ) (homes : List Home)
+    → AreHomesBelow rs i tasks homes
+    → ((task : ℕ) → at started rs i ≡ Some task → IsExplicit rs task → ⊥)
+    → AreHomesBelow rs (i + 1) tasks homes
 homes_other rs i tasks homes are none = record {
   all = are.all;
   each = λ index task stands explicit.
@@ -244,7 +246,8 @@ ran_more rs i task thread told Many new once explicit starts runs tells ran goes
 
 pub homes_more : (rs : List Record) (i index thread : ℕ) (told : Bool) (home new : Home) (tasks : List ℕ)
     (homes : List Home)
-    → IsFreeOf rs CreatedTwice → AreApart tasks → AreHomesBelow rs i tasks homes → IsExplicitStart rs tasks i index
+    → IsFreeOf rs CreatedTwice → AreApart tasks → AreHomesBelow rs i tasks homes
+    → IsExplicitStart rs tasks i index
     → thread_at rs i ≡ Some thread → told ≡ is_some (at told_turns rs i) → slice_get homes index ≡ Some home
     → home_after home thread told ≡ Some new → AreHomesBelow rs (i + 1) tasks (set homes index new)
 homes_more rs i index thread told home new tasks homes once apart_all are start runs tells old goes = record {

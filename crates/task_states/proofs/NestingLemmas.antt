@@ -143,7 +143,8 @@ pub record AreOpenRoots (run : RunView) (i : ℕ) (walks : List Walk) : Type 0 w
   pub each : (thread : ℕ) → thread < 256
       → AreCalled run.family.tasks (get_or walks thread at_start).roots (get_or whole thread at_start).roots
 
-pub roots_none : (run : RunView) (walks : List Walk) → walks ≡ replicate 256 at_start → AreOpenRoots run 0 walks
+pub roots_none : (run : RunView) (walks : List Walk) → walks ≡ replicate 256 at_start
+    → AreOpenRoots run 0 walks
 roots_none run walks fresh =
     let are = stands_none run walks fresh in
     record {

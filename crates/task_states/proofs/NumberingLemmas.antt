@@ -26,7 +26,8 @@ no_seq_gap rs i r within read numbered (q, found, apart) =
 
 -- one record more is counted for its own thread
 pub counted_more : (rs : List Record) (i : ℕ) (r : Record) (counts : List ℕ) → i < length rs
-    → r ≡ get_or rs i r → r.thread < length counts → ((t : ℕ) → t < 256 → get_or counts t 0 ≡ thread_records_before rs i t)
+    → r ≡ get_or rs i r → r.thread < length counts
+    → ((t : ℕ) → t < 256 → get_or counts t 0 ≡ thread_records_before rs i t)
     → (t : ℕ) → t < 256
     → get_or (set counts r.thread (get_or counts r.thread 0 + 1)) t 0 ≡ thread_records_before rs (i + 1) t
 counted_more rs i r counts within read fits counted t below = elim (cases_eq t r.thread) [
@@ -52,7 +53,8 @@ counted_more rs i r counts within read fits counted t below = elim (cases_eq t r
 
 -- the first record with another number
 pub first_gap : (rs : List Record) (i : ℕ) (r : Record) → i < length rs → r ≡ get_or rs i r
-    → r.seq ≢ thread_records_before rs i r.thread → ((k : ℕ) → k < i → HasSeqGap rs k → ⊥) → IsFirstWith rs SeqGap i
+    → r.seq ≢ thread_records_before rs i r.thread → ((k : ℕ) → k < i → HasSeqGap rs k → ⊥)
+    → IsFirstWith rs SeqGap i
 first_gap rs i r within read apart free = record {
   within = within;
   has = seq_gap (r, read_get rs i r within read, apart);

@@ -28,7 +28,8 @@ use Rattle.task_tree.specs.OwnOrder.{AreAllPlaces}
 use Rattle.task_tree.specs.Own.{OwnView, HasCauseAt, IsFirstPlaceWith}
 use Rattle.task_tree.specs.Runs.{RunView, IsRegionEvent}
 use Rattle.task_tree.proofs.RenamedCauseLemmas.{order_within}
-use Rattle.task_states.specs.Regions.{RegionsView, AreRegions, IsEndLinked, IsRegionBegin, below_of, top_after}
+use Rattle.task_states.specs.Regions.{RegionsView, AreRegions, IsEndLinked, IsRegionBegin, below_of}
+use Rattle.task_states.specs.Regions.{top_after}
 use Rattle.task_states.specs.Regions.{IsStack, IsInnermost, IsInPlace, IsPlaceJudged, AreLinkedOrNot}
 use Rattle.task_states.specs.Regions.{IsEarliestPlace, IsEarliest}
 

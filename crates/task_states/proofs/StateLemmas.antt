@@ -280,7 +280,8 @@ moved_by rs task i move has = by (has_moved rs task) has
         ]
 
 refused_there : (rs : List Record) (family : FamilyView) (task i : ℕ) → IsFamilyOf rs family
-    → IsMoveRefused (nature_of rs task) (all_moves_of rs task) i → (i < length rs) × Contains family.tasks task
+    → IsMoveRefused (nature_of rs task) (all_moves_of rs task) i
+    → (i < length rs) × Contains family.tasks task
 refused_there rs family task i are refused =
     let has =
     moved_by rs task i refused.move

@@ -80,7 +80,8 @@ none_begun rs i silent = there (slice_get rs i) refl silent
     there None e is =
         ap (λ (o : Option Record). turn_if rs (option_and_then (λ (q : Record). begun_turn q.body) o)) e
     there (Some r) e is =
-        ap (turn_if rs) (edge_said Begins rs i r e ∙ ap (option_map {U = ℕ × ℕ} (λ t. (t, next_turn r.body))) is)
+        ap (turn_if rs)
+        (edge_said Begins rs i r e ∙ ap (option_map {U = ℕ × ℕ} (λ t. (t, next_turn r.body))) is)
 
 -- where nothing is scheduled, none ends one
 pub none_ended : (rs : List Record) (i : ℕ) → at schedule rs i ≡ None → moved_turn Ends rs i ≡ None

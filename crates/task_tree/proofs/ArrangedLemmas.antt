@@ -154,7 +154,8 @@ arranged_trace version rs trace = record {
 -- ---- the same tasks
 
 -- what a record says stands where the record does
-said_in_order : {X : Type 0} (f : Body → Option X) (rs : List Record) (n i : ℕ) → slice_get (own_places rs) n ≡ Some i
+said_in_order : {X : Type 0} (f : Body → Option X) (rs : List Record) (n i : ℕ)
+    → slice_get (own_places rs) n ≡ Some i
     → at f (in_own_order rs) n ≡ at f rs i
 said_in_order f rs n i stands =
     ap (λ (o : Option Record). option_and_then (λ (r : Record). f r.body) o) (arranged_at rs n i stands)

@@ -18,7 +18,8 @@ use Rattle.task_tree.specs.Forward.{IsStood, AreStandingsKnown, StandsBelow}
 
 pub standing_more : (rs : List Record) (n : ℕ) (found : Standing) (tasks : List ℕ)
     (roots : List (Option Standing))
-    → AreStandingsKnown rs n tasks roots → ((task : ℕ) → slice_get tasks n ≡ Some task → IsStood rs n task found)
+    → AreStandingsKnown rs n tasks roots
+    → ((task : ℕ) → slice_get tasks n ≡ Some task → IsStood rs n task found)
     → AreStandingsKnown rs (n + 1) tasks (roots ++ Some found ∷ [])
 standing_more rs n found tasks roots are stood = record {
   all = length_push roots (Some found) ∙ ap (λ k. k + 1) are.all;

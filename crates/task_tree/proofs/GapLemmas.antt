@@ -22,7 +22,8 @@ use Rattle.ompt_events.proofs.PlaceLemmas.{at_within}
 use Rattle.task_tree.specs.declared.gap_search.Begins.{Begins}
 use Rattle.task_tree.specs.declared.gap_search.Start.{Start}
 use Rattle.task_tree.specs.GapSearch.{pair_cmp, kept_turn}
-use Rattle.task_tree.specs.GapSearch.{AreFirst, AreRootsBegun, AreFirstBegins, IsTurnRaised, AreGreatestTurns, BeginsRoot}
+use Rattle.task_tree.specs.GapSearch.{AreFirst, AreRootsBegun, AreFirstBegins, IsTurnRaised, AreGreatestTurns}
+use Rattle.task_tree.specs.GapSearch.{BeginsRoot}
 use Rattle.task_tree.specs.GapSearch.{LacksBefore, IsWrongStart, wrong_again, wrong_falling, wrong_root}
 use Rattle.task_tree.specs.GapSearch.{wrong_missing}
 use Rattle.task_tree.proofs.PairMaps.{pair_here, pair_there}
@@ -135,7 +136,8 @@ turn_raised old new r task turn begins less updates = record {
         (pair_there old new (r.thread, task) (Some turn) updates (thread, other) apart)
 
 pub greatest_more : (rs : List Record) (i : ℕ) (r : Record) (old new : BTreeMap (ℕ × ℕ) ℕ)
-    → slice_get rs i ≡ Some r → AreGreatestTurns rs i old → IsTurnRaised old new r → AreGreatestTurns rs (i + 1) new
+    → slice_get rs i ≡ Some r → AreGreatestTurns rs i old → IsTurnRaised old new r
+    → AreGreatestTurns rs (i + 1) new
 greatest_more rs i r old new stands are raised = record {
   bound = λ k thread task turn less by_thread begins. elim (cases_eq k i) [
     | inl same ↦

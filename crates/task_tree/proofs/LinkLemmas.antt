@@ -19,7 +19,8 @@ use Rattle.ompt_events.proofs.RecordLemmas.{created_at_made, creation_at_created
 use Rattle.ompt_events.proofs.ListLemmas.{get_last}
 use Rattle.ompt_events.proofs.TreeLemmas.{children_same, children_more, children_few, children_stay}
 use Rattle.ompt_events.proofs.TreeLemmas.{child_at_none, child_at_other}
-use Rattle.task_tree.specs.Links.{AreChildCounts, IsLink, AreLinks, IsIndex, IsSlotOf, IsChildLinked, unmade, counted}
+use Rattle.task_tree.specs.Links.{AreChildCounts, IsLink, AreLinks, IsIndex, IsSlotOf, IsChildLinked, unmade}
+use Rattle.task_tree.specs.Links.{counted}
 use Rattle.task_tree.specs.Links.{linked}
 
 -- what stands at an index of a list in which one element was written
@@ -151,7 +152,8 @@ counts_more rs n tasks counts parent child up are creates is_up = record {
 pub counts_linked : (rs : List Record) (n : ℕ) (tasks : List ℕ) (parent child : ℕ) (counts : List ℕ)
     (links : List (Option Link)) (counts_now : List ℕ) (links_now : List (Option Link))
     → AreChildCounts rs n tasks counts → at creation rs n ≡ Some (parent, child)
-    → IsChildLinked tasks parent child counts links counts_now links_now → AreChildCounts rs (n + 1) tasks counts_now
+    → IsChildLinked tasks parent child counts links counts_now links_now
+    → AreChildCounts rs (n + 1) tasks counts_now
 counts_linked rs n tasks parent child counts links counts_now links_now are creates (unmade none) =
     counts_same rs n tasks counts are
     (λ index task is.
@@ -291,7 +293,8 @@ links_more rs n tasks counts links parent child up own once counts_are are creat
 pub links_linked : (rs : List Record) (n : ℕ) (tasks : List ℕ) (parent child : ℕ) (counts : List ℕ)
     (links : List (Option Link)) (counts_now : List ℕ) (links_now : List (Option Link))
     → IsFreeOf rs CreatedTwice → AreChildCounts rs n tasks counts → AreLinks rs n tasks links
-    → at creation rs n ≡ Some (parent, child) → IsChildLinked tasks parent child counts links counts_now links_now
+    → at creation rs n ≡ Some (parent, child)
+    → IsChildLinked tasks parent child counts links counts_now links_now
     → AreLinks rs (n + 1) tasks links_now
 links_linked rs n tasks parent child counts links counts_now links_now once counts_are are creates
     (unmade none) =

@@ -136,7 +136,8 @@ in_order_still n places are = record {
   rising = are.rising;
 }
 
-in_order_more : (n : ℕ) (places : List ℕ) → ArePlacesBelow n places → ArePlacesBelow (n + 1) (places ++ n ∷ [])
+in_order_more : (n : ℕ) (places : List ℕ) → ArePlacesBelow n places
+    → ArePlacesBelow (n + 1) (places ++ n ∷ [])
 in_order_more n places are = record {
   below = λ index place is. elim (pushed_cases places n place index is) [
     | inl before ↦ let low = are.below index place before in omega (arith, low)

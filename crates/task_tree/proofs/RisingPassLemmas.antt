@@ -31,8 +31,10 @@ use Rattle.task_tree.proofs.LinkLemmas.{get_set_same, get_set_other}
 use Rattle.task_tree.proofs.OnceLemmas.{made_once}
 use Rattle.task_tree.specs.declared.rising.Latest.{Latest}
 use Rattle.task_tree.specs.declared.rising.Begin.{Begin as BeginAt}
-use Rattle.task_tree.specs.Rising.{TurnsRise, NoneLater, IsInOrder, AreTurnsInOrder, turn_now, IsOnTurn, IsNext}
-use Rattle.task_tree.specs.Rising.{next_first, next_later, IsLatestTurn, AreLatestTurns, IsTurnThere, IsStartOf}
+use Rattle.task_tree.specs.Rising.{TurnsRise, NoneLater, IsInOrder, AreTurnsInOrder, turn_now, IsOnTurn}
+use Rattle.task_tree.specs.Rising.{IsNext}
+use Rattle.task_tree.specs.Rising.{next_first, next_later, IsLatestTurn, AreLatestTurns, IsTurnThere}
+use Rattle.task_tree.specs.Rising.{IsStartOf}
 use Rattle.task_tree.specs.Rising.{IsTurnBegin, BeginsNone, MayBegin, may_untold, may_next, IsStepOn}
 use Rattle.task_tree.proofs.GapLemmas.{begins_cases, untold_none, no_start_none}
 use Rattle.task_tree.proofs.RisingLemmas.{own_running}
@@ -174,7 +176,8 @@ silent rs i task thread r within read other = elim (cases_eq thread r.thread) [
 
 -- a task that begins no turn there
 keep_one : (rs : List Record) (i task : ℕ) (r : Record) (known : Latest) → i < length rs → r ≡ get_or rs i r
-    → IsLatestTurn rs i task known → ((turn : ℕ) → BeginsTurn rs i task turn → ⊥) → IsLatestTurn rs (i + 1) task known
+    → IsLatestTurn rs i task known → ((turn : ℕ) → BeginsTurn rs i task turn → ⊥)
+    → IsLatestTurn rs (i + 1) task known
 keep_one rs i task r known within read old other = record {
   begun = λ turn e. let began = old.begun turn e in (began.0, omega (arith, began.1), began.2, began.3);
   none = λ e k turn below begins. elim (cases_eq k i) [
@@ -242,7 +245,8 @@ start_one rs i task next r known within read old begins later = record {
 -- ---- all tasks
 
 latest_put : (rs : List Record) (n m index : ℕ) (tasks : List ℕ) (latest : List Latest) (new : Latest)
-    → AreLatestTurns rs n tasks latest → ((task : ℕ) → slice_get tasks index ≡ Some task → IsLatestTurn rs m task new)
+    → AreLatestTurns rs n tasks latest
+    → ((task : ℕ) → slice_get tasks index ≡ Some task → IsLatestTurn rs m task new)
     → ((other task : ℕ) (known : Latest) → other ≢ index → slice_get tasks other ≡ Some task
     → slice_get latest other ≡ Some known → IsLatestTurn rs m task known)
     → AreLatestTurns rs m tasks (set latest index new)
@@ -264,7 +268,8 @@ latest_put rs n m index tasks latest new are here there = record {
 }
 
 latest_keep : (rs : List Record) (i : ℕ) (r : Record) (tasks : List ℕ) (latest : List Latest) → i < length rs
-    → r ≡ get_or rs i r → AreLatestTurns rs i tasks latest → BeginsNone rs i → AreLatestTurns rs (i + 1) tasks latest
+    → r ≡ get_or rs i r → AreLatestTurns rs i tasks latest → BeginsNone rs i
+    → AreLatestTurns rs (i + 1) tasks latest
 latest_keep rs i r tasks latest within read are none = record {
   all = are.all;
   each =
@@ -577,7 +582,8 @@ begun_once rs task turn a b free more one other = elim (cases_order a b) [
 ]
 
 pub off_thread : (rs : List Record) (i task : ℕ) (r : Record) (known : Latest) → slice_get rs i ≡ Some r
-    → IsLatestTurn rs i task known → at running rs i ≡ Some task → turn_now known ≢ 0 → r.thread ≢ known.thread
+    → IsLatestTurn rs i task known → at running rs i ≡ Some task → turn_now known ≢ 0
+    → r.thread ≢ known.thread
     → AreTurnsInOrder rs → IsFreeOf rs TurnGap → ⊥
 off_thread rs i task r known stands old own later apart order free = by known.turn refl
   where

@@ -198,7 +198,8 @@ row_is ids list begin end ends low each =
         (sym (slice_get-get_or ids (begin + k) 0 (omega (arith, inside, low, ends))) ∙ there)
 
 pub links_counted : (rs : List Record) (tasks counts : List ℕ) (links : List (Option Link))
-    → AreChildCounts rs (length rs) tasks counts → AreLinks rs (length rs) tasks links → AreCounted counts links
+    → AreChildCounts rs (length rs) tasks counts → AreLinks rs (length rs) tasks links
+    → AreCounted counts links
 links_counted rs tasks counts links are links_are index link stands =
     let within = slice_get_within links index (Some link) stands in
     let of =

@@ -54,7 +54,8 @@ skipped rs thread n (suc d) m is within none =
     ]
 
 marks_skip : (rs : List Record) (tasks : List ℕ) (thread n place : ℕ) (marks : List Mark)
-    → IsFirstFrom rs thread n place → AreTurnMarks rs tasks thread n marks → AreTurnMarks rs tasks thread place marks
+    → IsFirstFrom rs thread n place → AreTurnMarks rs tasks thread n marks
+    → AreTurnMarks rs tasks thread place marks
 marks_skip rs tasks thread n place marks first are = record {
   all = are.all;
   here = λ index task mark stands is.
@@ -194,7 +195,8 @@ walk_next rs tasks thread n walk past is = record {
   order = λ ordered i own by_thread passed. is.order ordered i own by_thread (before i own by_thread passed);
 }
   where
-    before : (i own : ℕ) → thread_at rs i ≡ Some own → IsPlacePassed (thread + 1) 0 own i → IsPlacePassed thread n own i
+    before : (i own : ℕ) → thread_at rs i ≡ Some own → IsPlacePassed (thread + 1) 0 own i
+        → IsPlacePassed thread n own i
     before i own by_thread (inr (same, below)) = absurd (omega (arith, below))
     before i own by_thread (inl less) = elim (cases_eq own thread) [
       | inl same ↦ inr (same, (let within = thread_within rs i own by_thread in omega (arith, within, past)))

@@ -59,7 +59,8 @@ abbrev pub schedule_status : Body → Option Status
 schedule_status body = option_map (λ (s : Status × ℕ × Option ℕ). s.0) (schedule body)
 
 -- a task_schedule event there has this status, and the tasks at these indices (19.5.2.10)
-pub record IsSchedule (run : RunView) (i : ℕ) (schedule_status : Status) (prior : ℕ) (next : Option ℕ) : Type 0 where
+pub record IsSchedule (run : RunView) (i : ℕ) (schedule_status : Status) (prior : ℕ) (next : Option ℕ) : Type
+    0 where
   pub task : ℕ
   pub follower : Option ℕ
   pub says : at schedule run.records i ≡ Some (schedule_status, task, follower)

@@ -167,7 +167,8 @@ begun_number rs task n within begins =
 -- ---- the tables
 
 pub begins_other : (rs : List Record) (n : ℕ) (tasks : List ℕ) (begins : List (Vec ℕ))
-    → AreBarrierBegins rs n tasks begins → barrier_begun (at region rs n) ≡ None → AreBarrierBegins rs (n + 1) tasks begins
+    → AreBarrierBegins rs n tasks begins → barrier_begun (at region rs n) ≡ None
+    → AreBarrierBegins rs (n + 1) tasks begins
 begins_other rs n tasks begins are none = record {
   within = are.within;
   each =
@@ -246,7 +247,8 @@ numbered_more rs n here numbers are within is = record {
   ];
 }
 
-pub numbered_all : (rs : List Record) (n : ℕ) (numbers : List ℕ) → AreBeginsNumbered rs n numbers → length rs ≤ n
+pub numbered_all : (rs : List Record) (n : ℕ) (numbers : List ℕ) → AreBeginsNumbered rs n numbers
+    → length rs ≤ n
     → AreBeginNumbers rs (length rs) numbers
 numbered_all rs n numbers are end = record {
   all = are.all;

@@ -57,7 +57,8 @@ not_root_and_initial m x task own false is is' = none-some task is'
 
 not_both_body : (m : Membership) (task : ℕ) (b : Body) → joined b ≡ Some m → begun_initial b ≡ Some task → ⊥
 not_both_body m task (ImplicitTask Begin actual number flags parallel own) is is' =
-    not_root_and_initial m (record { parallel = parallel; actual = actual; index = number; member = own }) task own
+    not_root_and_initial m (record { parallel = parallel; actual = actual; index = number; member = own })
+    task own
     (has_flag flags.0 flag.initial) is is'
 not_both_body m task _ is is' = none-some m is
 

@@ -62,7 +62,8 @@ missed_joins rs i m joins =
     (sym (ap is_some (region_joins rs i m.barrier.task m.barrier.kind ends.endpoint ends.says)) ∙ joins)
 
 -- a record shows a lack where a member begins, or where a barrier ends that a member misses
-short_cases : (rs : List Record) (i : ℕ) → IsShort rs i → (is_some (at joined rs i) ≡ true) ⊎ IsBarrierMissed rs i
+short_cases : (rs : List Record) (i : ℕ) → IsShort rs i
+    → (is_some (at joined rs i) ≡ true) ⊎ IsBarrierMissed rs i
 short_cases rs i (outside m joins out) = inl (ap is_some joins)
 short_cases rs i (same_index m e joins has same) = inl (ap is_some joins)
 short_cases rs i (other_size m e joins has different) = inl (ap is_some joins)
@@ -117,7 +118,8 @@ whole_more rs n whole fine = λ k below joins short. elim (cases_eq k n) [
 
 -- one more place at which no barrier ends that a member misses
 pub nowhere_more : (own : OwnView) (place number : ℕ) → IsOwn own → slice_get own.places number ≡ Some place
-    → (IsBarrierMissed own.run.records number → ⊥) → IsMissedNowhere own place → IsMissedNowhere own (place + 1)
+    → (IsBarrierMissed own.run.records number → ⊥) → IsMissedNowhere own place
+    → IsMissedNowhere own (place + 1)
 nowhere_more own place number is stands none before = λ k below there. elim (cases_eq k place) [
   | inl same ↦
       let one : there.0 ≡ number = is.places.apart there.0 number place (there.1 ∙ ap Some same) stands in

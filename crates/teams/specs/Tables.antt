@@ -31,6 +31,7 @@ pub record AreTables (tables : TablesView) : Type 0 where
   pub placed : IsOwn (tables_own tables)
   pub teams : AreInTeams tables.run.records (length tables.run.records) tables.run.family.tasks tables.teams
   pub sizes : AreSizes tables.run.records (length tables.run.records) tables.run.family.tasks tables.sizes
-  pub begins : AreBarrierBegins tables.run.records (length tables.run.records) tables.run.family.tasks tables.begins
+  pub begins : AreBarrierBegins tables.run.records (length tables.run.records) tables.run.family.tasks
+      tables.begins
   pub numbers : AreBeginNumbers tables.run.records (length tables.run.records) tables.numbers
   pub fewest : AreFewest tables.teams tables.begins (length tables.teams) tables.fewest

@@ -20,7 +20,8 @@ use Rattle.credit_ledger.specs.Entries.{tree_share, tree_shares, pool_share, par
 use Rattle.credit_ledger.specs.Entries.{pool_shares, is_same_path}
 use Rattle.credit_ledger.proofs.CodeLemmas.{same_path-true, same_path-itself, cond_in as in_cond}
 use Rattle.credit_ledger.proofs.OverLemmas.{HasEntry, has_later}
-use Rattle.credit_ledger.proofs.RegionLemmas.{IsShareIn, IsIn-append_left, IsIn-append_right, IsIn-append_cases}
+use Rattle.credit_ledger.proofs.RegionLemmas.{IsShareIn, IsIn-append_left, IsIn-append_right}
+use Rattle.credit_ledger.proofs.RegionLemmas.{IsIn-append_cases}
 use Rattle.trace_ledger.specs.Entries.{claimed_entry, entry_of, IsEntryAt, IsLedgerOf}
 
 -- ---- the first entries
@@ -174,7 +175,8 @@ from_share parent (Some (up, number)) part x there =
     let is = in_cond (is_same_path up parent) x (pool_share number part) there in
     (number, ap (λ p. Some (p, number)) (same_path-true up parent is.0), is.1)
 
-under : (b : _) (x : List Half) (xs : List (List Half)) → IsShareIn x (cond b xs []) → (b ≡ true) × IsShareIn x xs
+under : (b : _) (x : List Half) (xs : List (List Half)) → IsShareIn x (cond b xs [])
+    → (b ≡ true) × IsShareIn x xs
 under true x xs there = (refl, there)
 under false x xs there = absurd there
 

@@ -85,7 +85,8 @@ goes (suc m) (Keep ∷ r) = more (goes m r)
 
 -- ---- what is held
 
-all_short : (l : List Half) (xs : List (List Half)) → ByRecursion (IsAsLong l) xs → (x : List Half) → IsShareIn x xs
+all_short : (l : List Half) (xs : List (List Half)) → ByRecursion (IsAsLong l) xs → (x : List Half)
+    → IsShareIn x xs
     → length x ≤ length l
 all_short l [] h x there = absurd there
 all_short l (y ∷ xs) h x there = elim there [

@@ -132,7 +132,8 @@ makers_more rs n old new within finishes noted are = record {
     ]
 
 -- at the end each entry has its record
-pub all_made : (rs : List Record) (makers : List (Option ℕ)) (index : ℕ) → AreEntryRecords rs (length rs) makers
+pub all_made : (rs : List Record) (makers : List (Option ℕ)) (index : ℕ)
+    → AreEntryRecords rs (length rs) makers
     → IsFreeOf rs EntryTwice → IsFreeOf rs LengthAhead → slice_get makers index ≡ Some None → ⊥
 all_made rs makers index are apart ahead is =
     let all = are.all apart ahead in

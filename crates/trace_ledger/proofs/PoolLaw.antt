@@ -23,7 +23,8 @@ use Rattle.credit_ledger.proofs.OverLemmas.{held_begins}
 use Rattle.credit_ledger.proofs.OverlapLemmas.{parent_and_number-push}
 use Rattle.trace_ledger.specs.Entries.{IsDone}
 use Rattle.trace_ledger.proofs.HalfLemmas.{hold_from}
-use Rattle.trace_ledger.proofs.EntryLemmas.{IsRight, entry_right, IsEntryMade, entry_made, IsOfChild, from_pool}
+use Rattle.trace_ledger.proofs.EntryLemmas.{IsRight, entry_right, IsEntryMade, entry_made, IsOfChild}
+use Rattle.trace_ledger.proofs.EntryLemmas.{from_pool}
 use Rattle.trace_ledger.proofs.EntryLemmas.{in_pool, below_from, from_below}
 use Rattle.trace_ledger.proofs.StandLemmas.{one_task, push_of_parent}
 use Rattle.trace_ledger.proofs.CompleteLemmas.{done_or_not, missing_half}
@@ -53,7 +54,8 @@ share_pooled rs entries n root parent number task path part known at_path (i, fi
         one_path rs e.root root task e.path (path ++ number ∷ []) known.once
         (subst P entered.task_is right.stands) (below number at_path.stands at_path.numbered) in
         let of : IsOfChild path e number = ap parent_and_number one.1 ∙ parent_and_number-push path number in
-        let Q : Part → Type 0 = λ p. IsShareIn (pool_share number p) (pool_shares root path (take n entries)) in
+        let Q : Part → Type 0 =
+        λ p. IsShareIn (pool_share number p) (pool_shares root path (take n entries)) in
         subst Q entered.part_is
         (in_pool root number path (take n entries) e
         (from_below rs entries n i task part e known.ledger entered seen) one.0 of)
@@ -80,7 +82,8 @@ pool_held rs entries n root parent number task path known stands numbered done =
 
     goes_on : (part : Part) (l rest : List Half) → l ≡ start_share (number ∷ []) ++ rest
         → begins_with rest (part_halves part) ≡ true
-        → ((x : List Half) → IsShareIn x (pool_shares root path (take n entries)) → begins_with l x ≡ true → ⊥)
+        → ((x : List Half) → IsShareIn x (pool_shares root path (take n entries))
+        → begins_with l x ≡ true → ⊥)
         → IsPartFinished rs (λ k. seen_at rs k < n) task part → ⊥
     goes_on part l rest is begun none finished =
         there part finished (λ pooled. none (pool_share number part) pooled
@@ -89,7 +92,8 @@ pool_held rs entries n root parent number task path known stands numbered done =
 
     halved : (l rest : List Half) → l ≡ start_share (number ∷ []) ++ rest
         → ((x : List Half) → IsShareIn x (pool_shares root path (take n entries)) → length x ≤ length l)
-        → ((x : List Half) → IsShareIn x (pool_shares root path (take n entries)) → begins_with l x ≡ true → ⊥)
+        → ((x : List Half) → IsShareIn x (pool_shares root path (take n entries))
+        → begins_with l x ≡ true → ⊥)
         → IsPartFinished rs (λ k. seen_at rs k < n) task Body
         → IsPartFinished rs (λ k. seen_at rs k < n) task Event → ⊥
     halved l [] is long none body event =
@@ -103,7 +107,9 @@ pool_held rs entries n root parent number task path known stands numbered done =
 
     from : (l : List Half) → IsSplit l (start_share (number ∷ [])) []
         → ((x : List Half) → IsShareIn x (pool_shares root path (take n entries)) → length x ≤ length l)
-        → ((x : List Half) → IsShareIn x (pool_shares root path (take n entries)) → begins_with l x ≡ true → ⊥) → ⊥
+        → ((x : List Half) → IsShareIn x (pool_shares root path (take n entries))
+        → begins_with l x ≡ true → ⊥)
+        → ⊥
     from l (split rest is begun) long none = elim done [
       | inl whole ↦ goes_on Whole l rest is refl none whole
       | inr both ↦ halved l rest is long none both.0 both.1

@@ -18,7 +18,8 @@ use Rattle.trace_ledger.proofs.MakerLemmas.{makers_start, makers_same, makers_mo
 use Rattle.trace_ledger.proofs.LedgerLemmas.{made_by, none_entered, one_entered, are_all}
 
 -- a table of the records that make entries
-makers_there : (rs : List Record) (n : ℕ) → n ≤ length rs → (makers : List (Option ℕ)) × AreEntryRecords rs n makers
+makers_there : (rs : List Record) (n : ℕ) → n ≤ length rs
+    → (makers : List (Option ℕ)) × AreEntryRecords rs n makers
 makers_there rs zero low =
     (replicate (entries_in rs) None, makers_start rs (replicate (entries_in rs) None) refl)
 makers_there rs (suc n) low = of (is_some (at finish rs n)) refl (makers_there rs n (omega (arith, low)))
@@ -39,7 +40,8 @@ makers_there rs (suc n) low = of (is_some (at finish rs n)) refl (makers_there r
 
 -- the entries with the first n indices
 entered_there : (rs : List Record) (makers : List (Option ℕ)) (n : ℕ) → IsTrace rs → HasRightEntries rs
-    → AreEntryRecords rs (length rs) makers → n ≤ entries_in rs → (entries : List Entry) × AreEntered rs n entries
+    → AreEntryRecords rs (length rs) makers → n ≤ entries_in rs
+    → (entries : List Entry) × AreEntered rs n entries
 entered_there rs makers zero trace right are low = ([], none_entered rs)
 entered_there rs makers (suc n) trace right are low =
     let (entries, entered) = entered_there rs makers n trace right are (omega (arith, low)) in

@@ -99,7 +99,8 @@ too_short path m part shares l r astray parts less there =
 -- nor go on as the share does
 goes_on : (path : List ℕ) (m : ℕ) (part : Part) (shares : List (List Half)) (l rest : List Half)
     → IsAstray shares l → l ≡ start_share path ++ (replicate m Keep ++ rest)
-    → begins_with rest (part_halves part) ≡ true → IsShareIn (finish_share path m ++ part_halves part) shares → ⊥
+    → begins_with rest (part_halves part) ≡ true → IsShareIn (finish_share path m ++ part_halves part) shares
+    → ⊥
 goes_on path m part shares l rest astray parts begun there =
     let P : List Half → Type 0 = λ k. begins_with k (finish_share path m ++ part_halves part) ≡ true in
     let whole : l ≡ finish_share path m ++ rest =

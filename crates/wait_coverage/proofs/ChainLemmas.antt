@@ -62,12 +62,14 @@ IsChainGathered nodes head begin limit rest = (place : ℕ) → IsOnChain nodes 
     → IsOnChain nodes rest place
     ⊎ ((begin < place) × ((node : Node) → slice_get nodes place ≡ Some node → node.limit ≤ limit))
 
-pub gathered_start : (nodes : List Node) (head : Option ℕ) (begin : ℕ) → IsChainGathered nodes head begin 0 head
+pub gathered_start : (nodes : List Node) (head : Option ℕ) (begin : ℕ)
+    → IsChainGathered nodes head begin 0 head
 gathered_start nodes head begin place on = inl on
 
 pub gathered_more : (nodes : List Node) (head rest : Option ℕ) (begin limit place : ℕ) (node : Node)
     → IsChainGathered nodes head begin limit rest → rest ≡ Some place → begin < place
-    → slice_get nodes place ≡ Some node → IsChainGathered nodes head begin (max limit node.limit) node.previous
+    → slice_get nodes place ≡ Some node
+    → IsChainGathered nodes head begin (max limit node.limit) node.previous
 gathered_more nodes head rest begin limit place node are is less there other on = elim (are other on) [
   | inl ahead ↦ of rest is ahead
   | inr passed ↦ inr (passed.0, λ n stands. let low = passed.1 n stands in omega (arith, low))

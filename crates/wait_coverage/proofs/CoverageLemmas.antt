@@ -39,7 +39,8 @@ use Rattle.task_states.specs.States.{StatesView, IsStates}
 use Rattle.teams.specs.Teams.{TeamsView, own_of, IsTeams, AreTeams, IsMemberNumbered}
 use Rattle.wait_coverage.specs.Waits.{EndsNoWaitAt, IsWaitAt, waits, groups, meets, cover_of, IsFirstOpen}
 use Rattle.wait_coverage.specs.Waits.{waiting}
-use Rattle.wait_coverage.specs.Coverage.{IsEnd, IsEndPlace, AreWaitEnds, AreWaits, IsEndNumber, IsFirstOpenAnswer}
+use Rattle.wait_coverage.specs.Coverage.{IsEnd, IsEndPlace, AreWaitEnds, AreWaits, IsEndNumber}
+use Rattle.wait_coverage.specs.Coverage.{IsFirstOpenAnswer}
 use Rattle.wait_coverage.specs.Coverage.{IsCoverAt, IsOnly, HasBegun, HaveBegun, IsMemberSpan, AreRosterSpans}
 use Rattle.wait_coverage.specs.Coverage.{CoverageView, IsCoverage, AreFirstOpen}
 use Rattle.wait_coverage.specs.declared.waits.Wait.{Wait}
@@ -313,7 +314,8 @@ wait_cover rs tasks end wait (meets {own = own} {begin = begin} {kind = kind} is
 -- ---- the members of a team
 
 -- the place at which a task begins its barrier with a number
-pub record IsBarrierStart (rs : List Record) (tasks : List ℕ) (numbers : List ℕ) (index number start : ℕ) : Type 0
+pub record IsBarrierStart (rs : List Record) (tasks : List ℕ) (numbers : List ℕ) (index number start : ℕ) :
+    Type 0
   where
     pub within : index < length tasks
     pub inside : start < length numbers
@@ -321,7 +323,8 @@ pub record IsBarrierStart (rs : List Record) (tasks : List ℕ) (numbers : List 
 
 has_start : (coverage : CoverageView) (index number start : ℕ) → IsCoverage coverage
     → slice_get (row_at coverage.teams.begins index) number ≡ Some start
-    → IsBarrierStart coverage.teams.run.records coverage.teams.run.family.tasks coverage.numbers index number start
+    → IsBarrierStart coverage.teams.run.records coverage.teams.run.family.tasks coverage.numbers index number
+    start
 has_start coverage index number start is there =
     let rs = coverage.teams.run.records in
     let tasks = coverage.teams.run.family.tasks in
@@ -351,7 +354,8 @@ read_start coverage index number list is begun read =
 
 pub member_span_is : (coverage : CoverageView) (index number start to id : ℕ) (span : Span)
     → IsCoverage coverage
-    → IsBarrierStart coverage.teams.run.records coverage.teams.run.family.tasks coverage.numbers index number start
+    → IsBarrierStart coverage.teams.run.records coverage.teams.run.family.tasks coverage.numbers index number
+    start
     → slice_get coverage.numbers start ≡ Some to → slice_get coverage.teams.run.family.tasks index ≡ Some id
     → IsSpan coverage.teams.run.records id 0 to span → IsMemberSpan coverage.teams.run.records id number span
 member_span_is coverage index number start to id span is starts is_to is_id is_span =

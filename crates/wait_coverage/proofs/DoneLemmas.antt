@@ -23,7 +23,8 @@ use Rattle.task_tree.proofs.FamilyLemmas.{parent_noted}
 use Rattle.task_tree.proofs.LineageLemmas.{parent_at_is, parent_is_at, child_within}
 use Rattle.trace_ledger.specs.Entries.{IsLedgerOf}
 use Rattle.wait_coverage.specs.Lengths.{done_length, AreLengthsBy, AreLengths, AreLengthsBelow}
-use Rattle.wait_coverage.specs.Done.{DoneView, records_of, tasks_of, AreFamilyLengths, IsDoneFrom, AreOwnLengths}
+use Rattle.wait_coverage.specs.Done.{DoneView, records_of, tasks_of, AreFamilyLengths, IsDoneFrom}
+use Rattle.wait_coverage.specs.Done.{AreOwnLengths}
 use Rattle.wait_coverage.specs.Done.{IsParentsFirst, raised, AreRaised, IsAtOrAbove}
 use Rattle.wait_coverage.specs.Done.IsAbove.{itself, further}
 use Rattle.wait_coverage.specs.declared.lengths.Lengths.{Lengths}

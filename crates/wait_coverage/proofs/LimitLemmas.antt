@@ -26,7 +26,8 @@ use Rattle.task_tree.specs.Numbering.{AreApart}
 use Rattle.task_tree.proofs.LinkLemmas.{get_set_same, get_set_other}
 use Rattle.wait_coverage.specs.Done.{DoneView, records_of, tasks_of, IsEarly}
 use Rattle.wait_coverage.specs.Limits.{IsFamilyLimit, IsChildLimit, IsFamiliesLimit, IsLimitOfBegin}
-use Rattle.wait_coverage.specs.Limits.{IsOnChain, Gathers, HasNode, AreChildLimits, AreLatestFamilies, AreChains}
+use Rattle.wait_coverage.specs.Limits.{IsOnChain, Gathers, HasNode, AreChildLimits, AreLatestFamilies}
+use Rattle.wait_coverage.specs.Limits.{AreChains}
 use Rattle.wait_coverage.specs.Limits.{IsMark, AreLimitMarks, IsLimitProgress}
 use Rattle.wait_coverage.specs.declared.limits.Node.{Node}
 use Rattle.wait_coverage.specs.declared.limits.Progress.{Progress}

@@ -25,7 +25,8 @@ counts_other rs n tasks counts are none = record {
 }
 
 pub counts_more : (rs : List Record) (n own parent child old : ℕ) (tasks counts : List ℕ) → AreApart tasks
-    → AreCreationCounts rs n tasks counts → slice_get tasks own ≡ Some parent → slice_get counts own ≡ Some old
+    → AreCreationCounts rs n tasks counts → slice_get tasks own ≡ Some parent
+    → slice_get counts own ≡ Some old
     → at creation rs n ≡ Some (parent, child) → AreCreationCounts rs (n + 1) tasks (set counts own (old + 1))
 counts_more rs n own parent child old tasks counts apart are is_own stands_old creates = record {
   all = length-set counts own (old + 1) ∙ are.all;

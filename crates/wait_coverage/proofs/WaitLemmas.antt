@@ -27,7 +27,8 @@ use Rattle.task_tree.proofs.LineageLemmas.{parent_is_at, parent_at_is}
 use Rattle.credit_ledger.specs.declared.entry.Cover.TheVariants.{Descendants}
 use Rattle.wait_coverage.specs.Done.{IsDoneView, DoneView, records_of, IsParentsFirst}
 use Rattle.wait_coverage.specs.Waits.{IsWaitAt, waits, groups, IsOwnChild, IsAwaitedBy, IsAwaited, AreAwaited}
-use Rattle.wait_coverage.specs.Waits.{AreAwaitedMarked, EndsNoWaitAt, IsLateAt, cover_of, IsInWait, before_begin}
+use Rattle.wait_coverage.specs.Waits.{AreAwaitedMarked, EndsNoWaitAt, IsLateAt, cover_of, IsInWait}
+use Rattle.wait_coverage.specs.Waits.{before_begin}
 use Rattle.wait_coverage.specs.Waits.{in_group, by_member, meets}
 use Rattle.wait_coverage.specs.Search.{SearchView, IsMarkedAbove}
 use Rattle.teams.specs.Teams.{AreBeginNumbers, begins_before}

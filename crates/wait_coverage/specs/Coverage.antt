@@ -128,4 +128,5 @@ pub record AreFirstOpen (coverage : CoverageView) (of : List ℕ) (n : ℕ)
     (found : List (Option ℕ)) : Type 0 where
   pub count : length found ≡ n
   pub each : (k index end : ℕ) (answer : Option ℕ) → slice_get of k ≡ Some index
-      → IsEndNumber coverage index end → slice_get found k ≡ Some answer → IsFirstOpenAnswer coverage end answer
+      → IsEndNumber coverage index end → slice_get found k ≡ Some answer
+      → IsFirstOpenAnswer coverage end answer

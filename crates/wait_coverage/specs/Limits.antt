@@ -105,7 +105,8 @@ pub record AreChains (done : DoneView) (nodes : List Node)
 
 -- at each end stands the limit of what it covers
 abbrev pub HaveEndLimits : DoneView → List Node → Type 0
-HaveEndLimits done nodes = (i : ℕ) (node : Node) → slice_get nodes i ≡ Some node → IsEndLimit done i node.limit
+HaveEndLimits done nodes =
+    (i : ℕ) (node : Node) → slice_get nodes i ≡ Some node → IsEndLimit done i node.limit
 
 -- at each record, where it is the end of a region, stands the limit of what this covers
 pub record AreEndLimits (done : DoneView) (nodes : List Node) : Type 0 where

@@ -7,7 +7,8 @@ use Rattle.ompt_events.specs.Places.{at, thread_at, seen_at}
 use Rattle.checker.specs.InOrder.{AreInOrder, FitsBehind}
 use Rattle.checker.proofs.LengthLemmas.{known_start, known_more, not_behind, free_of_back}
 use Rattle.checker.proofs.ScheduleLemmas.{steps_less, waits_within}
-use Rattle.checker.proofs.InOrderLemmas.{no_last, fit_more, entries_by_known, entries_count_more, entries_most}
+use Rattle.checker.proofs.InOrderLemmas.{no_last, fit_more, entries_by_known, entries_count_more}
+use Rattle.checker.proofs.InOrderLemmas.{entries_most}
 use Rattle.checker.proofs.InOrderLemmas.{awaited_more, AllFit, fit_once, fit_reached, fit_entered}
 use Rattle.checker.proofs.in_order.is_in_order.Goals as goal
 

@@ -39,7 +39,8 @@ loop-step-preserved c =
     names_length rs at c.seen.result (omega (arith, inside, count))
     (rw c.run-run.ensures.value at c.seen.ensures) in
     let was = c.loop-step.invariant.lists (at + 1) (omega (arith, inside, count)) in
-    let more = c.put_first.ensures.lists (named_length rs) (length rs) names c.loop-step.invariant.rising was in
+    let more =
+    c.put_first.ensures.lists (named_length rs) (length rs) names c.loop-step.invariant.rising was in
     record {
       keys = c.put_first.ensures.keys ∙ c.loop-step.invariant.keys;
       lists = λ from is. let here : from ≡ at = omega (arith, is, inside, count) in rw here more.0;
