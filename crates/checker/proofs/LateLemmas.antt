@@ -66,8 +66,8 @@ pub first_of_none : (file own : List Record) (tasks : List ℕ) (bound : ℕ)
     → IsFirstOf file own tasks bound 0 None
 first_of_none file own tasks bound task (k, below, there) = absurd (omega (arith, below))
 
-kept : (tasks : List ℕ) (n task : ℕ) → IsAmongFirst tasks n task → IsAmongFirst tasks (n + 1) task
-kept tasks n task (k, below, there) = (k, omega (arith, below), there)
+late_kept : (tasks : List ℕ) (n task : ℕ) → IsAmongFirst tasks n task → IsAmongFirst tasks (n + 1) task
+late_kept tasks n task (k, below, there) = (k, omega (arith, below), there)
 
 among_more : (tasks : List ℕ) (n last task : ℕ) → slice_get tasks n ≡ Some last
     → IsAmongFirst tasks (n + 1) task → IsAmongFirst tasks n task ⊎ (task ≡ last)
@@ -111,7 +111,7 @@ first_of_late file own tasks bound n task place _ late once stands behind (the_o
 first_of_late file own tasks bound n task place _ late once stands behind
     (the_first {first = first} same less) (among, first_behind, least) =
     rw same (
-      kept tasks n first.task among,
+      late_kept tasks n first.task among,
       first_behind,
       λ other q found late_too. elim (among_more tasks n task other stands found) [
         | inl earlier ↦ least other q earlier late_too
@@ -145,7 +145,7 @@ first_of_done file own tasks bound n task None stands is done =
       | inr same ↦ let P : ℕ → Type 0 = IsDone own bound in subst P (sym same) is
     ]
 first_of_done file own tasks bound n task (Some late) stands is (among, behind, least) = (
-  kept tasks n late.task among,
+  late_kept tasks n late.task among,
   behind,
   λ other q found late_too. elim (among_more tasks n task other stands found) [
     | inl earlier ↦ least other q earlier late_too

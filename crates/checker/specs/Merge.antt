@@ -119,8 +119,8 @@ pub record IsPlaceTaken (rs : List Record) (placed : List Bool) (place : ℕ) (r
   pub only : (i : ℕ) → Contains ready i → Stands placed i ⊎ MayStandNext rs placed i
 
 -- the index of the task whose creation each record awaits
-abbrev pub task_of : List ℕ → List Record → ℕ → Option ℕ
-task_of tasks rs i = option_and_then (λ task. position (λ t. t == task) tasks) (at awaited rs i)
+abbrev pub created_index : List ℕ → List Record → ℕ → Option ℕ
+created_index tasks rs i = option_and_then (λ task. position (λ t. t == task) tasks) (at awaited rs i)
 
 -- behind the indices of all tasks, the slot of the turn that a task begins at each record
 abbrev pub turn_slot : List ℕ → List Record → List ℕ → ℕ → Option ℕ
@@ -132,7 +132,7 @@ turn_slot tasks rs rows i =
 
 -- the key of what each record awaits
 abbrev pub key_of : List ℕ → List Record → List ℕ → ℕ → Option ℕ
-key_of tasks rs rows i = option_or (task_of tasks rs i) (turn_slot tasks rs rows i)
+key_of tasks rs rows i = option_or (created_index tasks rs i) (turn_slot tasks rs rows i)
 
 -- the ledger length that each record names
 abbrev pub named_length : List Record → ℕ → Option ℕ

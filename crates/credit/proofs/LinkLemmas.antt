@@ -321,9 +321,9 @@ IsRising-added old new parent number j s rising added here side some =
 module _ (old new : List Link) (parent number j : ℕ) (s : Side) (rising : AreLinksRising old)
     (added : IsLinkAdded old new parent number j s) where
   -- a side that leads on leads there still
-  kept : (here : ℕ) (side : Side) → here < length old → link_behind (link_at old here) side ≢ 0
+  leads_still : (here : ℕ) (side : Side) → here < length old → link_behind (link_at old here) side ≢ 0
       → link_behind (link_at new here) side ≡ link_behind (link_at old here) side
-  kept here side inside some =
+  leads_still here side inside some =
       added.same here inside side
       (λ is.
       some
@@ -354,7 +354,7 @@ module _ (old new : List Link) (parent number j : ℕ) (s : Side) (rising : AreL
       ∙ ap (λ k. Found k) leads)
       (λ (some : link_behind (link_at old here) side ≢ 0).
       let up = rising here side (omega (arith, some)) in
-      let same = kept here side inside some in
+      let same = leads_still here side inside some in
       let some_new : link_behind (link_at new here) side ≢ 0 = λ f. some (sym same ∙ f) in
       ⊎_elim
       (λ (is : is_link_of parent number (link_at old (link_behind (link_at old here) side)) ≡ true).
@@ -399,7 +399,7 @@ module _ (old new : List Link) (parent number j : ℕ) (s : Side) (rising : AreL
       (cases_eq (link_behind (link_at new here) side) 0))
       (λ (some : link_behind (link_at old here) side ≢ 0).
       let up = rising here side (omega (arith, some)) in
-      let same = kept here side inside some in
+      let same = leads_still here side inside some in
       let some_new : link_behind (link_at new here) side ≢ 0 = λ f. some (sym same ∙ f) in
       let key : is_link_of p n (link_at new (link_behind (link_at new here) side))
       ≡ is_link_of p n (link_at old (link_behind (link_at old here) side)) =

@@ -25,7 +25,7 @@ use Rattle.recorder.specs.declared.fault.CallFault.TheVariants.{WrongState}
 use Rattle.recorder.specs.Standing.{innermost}
 use Rattle.recorder.specs.Logs.{standing_of}
 use Rattle.recorder.specs.Tasks.{TaskView, parent_of, place_of, is_root_on, state_moved, current_turn}
-use Rattle.recorder.specs.Tasks.{turn_after}
+use Rattle.recorder.specs.Tasks.{turn_begun_next}
 use Rattle.recorder.specs.Tasks.{after_stop, entry_of_part}
 use Rattle.recorder.specs.Recorders.{RecorderView, IsObserved, IsConcluded, refusal_at}
 
@@ -39,7 +39,7 @@ pub record ScheduleView : Type 0 where
 abbrev pub turns_of : TaskView → TaskView → Turns
 turns_of prior next = record {
   prior = current_turn prior;
-  next = option_map_or (λ turn. turn) (turn_after next) 0;
+  next = option_map_or (λ turn. turn) (turn_begun_next next) 0;
 }
 
 -- its record, with what is claimed of a task that it finishes
@@ -77,7 +77,7 @@ may_schedule r s =
 
 -- the next task has no further turn
 abbrev pub is_last_turn : ScheduleView → Bool
-is_last_turn s = option_map_or (λ n. is_none (turn_after n)) s.next false
+is_last_turn s = option_map_or (λ n. is_none (turn_begun_next n)) s.next false
 
 -- why it is refused before it needs memory
 abbrev pub schedule_refusal : RecorderView → ScheduleView → Option CallFault

@@ -84,8 +84,8 @@ abbrev pub current_turn : TaskView → ℕ
 current_turn t = option_map_or (λ turn. turn) t.turn 0
 
 -- the turn that it begins next, where it is a number of 32 bits
-abbrev pub turn_after : TaskView → Option ℕ
-turn_after t =
+abbrev pub turn_begun_next : TaskView → Option ℕ
+turn_begun_next t =
     option_map_or (λ turn. if nat_lt (turn + 1) (2 ^ 32) then Some (turn + 1) else None) t.turn (Some 0)
 
 -- ---- its regions
@@ -169,7 +169,7 @@ started_in t (Some state) None = t
 
 -- the task after it ran next, if it may, which begins its next turn
 abbrev pub after_start : TaskView → TaskView
-after_start t = started_in t (state_moved t states.Started) (turn_after t)
+after_start t = started_in t (state_moved t states.Started) (turn_begun_next t)
 
 -- the record with which a root ends: its flags and its place in the team are those with which it began
 abbrev pub end_of_root : TaskView → ℕ → Body

@@ -5,7 +5,7 @@ ghost use Rattle.ompt_events.specs.Flags.{task_flags, are_named};
 ghost use Rattle.ompt_events.specs.States as states;
 ghost use Rattle.ompt_events.specs.Traces.{IsSoundIn};
 ghost use Rattle.task_states.specs.Progress.{the_nature, the_move};
-ghost use Rattle.recorder.specs.Tasks.{parent_of, place_of, is_initial_task, is_root_on, end_of_root, after_start, after_stop, nature, state_moved, current_turn, turn_after, innermost_region, is_innermost_region, is_barred, is_deep, is_crowded, root_of, child_of, with_child, in_state, running_in, with_region, without_region, entry_of_part};
+ghost use Rattle.recorder.specs.Tasks.{parent_of, place_of, is_initial_task, is_root_on, end_of_root, after_start, after_stop, nature, state_moved, current_turn, turn_begun_next, innermost_region, is_innermost_region, is_barred, is_deep, is_crowded, root_of, child_of, with_child, in_state, running_in, with_region, without_region, entry_of_part};
 
 use bitflags::Flags;
 use credit_ledger::Entry;
@@ -314,7 +314,7 @@ impl TaskData {
 
     /// The turn that the task begins next, where there is one more number for it.
     pub(crate) fn next_turn(&self) -> Option<u32>
-        ensures { result ≡ turn_after self.now }
+        ensures { result ≡ turn_begun_next self.now }
     {
         match self.turn {
             Some(turn) => turn.checked_add(1),

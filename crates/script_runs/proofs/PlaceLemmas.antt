@@ -8,11 +8,11 @@ use Rattle.std.proofs.lemmas.Bool.Decides.{eqb_tells}
 use Rattle.std.proofs.lemmas.List.{map-append, append-nil, take_all}
 use Rattle.std.proofs.lemmas.List.Elements.{filter-append}
 use Rattle.scripts.specs.declared.script.Step.{Step}
-use Rattle.task_states.specs.Rows.{row_at}
+use Rattle.task_states.specs.Rows.{row_at, IsPlaceAdded}
 use Rattle.recorder.specs.Recorders.{RecorderView}
 use Rattle.callbacks.proofs.KnownLaw.{take_next}
 use Rattle.script_runs.specs.Calls.{called, step_calls, steps_of, calls_of, recorded_calls}
-use Rattle.script_runs.specs.Parts.{call_at, ArePlaces, IsCalled, IsPlaceAdded, IsStepTaken, HasRecorded}
+use Rattle.script_runs.specs.Parts.{call_at, ArePlaces, IsCalled, IsStepTaken, HasRecorded}
 use Rattle.script_runs.specs.Parts.{HasRunTo}
 
 -- ---- lists of what is there

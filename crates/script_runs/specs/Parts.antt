@@ -1,5 +1,5 @@
 -- Words for private steps.
-use Rattle.std.specs.Prelude.{ℕ, ◌≡◌, ◌≢◌, ◌≤◌, ◌⊎◌, ◌++◌, ◌∷◌, [], List, Option, Some, map, option_map, All}
+use Rattle.std.specs.Prelude.{ℕ, ◌≡◌, ◌≤◌, ◌⊎◌, ◌++◌, ◌∷◌, [], List, Option, Some, map, option_map, All}
 use Rattle.std.specs.Prelude.{Contains, slice_get, take}
 use Rattle.std.specs.Global.{Vec}
 use Rattle.atomic_table.specs.Seated.{TableId}
@@ -36,11 +36,6 @@ HasRunTo steps places r = map Some (recorded_calls r.records) ≡ map (call_at s
 abbrev pub ArePlaces : List Step → ℕ → List (Vec ℕ) → Type 0
 ArePlaces steps n threads =
     (thread : ℕ) → map (call_at steps) (row_at threads thread) ≡ map Some (calls_of (take n steps) thread)
-
--- the place stands behind all in the row of the thread, and the other rows have what they had
-pub record IsPlaceAdded (before after : List (Vec ℕ)) (thread place : ℕ) : Type 0 where
-  pub here : row_at after thread ≡ row_at before thread ++ place ∷ []
-  pub others : (other : ℕ) → other ≢ thread → row_at after other ≡ row_at before other
 
 -- ---- the recorders of the threads
 

@@ -1,7 +1,8 @@
 //! The steps of each thread of a script.
 ghost use Rattle.std.specs.Prelude.{◌≤◌, IfOk, OnOk, length};
 ghost use Rattle.ompt_events.specs.Limits.{max_records};
-ghost use Rattle.script_runs.specs.Parts.{ArePlaces, IsPlaceAdded};
+ghost use Rattle.script_runs.specs.Parts.{ArePlaces};
+ghost use Rattle.task_states.specs.Rows.{IsPlaceAdded};
 
 use scripts::Step;
 use std::alloc::{AllocError, Global};

@@ -34,7 +34,7 @@ use Rattle.task_states.specs.declared.progress.Pass.{Pass}
 use Rattle.task_states.specs.declared.progress.Pass.TheVariants.{Early, Home, Rest}
 use Rattle.task_states.specs.Progress.{the_nature, is_home, is_switch, is_read, moves_in, turned, read_before}
 use Rattle.task_states.specs.Progress.{moves_read, moves_before, and_move, and_record, is_early_status}
-use Rattle.task_states.specs.Progress.{is_early_move, is_turn_move, fulfils_early, is_at, is_many, reads}
+use Rattle.task_states.specs.Progress.{is_early_step, is_turn_step, fulfils_early, is_at, is_many, reads}
 use Rattle.task_states.specs.Progress.{IsMoveOf, IsReadWhole, AreLeft, AreNatures, HasCome}
 use Rattle.task_states.specs.declared.homes.Home as homes
 use Rattle.task_states.specs.Homes.{home_told, home_at, IsNeverEarly}
@@ -172,12 +172,12 @@ pub read_told : (pass : Pass) (run : RunView) (task i index : ℕ) (move : steps
     (thread : ℕ)
     → IsMoveOf run i index move → slice_get run.family.tasks index ≡ Some task
     → home ≡ home_at run.records task → thread_at run.records i ≡ Some thread
-    → reads pass (is_early_move move) (is_at home thread) (is_many home && is_turn_move move)
+    → reads pass (is_early_step move) (is_at home thread) (is_many home && is_turn_step move)
     ≡ is_read pass run.records task i
 read_told pass run task i index move home thread is stands same runs =
-    ap (λ b. reads pass b (is_at home thread) (is_many home && is_turn_move move)) (sym early)
-    ∙ ap (λ b. reads pass (is_early rs task i) b (is_many home && is_turn_move move)) there
-    ∙ ap (λ b. reads pass (is_early rs task i) (is_home rs task i) (b && is_turn_move move))
+    ap (λ b. reads pass b (is_at home thread) (is_many home && is_turn_step move)) (sym early)
+    ∙ ap (λ b. reads pass (is_early rs task i) b (is_many home && is_turn_step move)) there
+    ∙ ap (λ b. reads pass (is_early rs task i) (is_home rs task i) (b && is_turn_step move))
     (many_is rs task home same)
     ∙ ap (λ b. reads pass (is_early rs task i) (is_home rs task i) (has_moved rs task && b)) (sym is.switch)
     ∙ of pass
@@ -185,9 +185,9 @@ read_told pass run task i index move home thread is stands same runs =
     rs : List Record
     rs = run.records
 
-    early : is_early rs task i ≡ is_early_move move
+    early : is_early rs task i ≡ is_early_step move
     early =
-        let P : ℕ → Type 0 = λ t. is_early rs t i ≡ is_early_move move in
+        let P : ℕ → Type 0 = λ t. is_early rs t i ≡ is_early_step move in
         subst P (same_Some is.task task (sym is.indexed ∙ stands)) is.early
 
     there : is_at home thread ≡ is_home rs task i

@@ -27,9 +27,9 @@ use Rattle.ompt_events.proofs.EveryLemmas.{every_get, every_passes}
 use Rattle.task_states.specs.declared.turn_edges.Edge.{Edge}
 use Rattle.task_states.specs.declared.turn_edges.Edge.TheVariants.{Begins, Ends}
 use Rattle.task_states.specs.Progress.{turned}
-use Rattle.task_states.specs.Rows.{row_at, AreSameRows}
+use Rattle.task_states.specs.Rows.{row_at, AreSameRows, IsPlaceAdded}
 use Rattle.task_states.proofs.RowLemmas.{row_here, row_set_same, row_set_other}
-use Rattle.task_states.specs.TurnEdges.{edge_turn, moved_turn, is_edge, edge_moves, AreEdges, IsNoted}
+use Rattle.task_states.specs.TurnEdges.{edge_turn, moved_turn, is_edge, edge_moves, AreEdges}
 use Rattle.task_states.specs.TurnEdges.{IsNoEdge}
 
 -- ---- the turn at a place
@@ -119,7 +119,7 @@ edges_passed edge rs n turns rows are none turn low =
     ∙ append-nil (filter (is_edge edge rs turn) (range_with_len 0 n)))
 
 pub edges_noted : (edge : Edge) (rs : List Record) (n turns turn : ℕ) (before after : List (Vec ℕ))
-    → AreEdges edge rs n turns before → moved_turn edge rs n ≡ Some turn → IsNoted before after turn n
+    → AreEdges edge rs n turns before → moved_turn edge rs n ≡ Some turn → IsPlaceAdded before after turn n
     → AreEdges edge rs (n + 1) turns after
 edges_noted edge rs n turns turn before after are is noted other below = elim (cases_eq other turn) [
   | inl same ↦
@@ -150,7 +150,7 @@ edges_none edge rs turns rows empty turn low = ap (λ l. row_at l turn) empty
 -- a place is noted in a row
 pub row_noted : (before rows : List (Vec ℕ)) (turn place : ℕ) (old new : Vec ℕ) → AreSameRows before rows
     → slice_get rows turn ≡ Some old → new.items ≡ old.items ++ place ∷ []
-    → IsNoted before (set rows turn new) turn place
+    → IsPlaceAdded before (set rows turn new) turn place
 row_noted before rows turn place old new same stands pushed = record {
   here =
       row_set_same rows turn new (slice_get_within rows turn old stands) ∙ pushed

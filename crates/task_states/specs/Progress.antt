@@ -173,16 +173,16 @@ abbrev pub fulfils_early : List Record → ℕ → Bool
 fulfils_early rs i = option_map_or is_early_status (at says_status rs i) false
 
 -- whether the move is an early fulfilment of the task's event
-abbrev pub is_early_move : Move → Bool
-is_early_move (Stopped status) = is_early_status status
-is_early_move Started = false
-is_early_move Discarded = false
+abbrev pub is_early_step : Move → Bool
+is_early_step (Stopped status) = is_early_status status
+is_early_step Started = false
+is_early_step Discarded = false
 
 -- whether the move begins or ends a turn
-abbrev pub is_turn_move : Move → Bool
-is_turn_move (Stopped status) = demands_next status
-is_turn_move Started = true
-is_turn_move Discarded = false
+abbrev pub is_turn_step : Move → Bool
+is_turn_step (Stopped status) = demands_next status
+is_turn_step Started = true
+is_turn_step Discarded = false
 
 -- whether a record of this thread is at a home
 abbrev pub is_at : homes.Home → ℕ → Bool
@@ -209,5 +209,5 @@ pub record IsMoveOf (run : RunView) (i index : ℕ) (step : Move) : Type 0 where
   pub within : i < length run.records
   pub task : ℕ
   pub indexed : slice_get run.family.tasks index ≡ Some task
-  pub early : is_early run.records task i ≡ is_early_move step
-  pub switch : is_switch run.records i ≡ is_turn_move step
+  pub early : is_early run.records task i ≡ is_early_step step
+  pub switch : is_switch run.records i ≡ is_turn_step step

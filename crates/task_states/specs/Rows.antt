@@ -1,5 +1,5 @@
 -- Rows by index, made only up to the greatest index at which one is written.
-use Rattle.std.specs.Prelude.{ℕ, ◌≡◌, List, [], Option, Some, None, slice_get}
+use Rattle.std.specs.Prelude.{ℕ, ◌≡◌, ◌≢◌, ◌++◌, ◌∷◌, List, [], Option, Some, None, slice_get}
 use Rattle.std.specs.Global.{Vec}
 
 -- what the row has; nothing where there is none
@@ -14,3 +14,8 @@ row_at rows index = row_items (slice_get rows index)
 -- at each index stands what stood there
 abbrev pub AreSameRows : {X : Type 0} → List (Vec X) → List (Vec X) → Type 0
 AreSameRows before after = (index : ℕ) → row_at after index ≡ row_at before index
+
+-- the place stands behind all in the row with this index, and the other rows have what they had
+pub record IsPlaceAdded (before after : List (Vec ℕ)) (index place : ℕ) : Type 0 where
+  pub here : row_at after index ≡ row_at before index ++ place ∷ []
+  pub others : (other : ℕ) → other ≢ index → row_at after other ≡ row_at before other

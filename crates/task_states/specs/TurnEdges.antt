@@ -1,5 +1,5 @@
 -- Where tasks that moved begin and end their turns.
-use Rattle.std.specs.Prelude.{ℕ, ◌≡◌, ◌≢◌, ◌<◌, ◌++◌, ◌==◌, Bool, true, false, List, [], ◌∷◌, Option, Some}
+use Rattle.std.specs.Prelude.{ℕ, ◌≡◌, ◌<◌, ◌==◌, Bool, true, false, List, [], ◌∷◌, Option, Some}
 use Rattle.std.specs.Prelude.{None, if◌then◌else◌, filter, option_and_then, slice_get}
 use Rattle.std.specs.List.{range_with_len}
 use Rattle.std.specs.Option.{option_map_or}
@@ -40,11 +40,6 @@ edge_moves Ends rs task turn i = turn_ends_at rs task turn i
 abbrev pub AreEdges : Edge → List Record → ℕ → ℕ → List (Vec ℕ) → Type 0
 AreEdges edge rs n turns rows =
     (turn : ℕ) → turn < turns → row_at rows turn ≡ filter (is_edge edge rs turn) (range_with_len 0 n)
-
--- the place stands behind all in the row of this turn, and the other rows have what they had
-pub record IsNoted (before after : List (Vec ℕ)) (turn place : ℕ) : Type 0 where
-  pub here : row_at after turn ≡ row_at before turn ++ place ∷ []
-  pub others : (other : ℕ) → other ≢ turn → row_at after other ≡ row_at before other
 
 -- no task that moved begins a turn, or ends one, at the place
 abbrev pub IsNoEdge : List Record → Edge → ℕ → Type 0

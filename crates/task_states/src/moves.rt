@@ -1,7 +1,7 @@
 //! What a record does to a task, and what the task's state then is.
 ghost use Rattle.std.specs.Prelude.{ℕ, ◌≡◌, ◌<◌, Some, length};
 ghost use Rattle.ompt_events.specs.States.{may as may_move, state_after};
-ghost use Rattle.task_states.specs.Progress.{the_nature, the_move, fulfils_early, is_early_status, is_early_move, is_turn_move};
+ghost use Rattle.task_states.specs.Progress.{the_nature, the_move, fulfils_early, is_early_status, is_early_step, is_turn_step};
 
 use crate::table::{discard_state, next_state, start_state};
 use ompt_events::{State, Status};
@@ -87,7 +87,7 @@ fn is_early(status: Status) -> bool
 
 /// Whether the move is such a fulfilment of the task's own event.
 pub(crate) fn is_early_move(step: Move) -> bool
-    ensures { result ≡ is_early_move step }
+    ensures { result ≡ is_early_step step }
 {
     match step {
         Move::Stopped(status) => is_early(status),
@@ -97,7 +97,7 @@ pub(crate) fn is_early_move(step: Move) -> bool
 
 /// Whether the move begins or ends a turn of the task.
 pub(crate) fn is_turn_move(step: Move) -> bool
-    ensures { result ≡ is_turn_move step }
+    ensures { result ≡ is_turn_step step }
 {
     match step {
         Move::Stopped(status) => status.demands_next(),

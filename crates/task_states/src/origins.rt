@@ -6,7 +6,7 @@ ghost use Rattle.ompt_events.specs.Causes.{IsFreeOf};
 ghost use Rattle.ompt_events.specs.States.{nature_of, has_moved};
 ghost use Rattle.task_tree.specs.Runs.{IsRun};
 ghost use Rattle.task_states.specs.Homes.{home_at};
-ghost use Rattle.task_states.specs.Progress.{is_at, is_many, is_turn_move, is_wait_made, the_nature, AreNatures, AreHomes};
+ghost use Rattle.task_states.specs.Progress.{is_at, is_many, is_turn_step, is_wait_made, the_nature, AreNatures, AreHomes};
 
 use crate::homes::{Home, Schedules};
 use crate::moves::{Move, Nature, is_turn_move};
@@ -132,7 +132,7 @@ pub(crate) fn is_at(home: Home, thread: u8) -> bool
 
 /// Whether the move begins or ends a turn, and the home is that of a task that moved.
 pub(crate) fn is_turned(home: Home, step: Move) -> bool
-    ensures { result ≡ is_many home && is_turn_move step }
+    ensures { result ≡ is_many home && is_turn_step step }
 {
     is_many(home) && is_turn_move(step)
 }

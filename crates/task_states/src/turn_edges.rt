@@ -4,7 +4,8 @@ ghost use Rattle.std.specs.Option.{option_map_or};
 ghost use Rattle.ompt_events.specs.Records.{begun_turn};
 ghost use Rattle.ompt_events.specs.Turns.{turns_in};
 ghost use Rattle.task_states.specs.declared.turn_edges.Edge.TheVariants.{Begins, Ends};
-ghost use Rattle.task_states.specs.TurnEdges.{moved_turn, AreEdges, IsNoted};
+ghost use Rattle.task_states.specs.Rows.{IsPlaceAdded};
+ghost use Rattle.task_states.specs.TurnEdges.{moved_turn, AreEdges};
 
 use crate::origins::Origins;
 use crate::rows::reach;
@@ -70,7 +71,7 @@ fn note_place(
     at: usize,
 ) -> Result<(), AllocError>
     requires { at < 2 ^ 32 }
-    ensures { OnOk result (IsNoted rows.old.items rows.new.items turn at) }
+    ensures { OnOk result (IsPlaceAdded rows.old.items rows.new.items turn at) }
 {
     reach(alloc, rows, turn)?;
     rows[turn].push(at as u32)?;

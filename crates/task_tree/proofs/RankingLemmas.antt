@@ -9,7 +9,7 @@ use Rattle.std.proofs.lemmas.List.{get_or_append_left, length_push}
 use Rattle.std.specs.List.{range_with_len}
 use Rattle.std.specs.Prelude.{slice_get, slice_index, Contains, IsPermutation}
 use Rattle.task_tree.specs.Numbering.{AreApart}
-use Rattle.task_tree.specs.Ranking.{AreWithin, ranked_id, AreRanksRising, IsOrder, IsRanked}
+use Rattle.task_tree.specs.Ranking.{AreIndicesWithin, ranked_id, AreRanksRising, IsRanking, IsRanked}
 use Rattle.ompt_events.proofs.ListLemmas.{contains_range}
 
 -- ---- the orders that are tried
@@ -33,14 +33,14 @@ below_range n index (k, inside, is) =
 pub range_read : (n rank : ℕ) → rank < n → rank ≡ slice_index (range_with_len 0 n) rank
 range_read n rank low = let same = get_or-range_with_len 0 n rank 0 low in omega (arith, same)
 
-pub range_within : (ids : List ℕ) → AreWithin ids (range_with_len 0 (length ids))
+pub range_within : (ids : List ℕ) → AreIndicesWithin ids (range_with_len 0 (length ids))
 range_within ids rank inside =
     let low : rank < length ids = rw (length-range_with_len 0 (length ids)) at inside in
     let same = get_or-range_with_len 0 (length ids) rank 0 low in
     omega (arith, low, same)
 
 pub permutation_within : (ids order : List ℕ) → IsPermutation (range_with_len 0 (length ids)) order
-    → AreWithin ids order
+    → AreIndicesWithin ids order
 permutation_within ids order moved rank inside =
     let has : Contains order (slice_index order rank) = (
       rank,
@@ -125,7 +125,7 @@ ranked_apart ids order are a b id at_a at_b =
     ]
 
 -- ids that are added do not change the order of the others
-pub order_kept : (ids order : List ℕ) (id : ℕ) → IsOrder ids order → IsOrder (ids ++ id ∷ []) order
+pub order_kept : (ids order : List ℕ) (id : ℕ) → IsRanking ids order → IsRanking (ids ++ id ∷ []) order
 order_kept ids order id are = record {
   within =
       λ rank inside.

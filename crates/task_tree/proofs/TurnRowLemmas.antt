@@ -12,12 +12,12 @@ use Rattle.ompt_events.specs.Places.{at}
 use Rattle.ompt_events.proofs.ListLemmas.{get_pushed, get_last}
 use Rattle.task_tree.specs.Numbering.{AreApart}
 use Rattle.task_tree.proofs.LinkLemmas.{get_set_same, get_set_other}
-use Rattle.task_tree.specs.TurnRows.{AreRising, AreWithin, IsSlot, AreMarkedUpTo, BeginsAnew}
+use Rattle.task_tree.specs.TurnRows.{AreOffsetsRising, AreOffsetsWithin, IsSlot, AreMarkedUpTo, BeginsAnew}
 
 -- ---- the slots
 
 -- a slot is that of one turn of one task
-slots_apart : (offsets : List ℕ) (a b s t slot : ℕ) → AreRising offsets → IsSlot offsets a s slot
+slots_apart : (offsets : List ℕ) (a b s t slot : ℕ) → AreOffsetsRising offsets → IsSlot offsets a s slot
     → IsSlot offsets b t slot → (a ≡ b) × (s ≡ t)
 slots_apart offsets a b s t slot rising one other = elim (cases_order a b) [
   | inl same ↦
@@ -56,7 +56,7 @@ slot_once offsets index turn one other is is' =
     let at_other = is'.is in
     omega (arith, first_is, at_one, at_other)
 
-pub slot_within : (offsets : List ℕ) (slots index turn slot : ℕ) → AreWithin offsets slots
+pub slot_within : (offsets : List ℕ) (slots index turn slot : ℕ) → AreOffsetsWithin offsets slots
     → IsSlot offsets index turn slot → slot < slots
 slot_within offsets slots index turn slot within is =
     let low = is.inside in let high = within (index + 1) is.end is.ends in omega (arith, low, high)
@@ -84,9 +84,9 @@ offsets_last offsets end new index offset low up is = elim (pushed_cases offsets
   | inr (last, same) ↦ omega (arith, same)
 ]
 
-pub offsets_rise : (offsets : List ℕ) (end new : ℕ) → AreRising offsets
+pub offsets_rise : (offsets : List ℕ) (end new : ℕ) → AreOffsetsRising offsets
     → ((n before : ℕ) → slice_get offsets n ≡ Some before → before ≤ end) → end ≤ new
-    → AreRising (offsets ++ new ∷ [])
+    → AreOffsetsRising (offsets ++ new ∷ [])
 offsets_rise offsets end new rising low up a b first second less one other =
     elim (pushed_cases offsets new b second other) [
       | inr (last, same) ↦
@@ -101,7 +101,7 @@ offsets_rise offsets end new rising low up a b first second less one other =
 -- ---- the marks
 
 pub marked_more : (rs : List Record) (i index task turn slot : ℕ) (tasks offsets : List ℕ) (begun : List Bool)
-    → AreApart tasks → AreRising offsets → slot < length begun → AreMarkedUpTo rs i tasks offsets begun
+    → AreApart tasks → AreOffsetsRising offsets → slot < length begun → AreMarkedUpTo rs i tasks offsets begun
     → at begun_turn rs i ≡ Some (task, turn) → slice_get tasks index ≡ Some task
     → IsSlot offsets index turn slot → AreMarkedUpTo rs (i + 1) tasks offsets (set begun slot true)
 marked_more rs i index task turn slot tasks offsets begun apart rising within are here indexed is = record {

@@ -3,7 +3,7 @@ use Rattle.std.specs.Prelude.{ℕ, ◌≡◌, ◌⊎◌, ◌++◌, ◌∷◌, []
 use Rattle.std.specs.Prelude.{Contains, slice_get}
 use Rattle.std.specs.Ordering.{nat_cmp}
 use Rattle.std.specs.BTreeMap.{BTreeMap, get}
-use Rattle.task_tree.specs.Ranking.{IsOrder}
+use Rattle.task_tree.specs.Ranking.{IsRanking}
 
 -- no id stands at two indices
 abbrev pub AreApart : List ℕ → Type 0
@@ -12,7 +12,7 @@ AreApart ids = (a b id : ℕ) → slice_get ids a ≡ Some id → slice_get ids 
 -- each id stands once and has its index, among those that were ranked or under the id
 pub record AreIndices (ids order : List ℕ) (indices : BTreeMap ℕ ℕ) : Type 0 where
   pub apart : AreApart ids
-  pub ranked : IsOrder ids order
+  pub ranked : IsRanking ids order
   pub noted_right : (id index : ℕ) → get nat_cmp indices id ≡ Some index → slice_get ids index ≡ Some id
   pub all : (index id : ℕ) → slice_get ids index ≡ Some id
       → (get nat_cmp indices id ≡ Some index) ⊎ Contains order index

@@ -10,8 +10,8 @@ order_of (Rising ids) = range_with_len 0 ids
 order_of (Listed order) = order.items
 
 -- each index is that of an id
-abbrev pub AreWithin : List ℕ → List ℕ → Type 0
-AreWithin ids order = (rank : ℕ) → rank < length order → slice_index order rank < length ids
+abbrev pub AreIndicesWithin : List ℕ → List ℕ → Type 0
+AreIndicesWithin ids order = (rank : ℕ) → rank < length order → slice_index order rank < length ids
 
 -- the id of this rank
 abbrev pub ranked_id : List ℕ → List ℕ → ℕ → ℕ
@@ -22,13 +22,13 @@ abbrev pub AreRanksRising : List ℕ → List ℕ → ℕ → Type 0
 AreRanksRising ids order n = (a b : ℕ) → a < b → b < n → ranked_id ids order a < ranked_id ids order b
 
 -- some of the ids are in the order of their values
-pub record IsOrder (ids order : List ℕ) : Type 0 where
-  pub within : AreWithin ids order
+pub record IsRanking (ids order : List ℕ) : Type 0 where
+  pub within : AreIndicesWithin ids order
   pub rising : AreRanksRising ids order (length order)
 
 -- all of them are, and none stands there twice
 pub record IsRanked (ids order : List ℕ) : Type 0 where
-  pub known : IsOrder ids order
+  pub known : IsRanking ids order
   pub all : (index : ℕ) → index < length ids → Contains order index
 
 -- the id is not among those that are ranked

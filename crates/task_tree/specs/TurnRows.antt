@@ -5,14 +5,14 @@ use Rattle.ompt_events.specs.Records.{begun_turn}
 use Rattle.ompt_events.specs.Places.{at}
 
 -- a row further back begins no earlier
-abbrev pub AreRising : List ℕ → Type 0
-AreRising offsets =
+abbrev pub AreOffsetsRising : List ℕ → Type 0
+AreOffsetsRising offsets =
     (a b first second : ℕ) → a < b → slice_get offsets a ≡ Some first → slice_get offsets b ≡ Some second
     → first ≤ second
 
 -- no row ends behind so many slots
-abbrev pub AreWithin : List ℕ → ℕ → Type 0
-AreWithin offsets slots = (index end : ℕ) → slice_get offsets index ≡ Some end → end ≤ slots
+abbrev pub AreOffsetsWithin : List ℕ → ℕ → Type 0
+AreOffsetsWithin offsets slots = (index end : ℕ) → slice_get offsets index ≡ Some end → end ≤ slots
 
 -- the slot of a turn of the task at an index, in the task's row
 pub record IsSlot (offsets : List ℕ) (index turn slot : ℕ) : Type 0 where
@@ -41,6 +41,6 @@ BeginsAnew rs i =
 -- the rows are those of all records, each of which begins its turn anew
 pub record AreTurnRows (rs : List Record) (tasks offsets : List ℕ) (begun : List Bool) : Type 0 where
   pub all : length offsets ≡ length tasks + 1
-  pub within : AreWithin offsets (length begun)
+  pub within : AreOffsetsWithin offsets (length begun)
   pub marked : AreMarkedUpTo rs (length rs) tasks offsets begun
   pub anew : (i : ℕ) → BeginsAnew rs i

@@ -1,7 +1,7 @@
 //! The order of ids by their values, and a search in it.
 ghost use Rattle.std.specs.Prelude.{ℕ, ◌≡◌, ◌<◌, ◌≤◌, ◌^◌, Some, IfOk, IfSome, IsTrue, IsPermutation, MatchOption, length, slice_get, slice_index};
 ghost use Rattle.std.specs.List.{range_with_len};
-ghost use Rattle.task_tree.specs.Ranking.{order_of, AreWithin, AreRanksRising, IsOrder, IsRanked, IsUnranked};
+ghost use Rattle.task_tree.specs.Ranking.{order_of, AreIndicesWithin, AreRanksRising, IsRanking, IsRanked, IsUnranked};
 
 use std::alloc::{AllocError, Global};
 
@@ -71,7 +71,7 @@ fn sort(alloc: Global, ids: &[u64]) -> Result<Vec<u32>, AllocError>
 
 /// Whether each id in this order is greater than the one before it.
 fn is_rising(ids: &[u64], ranks: &Ranks) -> bool
-    requires { AreWithin ids.now (order_of ranks.now) }
+    requires { AreIndicesWithin ids.now (order_of ranks.now) }
     ensures { IsTrue result → AreRanksRising ids.now (order_of ranks.now) (length (order_of ranks.now)) }
 {
     for rank in 1..ranks.len() {
@@ -84,7 +84,7 @@ fn is_rising(ids: &[u64], ranks: &Ranks) -> bool
 
 /// The index of the id, if it is ranked.
 pub(crate) fn search(ids: &[u64], ranks: &Ranks, id: u64) -> Option<usize>
-    requires { IsOrder ids.now (order_of ranks.now) }
+    requires { IsRanking ids.now (order_of ranks.now) }
     ensures { MatchOption result (IsUnranked ids.now (order_of ranks.now) id) (λ index. slice_get ids.now index ≡ Some id) }
 {
     match guess(ids, ranks, id) {
@@ -95,7 +95,7 @@ pub(crate) fn search(ids: &[u64], ranks: &Ranks, id: u64) -> Option<usize>
 
 /// The index of the id, where the ids below it have no gap: runtimes often count their tasks.
 fn guess(ids: &[u64], ranks: &Ranks, id: u64) -> Option<usize>
-    requires { AreWithin ids.now (order_of ranks.now) }
+    requires { AreIndicesWithin ids.now (order_of ranks.now) }
     ensures { IfSome result (λ index. slice_get ids.now index ≡ Some id) }
 {
     if ranks.len() == 0 {
@@ -112,7 +112,7 @@ fn guess(ids: &[u64], ranks: &Ranks, id: u64) -> Option<usize>
 
 /// The index of the id, by halves.
 fn bisect(ids: &[u64], ranks: &Ranks, id: u64) -> Option<usize>
-    requires { IsOrder ids.now (order_of ranks.now) }
+    requires { IsRanking ids.now (order_of ranks.now) }
     ensures { MatchOption result (IsUnranked ids.now (order_of ranks.now) id) (λ index. slice_get ids.now index ≡ Some id) }
 {
     let mut low = 0;

@@ -7,7 +7,7 @@ ghost use Rattle.ompt_events.specs.declared.records.Record.{Record};
 ghost use Rattle.ompt_events.specs.Records.{begun_turn};
 ghost use Rattle.ompt_events.specs.Places.{at};
 ghost use Rattle.task_tree.specs.Family.{IsFamilyOf};
-ghost use Rattle.task_tree.specs.TurnRows.{AreRising, AreWithin, IsSlot, AreTurnRows, AreMarkedUpTo, BeginsAnew};
+ghost use Rattle.task_tree.specs.TurnRows.{AreOffsetsRising, AreOffsetsWithin, IsSlot, AreTurnRows, AreMarkedUpTo, BeginsAnew};
 
 use crate::family::Family;
 use crate::rising::{Begin, start_at};
@@ -86,7 +86,7 @@ fn no_counts(alloc: Global, tasks: usize) -> Result<Vec<usize>, AllocError>
 fn find_offsets(alloc: Global, counts: &[usize]) -> Result<Vec<usize>, AllocError>
     requires few { sum counts.now + length counts.now < 2 ^ 64 }
     ensures all { IfOk result (λ offsets. length offsets.items ≡ length counts.now + 1) }
-    ensures rising { IfOk result (λ offsets. AreRising offsets.items) }
+    ensures rising { IfOk result (λ offsets. AreOffsetsRising offsets.items) }
 {
     let mut offsets = Vec::with_capacity(alloc, counts.len() + 1)?;
     let mut end = 0usize;
@@ -109,8 +109,8 @@ fn none_begun(alloc: Global, slots: usize) -> Result<Vec<bool>, AllocError>
 fn begin_once(records: &[Record], family: &Family, offsets: &[usize], begun: &mut [bool]) -> bool
     requires family { IsFamilyOf records.now family.now }
     requires all { length offsets.now ≡ length family.now.tasks + 1 }
-    requires rising { AreRising offsets.now }
-    requires slots { AreWithin offsets.now (length begun.old) }
+    requires rising { AreOffsetsRising offsets.now }
+    requires slots { AreOffsetsWithin offsets.now (length begun.old) }
     requires fresh { AreMarkedUpTo records.now 0 family.now.tasks offsets.now begun.old }
     ensures { IsTrue result → AreTurnRows records.now family.now.tasks offsets.now begun.new }
 {
@@ -133,8 +133,8 @@ fn begins_anew(
     requires within { at < length records.now }
     requires family { IsFamilyOf records.now family.now }
     requires all { length offsets.now ≡ length family.now.tasks + 1 }
-    requires rising { AreRising offsets.now }
-    requires slots { AreWithin offsets.now (length begun.old) }
+    requires rising { AreOffsetsRising offsets.now }
+    requires slots { AreOffsetsWithin offsets.now (length begun.old) }
     requires before { AreMarkedUpTo records.now at family.now.tasks offsets.now begun.old }
     ensures marked { IsTrue result
         → AreMarkedUpTo records.now (at + 1) family.now.tasks offsets.now begun.new }
@@ -171,7 +171,7 @@ fn slot_of(offsets: &[usize], begin: Begin) -> Option<usize>
 /// Whether a record tells that the task begins the turn.
 pub(crate) fn has_begun(rows: &TurnRows, begin: Begin) -> bool
     requires all { begin.index + 1 < length rows.now.offsets.items }
-    requires slots { AreWithin rows.now.offsets.items (length rows.now.begun.items) }
+    requires slots { AreOffsetsWithin rows.now.offsets.items (length rows.now.begun.items) }
     ensures { (records : List Record) (tasks : List ℕ) (task : ℕ)
         → AreMarkedUpTo records (length records) tasks rows.now.offsets.items rows.now.begun.items
         → slice_get tasks begin.index ≡ Some task → IsTrue result

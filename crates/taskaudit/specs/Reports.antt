@@ -42,8 +42,8 @@ place_text line thread seq =
     ++ (codes ", seq " ++ decimal seq))))
 
 -- the same of the record at the place i: line 1 of the file is the header
-abbrev pub place_line : List Record → ℕ → List ℕ
-place_line rs i =
+abbrev pub record_place : List Record → ℕ → List ℕ
+record_place rs i =
     place_text (i + 2) (option_map_or (λ r. r.thread) (slice_get rs i) 0)
     (option_map_or (λ r. r.seq) (slice_get rs i) 0)
 
@@ -58,7 +58,7 @@ yes_text rs =
 -- the task is unfinished at the place i
 abbrev pub no_text : List Record → ℕ → ℕ → List ℕ
 no_text rs i task =
-    codes "no: " ++ (place_line rs i ++ (codes ": task " ++ (decimal task ++ codes " unfinished\n")))
+    codes "no: " ++ (record_place rs i ++ (codes ": task " ++ (decimal task ++ codes " unfinished\n")))
 
 -- the task that starts at the place i, or the taskwait that is complete there; 0 where there is none
 abbrev pub dependent_at : List Record → ℕ → ℕ
@@ -67,14 +67,14 @@ dependent_at rs i = unwrap_or (option_or (at started rs i) (at wait_completed rs
 -- the predecessor is unfinished there
 abbrev pub late_text : List Record → ℕ → ℕ → List ℕ
 late_text rs i predecessor =
-    codes "no: " ++ (place_line rs i
+    codes "no: " ++ (record_place rs i
     ++ (codes ": task " ++ (decimal predecessor
     ++ (codes " must precede task " ++ (decimal (dependent_at rs i) ++ codes "\n")))))
 
 -- the record at the place i has the cause
 abbrev pub malformed_text : List Record → ℕ → Cause → List ℕ
 malformed_text rs i cause =
-    codes "malformed: " ++ (place_line rs i
+    codes "malformed: " ++ (record_place rs i
     ++ (codes ": cause " ++ (decimal (cause_number cause)
     ++ (codes " " ++ (cause_name cause ++ codes "\n")))))
 

@@ -4,7 +4,7 @@ ghost use Rattle.ompt_events.specs.Causes.{entries_in};
 ghost use Rattle.ompt_events.specs.Limits.{max_records};
 ghost use Rattle.checker.specs.Verdicts.{IsVerdict};
 ghost use Rattle.clap.specs.Words.{kind_of};
-ghost use Rattle.taskaudit.specs.Reports.{report_of, fault_text_of, yes_text, no_text, late_text, dependent_at, malformed_text, place_text, place_line, creates_in, waits_in};
+ghost use Rattle.taskaudit.specs.Reports.{report_of, fault_text_of, yes_text, no_text, late_text, dependent_at, malformed_text, place_text, record_place, creates_in, waits_in};
 ghost use Rattle.taskaudit.specs.Statuses.{fault_status_of, usage_status_of};
 
 use crate::work::AuditFault;
@@ -164,7 +164,7 @@ impl Place {
     fn of(records: &[Record], at: usize) -> Place
         requires within { at < length records.now }
         requires few { length records.now ≤ max_records }
-        ensures { place_text result.line result.thread result.seq ≡ place_line records.now at }
+        ensures { place_text result.line result.thread result.seq ≡ record_place records.now at }
     {
         let event = &records[at];
         Place {

@@ -22,7 +22,7 @@ use Rattle.ompt_events.proofs.PlaceLemmas.{own_more}
 use Rattle.ompt_events.proofs.RecordLemmas.{at_through, region_running}
 use Rattle.task_tree.specs.Numbering.{AreApart}
 use Rattle.task_tree.proofs.LinkLemmas.{get_set_same, get_set_other}
-use Rattle.teams.specs.Begins.{AreBeginsNumbered, IsPlaceAdded}
+use Rattle.teams.specs.Begins.{AreBeginsNumbered, IsBeginAdded}
 use Rattle.task_states.specs.Rows.{row_at}
 use Rattle.teams.specs.Teams.{begins_before, AreBarrierBegins, IsNumberOf, AreBeginNumbers}
 
@@ -179,7 +179,7 @@ begins_other rs n tasks begins are none = record {
 -- one place more in the row of a task
 pub begins_added : (rs : List Record) (n own parent : ℕ) (tasks : List ℕ) (before after : List (Vec ℕ))
     → AreApart tasks → AreBarrierBegins rs n tasks before → slice_get tasks own ≡ Some parent
-    → barrier_begun (at region rs n) ≡ Some parent → IsPlaceAdded before after own n
+    → barrier_begun (at region rs n) ≡ Some parent → IsBeginAdded before after own n
     → AreBarrierBegins rs (n + 1) tasks after
 begins_added rs n own parent tasks before after apart are is_own begun added = record {
   within = added.few (length tasks) are.within (slice_get_within tasks own parent is_own);

@@ -11,7 +11,7 @@ pub record AreBeginsNumbered (rs : List Record) (n : ℕ) (numbers : List ℕ) :
   pub each : (i number : ℕ) → i < n → slice_get numbers i ≡ Some number → IsNumberOf rs i number
 
 -- the place stands behind all in the row with this index, and the other rows have what they had
-pub record IsPlaceAdded (before after : List (Vec ℕ)) (index place : ℕ) : Type 0 where
+pub record IsBeginAdded (before after : List (Vec ℕ)) (index place : ℕ) : Type 0 where
   pub here : row_at after index ≡ row_at before index ++ place ∷ []
   pub others : (other : ℕ) → other ≢ index → row_at after other ≡ row_at before other
   pub few : (most : ℕ) → length before ≤ most → index < most → length after ≤ most

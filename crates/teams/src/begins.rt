@@ -4,7 +4,7 @@ ghost use Rattle.ompt_events.specs.Records.{region};
 ghost use Rattle.ompt_events.specs.Places.{at as says_at};
 ghost use Rattle.ompt_events.specs.Regions.{barrier_begun};
 ghost use Rattle.task_tree.specs.Subjects.{Calls};
-ghost use Rattle.teams.specs.Begins.{IsPlaceAdded};
+ghost use Rattle.teams.specs.Begins.{IsBeginAdded};
 ghost use Rattle.task_states.specs.Rows.{row_at};
 ghost use Rattle.teams.specs.Teams.{AreBarrierBegins, AreBeginNumbers};
 
@@ -54,7 +54,7 @@ fn note_begin(
 ) -> Result<u32, AllocError>
     requires small { at < 2 ^ 32 }
     requires few { length (row_at begins.old.items index) < 2 ^ 32 }
-    ensures added { OnOk result (IsPlaceAdded begins.old.items begins.new.items index at) }
+    ensures added { OnOk result (IsBeginAdded begins.old.items begins.new.items index at) }
     ensures number { IfOk result (λ number. number ≡ length (row_at begins.old.items index)) }
 {
     reach(alloc, begins, index)?;

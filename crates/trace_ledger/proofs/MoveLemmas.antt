@@ -116,7 +116,7 @@ contains_from f (z ∷ xs) (suc k) x y is has =
     Contains-append_right (f z) (flat_map f xs) y (contains_from f xs k x y is has)
 
 -- the record's move is among those of its task
-record IsMoveOf (rs : List Record) (i task : ℕ) (part : Part) : Type 0 where
+record IsMoveAmong (rs : List Record) (i task : ℕ) (part : Part) : Type 0 where
   number : ℕ
   move : Move
   there : slice_get (all_moves_of rs task) number ≡ Some (i, move)
@@ -124,7 +124,7 @@ record IsMoveOf (rs : List Record) (i task : ℕ) (part : Part) : Type 0 where
 
 -- what is among the moves of the task stands there
 among : (rs : List Record) (i task : ℕ) (part : Part) (move : Move) → part_of move ≡ Some part
-    → Contains (all_moves_of rs task) (i, move) → IsMoveOf rs i task part
+    → Contains (all_moves_of rs task) (i, move) → IsMoveAmong rs i task part
 among rs i task part move ends has =
     let (number, there) = contains_get (all_moves_of rs task) (i, move) has in
     record { number = number; move = move; there = there; ends = ends }
@@ -301,10 +301,10 @@ moved_move rs i task part free finishes = of (slice_get rs i) refl finishes
     of (Some r) here is = by r here (body_ends task part r.body is)
 
 finishing_move : (rs : List Record) (i task : ℕ) (part : Part) → IsFreeOf rs TurnGap
-    → at finish rs i ≡ Some (task, part) → IsMoveOf rs i task part
+    → at finish rs i ≡ Some (task, part) → IsMoveAmong rs i task part
 finishing_move rs i task part free finishes = by (has_moved rs task) refl
   where
-    by : (b : Bool) → has_moved rs task ≡ b → IsMoveOf rs i task part
+    by : (b : Bool) → has_moved rs task ≡ b → IsMoveAmong rs i task part
     by true e =
         let (move, ends, has) = moved_move rs i task part free finishes in
         among rs i task part move ends (rw e has)

@@ -36,13 +36,13 @@ last_of (x ∷ xs) = more (last_of xs)
 -- ---- one task at a path
 
 -- what stands at a path
-pub data StandsAt (rs : List Record) (root task : ℕ) (path : List ℕ) : Type 0 where
-  at_top : path ≡ [] → task ≡ root → StandsAt rs root task path
+pub data StandsOnPath (rs : List Record) (root task : ℕ) (path : List ℕ) : Type 0 where
+  at_top : path ≡ [] → task ≡ root → StandsOnPath rs root task path
   at_child : (number parent : ℕ) (up : List ℕ) → path ≡ up ++ number ∷ [] → HasPath rs root parent up
-      → IsChild rs parent number task → StandsAt rs root task path
+      → IsChild rs parent number task → StandsOnPath rs root task path
 
 pub stands : (rs : List Record) (root task : ℕ) (path : List ℕ) → HasPath rs root task path
-    → StandsAt rs root task path
+    → StandsOnPath rs root task path
 stands rs root task path (top is) = at_top refl refl
 stands rs root task path (below number {parent = parent} {path = up} higher numbered) =
     at_child number parent up refl higher numbered
@@ -51,14 +51,14 @@ pub one_task : (rs : List Record) (root task other : ℕ) (path : List ℕ) → 
     → HasPath rs root other path → task ≡ other
 one_task rs root task other path (top is) there = of (stands rs root other path there)
   where
-    of : StandsAt rs root other [] → root ≡ other
+    of : StandsOnPath rs root other [] → root ≡ other
     of (at_top e same) = sym same
     of (at_child number parent up e higher numbered) = absurd (pushed_none up number (sym e))
 one_task rs root task other path (below number {parent = parent} {path = up} higher numbered) there =
     of (λ parent'. one_task rs root parent parent' up higher) (stands rs root other (up ++ number ∷ []) there)
   where
     of : ((parent' : ℕ) → HasPath rs root parent' up → parent ≡ parent')
-        → StandsAt rs root other (up ++ number ∷ []) → task ≡ other
+        → StandsOnPath rs root other (up ++ number ∷ []) → task ≡ other
     of one (at_top e same) = absurd (pushed_none up number e)
     of one (at_child number' parent' up' e higher' numbered') =
         let parts = same_from_push up up' number number' e in

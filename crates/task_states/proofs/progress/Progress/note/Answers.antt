@@ -1,5 +1,5 @@
 use Rattle.std.proofs.Common.{◌∙◌, sym, ap}
-use Rattle.task_states.specs.Progress.{reads, is_at, is_early_move}
+use Rattle.task_states.specs.Progress.{reads, is_at, is_early_step}
 use Rattle.task_states.proofs.ProgressLemmas.{come_read, come_unread}
 use Rattle.task_states.proofs.PassLemmas.{read_told}
 use Rattle.task_states.proofs.progress.Progress.note.Goals as goal
@@ -16,10 +16,10 @@ returns-then-reads-clause-come c = λ task stands moves come.
     ap (λ b. reads c.args.pass b c.is_at-is_home.result c.is_turned-is_turned.result)
     c.is_early_move.ensures in
     let home =
-    ap (λ b. reads c.args.pass (is_early_move moved.step) b c.is_turned-is_turned.result)
+    ap (λ b. reads c.args.pass (is_early_step moved.step) b c.is_turned-is_turned.result)
     c.is_at-is_home.ensures in
     let turned =
-    ap (reads c.args.pass (is_early_move moved.step) (is_at c.home-home.result c.thread.result))
+    ap (reads c.args.pass (is_early_step moved.step) (is_at c.home-home.result c.thread.result))
     c.is_turned-is_turned.ensures in
     let is_read_there = sym (c.reads.ensures ∙ early ∙ home ∙ turned ∙ told) ∙ c.if-reads.true in
     come_read c.args.pass run.records run.family.tasks moved.index task moved.at c.nature.result moved.step
@@ -38,10 +38,10 @@ returns-clause-come c = λ task stands moves come.
     ap (λ b. reads c.args.pass b c.is_at-is_home.result c.is_turned-is_turned.result)
     c.is_early_move.ensures in
     let home =
-    ap (λ b. reads c.args.pass (is_early_move moved.step) b c.is_turned-is_turned.result)
+    ap (λ b. reads c.args.pass (is_early_step moved.step) b c.is_turned-is_turned.result)
     c.is_at-is_home.ensures in
     let turned =
-    ap (reads c.args.pass (is_early_move moved.step) (is_at c.home-home.result c.thread.result))
+    ap (reads c.args.pass (is_early_step moved.step) (is_at c.home-home.result c.thread.result))
     c.is_turned-is_turned.ensures in
     let is_read_there = sym (c.reads.ensures ∙ early ∙ home ∙ turned ∙ told) ∙ c.if-reads.false in
     come_unread c.args.pass run.records run.family.tasks task moved.at moved.step moves c.args.self.now
