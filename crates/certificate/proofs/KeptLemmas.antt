@@ -10,12 +10,12 @@ use Rattle.ompt_events.specs.Limits.{max_records, max_tasks}
 use Rattle.ompt_events.specs.Traces.{IsSoundIn, HasItsTurns, IsInRange, IsSound, tasks_in}
 use Rattle.certificate.specs.Keeping.{IsTraceKept}
 
-pub IsKept-more : (version : ℕ) (rs : List Record) (r : Record) (tasks more : ℕ)
+pub IsTraceKept-more : (version : ℕ) (rs : List Record) (r : Record) (tasks more : ℕ)
     → IsTraceKept version rs tasks
     → IsSoundIn version r.body → IsInRange r → length rs < max_records
     → more ≡ tasks + cond (is_some (made r.body)) 1 0 → more ≤ max_tasks
     → IsTraceKept version (rs ++ r ∷ []) more
-IsKept-more version rs r tasks more kept sound in_range room counted few =
+IsTraceKept-more version rs r tasks more kept sound in_range room counted few =
     let same : tasks_in (rs ++ r ∷ []) ≡ tasks_in rs + cond (is_some (made r.body)) 1 0 =
     sum_by_push (λ (x : Record). cond (is_some (made x.body)) 1 0) rs r in
     record {

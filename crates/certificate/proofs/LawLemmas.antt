@@ -23,7 +23,7 @@ use Rattle.certificate.specs.Files.{StandsFor, IsFaultlessBefore, IsFirstFault}
 use Rattle.certificate.specs.Reading.{IsLineReached}
 use Rattle.certificate.proofs.RecordLemmas.{ok_not_err}
 use Rattle.certificate.proofs.FileLemmas.{line_feeds-lines}
-use Rattle.certificate.proofs.ReadingLemmas.{IsReached-within, IsReached-later}
+use Rattle.certificate.proofs.ReadingLemmas.{IsLineReached-within, IsLineReached-later}
 
 -- what is said from place k on
 abbrev Walked : ℕ → List (List ℕ) → List ℕ → ℕ → Result TraceView ReadFault → Type 0
@@ -316,8 +316,8 @@ faultless-before newest n bytes reached = by_said (trace_said newest bytes) refl
         λ k below.
         (said_stands newest bytes rs e).no_fault k
         (omega
-        (arith, below, IsReached-within (traces newest) n bytes reached, line_feeds-lines bytes))
+        (arith, below, IsLineReached-within (traces newest) n bytes reached, line_feeds-lines bytes))
     by_said (Err f) e =
         λ k below.
         (said_first newest bytes f e).earlier k
-        (omega (arith, below, IsReached-later (traces newest) n bytes f reached e))
+        (omega (arith, below, IsLineReached-later (traces newest) n bytes f reached e))

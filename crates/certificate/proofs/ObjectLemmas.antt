@@ -41,10 +41,10 @@ IsBelowEach-put l k d (member j e ms) less below =
     by_order first rest here more Equal = (first, rest)
     by_order first rest here more Greater = (first, more)
 
-IsRising-put : (k : List ℕ) (d : Data) (ms : Members) → AreNamesRising ms → AreNamesRising (put k d ms)
-IsRising-put k d no_members rising = (tt, tt)
-IsRising-put k d (member l e ms) rising =
-    by_order rising.0 rising.1 (IsRising-put k d ms rising.1) (slice_cmp nat_cmp k l) refl
+AreNamesRising-put : (k : List ℕ) (d : Data) (ms : Members) → AreNamesRising ms → AreNamesRising (put k d ms)
+AreNamesRising-put k d no_members rising = (tt, tt)
+AreNamesRising-put k d (member l e ms) rising =
+    by_order rising.0 rising.1 (AreNamesRising-put k d ms rising.1) (slice_cmp nat_cmp k l) refl
   where
     by_order : IsBelowEach l ms → AreNamesRising ms → AreNamesRising (put k d ms) → (o : Ordering)
         → slice_cmp nat_cmp k l ≡ o
@@ -140,7 +140,7 @@ with_members-plain : (added : List (List ℕ × Data)) (ms : Members) (n : ℕ)
 unfolding with_member
 with_members-plain [] ms n each rising all = (rising, all)
 with_members-plain (m ∷ added) ms n each rising all =
-    with_members-plain added (put m.0 m.1 ms) n each.1 (IsRising-put m.0 m.1 ms rising)
+    with_members-plain added (put m.0 m.1 ms) n each.1 (AreNamesRising-put m.0 m.1 ms rising)
     (MembersArePlain-put m.0 m.1 ms n each.0.0 each.0.1 all)
 
 pub IsPlain-object_of : (added : List (List ℕ × Data)) (n : ℕ) → AllByRecursion (IsPlainMember n) added

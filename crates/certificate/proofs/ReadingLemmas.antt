@@ -69,14 +69,14 @@ from_feeds n bytes rest from =
     omega (arith, ap line_feeds from.parts, line_feeds-append from.before rest, from.lines.count)
 
 -- a line that is reached is one of the file, and no line before it has a fault
-pub IsReached-within : {X : Type 0} (format : Format X) (n : ℕ) (bytes : List ℕ)
+pub IsLineReached-within : {X : Type 0} (format : Format X) (n : ℕ) (bytes : List ℕ)
     → IsLineReached format n bytes
     → n ≤ line_feeds bytes + 1
-IsReached-within format n bytes reached = omega (arith, from_feeds n bytes reached.rest reached.begins)
+IsLineReached-within format n bytes reached = omega (arith, from_feeds n bytes reached.rest reached.begins)
 
-pub IsReached-later : {X : Type 0} (format : Format X) (n : ℕ) (bytes : List ℕ) (f : ReadFault)
+pub IsLineReached-later : {X : Type 0} (format : Format X) (n : ℕ) (bytes : List ℕ) (f : ReadFault)
     → IsLineReached format n bytes → said format bytes ≡ Err f → n ≤ f.line
-IsReached-later format n bytes f reached e =
+IsLineReached-later format n bytes f reached e =
     said_later format n reached.before (cut reached.rest).lines (cut reached.rest).rest f
     (sym reached.says ∙ e)
 

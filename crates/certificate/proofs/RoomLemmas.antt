@@ -71,12 +71,12 @@ with_record-ok before after r h = by (has_room before.records r) refl h
     by false is e = absurd (ok_not_err after Limit e)
 
 -- many records more at a time
-pub IsKept-append : (version : ℕ) (before rs : List Record) (tasks more : ℕ)
+pub IsTraceKept-append : (version : ℕ) (before rs : List Record) (tasks more : ℕ)
     → IsTraceKept version before tasks
     → All (λ r. IsSoundIn version r.body) rs → All IsInRange rs → more ≡ tasks_in rs
     → length before + length rs ≤ max_records → tasks + more ≤ max_tasks
     → IsTraceKept version (before ++ rs) (tasks + more)
-IsKept-append version before rs tasks more kept sound in_range counted few few_tasks =
+IsTraceKept-append version before rs tasks more kept sound in_range counted few few_tasks =
     let both : tasks_in (before ++ rs) ≡ tasks_in before + tasks_in rs =
     sum_by-append (λ (x : Record). cond (is_some (made x.body)) 1 0) before rs in
     record {

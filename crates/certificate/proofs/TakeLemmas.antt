@@ -151,19 +151,19 @@ pub record AreItemsTaken {X : Type 0} (f : X → Data) (xs : List X) (later : Bo
       → done ++ items_text later (items_of (map f tail))
       ≡ text ++ (91 ∷ items_text false (items_of (map f (xs ++ tail))))
 
-pub IsTaken-none : {X : Type 0} (f : X → Data) (start rest text : List ℕ)
+pub AreItemsTaken-none : {X : Type 0} (f : X → Data) (start rest text : List ℕ)
     → Takes start (text ++ (91 ∷ [])) rest → AreItemsTaken f [] false start rest text
-IsTaken-none f start rest text takes = record {
+AreItemsTaken-none f start rest text takes = record {
   done = text ++ (91 ∷ []);
   takes = takes;
   whole = λ tail. append_assoc text (91 ∷ []) (items_text false (items_of (map f tail)));
 }
 
-pub IsTaken-more : {X : Type 0} (f : X → Data) (xs : List X) (x : X) (later : Bool)
+pub AreItemsTaken-more : {X : Type 0} (f : X → Data) (xs : List X) (x : X) (later : Bool)
     (start rest behind text : List ℕ)
     → AreItemsTaken f xs later start rest text → Takes rest (comma_if later ++ compact_text (f x)) behind
     → AreItemsTaken f (xs ++ x ∷ []) true start behind text
-IsTaken-more f xs x later start rest behind text before takes = record {
+AreItemsTaken-more f xs x later start rest behind text before takes = record {
   done = before.done ++ (comma_if later ++ compact_text (f x));
   takes = Takes-both start rest behind before.done (comma_if later ++ compact_text (f x)) before.takes takes;
   whole =

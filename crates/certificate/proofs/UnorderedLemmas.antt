@@ -52,12 +52,12 @@ use Rattle.certificate.proofs.TextLemmas.{wholes-items_of}
 
 -- ---- one more member
 
-AreRows-put : (k : List ℕ) (d : Data) (ms : Members) (rs : List (List ℕ × Option Data)) → HaveValues ms rs
+HaveValues-put : (k : List ℕ) (d : Data) (ms : Members) (rs : List (List ℕ × Option Data)) → HaveValues ms rs
     → HaveValues (put k d ms) (with_row k d rs)
-AreRows-put k d ms [] all = tt
-AreRows-put k d ms (row ∷ rs) all = (
+HaveValues-put k d ms [] all = tt
+HaveValues-put k d ms (row ∷ rs) all = (
   get_member-put_either row.0 k d ms ∙ ap (cond (bytes_eq k row.0) (Some d)) all.0,
-  AreRows-put k d ms rs all.1,
+  HaveValues-put k d ms rs all.1,
 )
 
 puts-more : (ms : Members) (k : List ℕ) (d : Data) (found : Members)
@@ -81,9 +81,10 @@ pub record AreMembersMet (rs : List (List ℕ × Option Data)) (later : Bool) (s
     pub plain : MembersArePlain members 2
     pub are : HaveValues (puts members no_members) rs
 
-pub IsMet-none : (rs : List (List ℕ × Option Data)) (start rest : List ℕ) → Takes start (123 ∷ []) rest
+pub AreMembersMet-none : (rs : List (List ℕ × Option Data)) (start rest : List ℕ)
+    → Takes start (123 ∷ []) rest
     → HaveValues no_members rs → AreMembersMet rs false start rest
-IsMet-none rs start rest takes are = record {
+AreMembersMet-none rs start rest takes are = record {
   members = no_members;
   done = 123 ∷ [];
   takes = takes;
@@ -99,16 +100,16 @@ member-more comma name text done tail =
     ∙ ap (λ bytes. done ++ bytes) (append_assoc comma (name ++ 58 ∷ text) tail)
     ∙ ap (λ bytes. done ++ (comma ++ bytes)) (append_assoc name (58 ∷ text) tail)
 
-pub IsMet-more : (before after : List (List ℕ × Option Data)) (later : Bool)
+pub AreMembersMet-more : (before after : List (List ℕ × Option Data)) (later : Bool)
     (start rest front behind : List ℕ)
     → AreMembersMet before later start rest → Takes rest (comma_if later) front
     → IsMemberInFront before after front behind
     → AreMembersMet after true start behind
-IsMet-more before after later start rest front behind met comma one =
+AreMembersMet-more before after later start rest front behind met comma one =
     let ms = met.members in
     let text = quoted one.name ++ 58 ∷ compact_text one.value in
     let grown : HaveValues (put one.name one.value (puts ms no_members)) after =
-    (rw one.added (AreRows-put one.name one.value (puts ms no_members) before met.are)) in
+    (rw one.added (HaveValues-put one.name one.value (puts ms no_members) before met.are)) in
     record {
       members = followed ms (member one.name one.value no_members);
       done = met.done ++ (comma_if later ++ text);
@@ -125,9 +126,9 @@ IsMet-more before after later start rest front behind met comma one =
     }
 
 -- the line ends
-pub IsFound-end : (rs : List (List ℕ × Option Data)) (later : Bool) (line rest : List ℕ)
+pub IsObjectOf-end : (rs : List (List ℕ × Option Data)) (later : Bool) (line rest : List ℕ)
     → AreMembersMet rs later line rest → Takes rest (125 ∷ []) [] → IsObjectOf line rs
-IsFound-end rs later line rest met last =
+IsObjectOf-end rs later line rest met last =
     let text : line ≡ compact_text (object met.members) =
     met.takes.is ∙ ap (λ bytes. met.done ++ bytes) last.is ∙ met.whole no_members
     ∙ ap (λ ms. 123 ∷ members_text false ms) (followed-none met.members) in

@@ -66,14 +66,14 @@ count-halves true l s fits =
     omega (arith, begins_with-halves l s longer)
 
 -- the two halves stand for what was halved, whoever has them
-pub StandsFor-halves : (c : Credit) (here there : Holder) (task : ℕ)
+pub ReplacesCredit-halves : (c : Credit) (here there : Holder) (task : ℕ)
     → ReplacesCredit c (record {
       root = c.root;
       task = c.task;
       holder = here;
       share = keep_half c.share;
     } ∷ record { root = c.root; task = task; holder = there; share = give_half c.share } ∷ [])
-StandsFor-halves c here there task = record {
+ReplacesCredit-halves c here there task = record {
   same_root = λ root h. both_of_root (c.root == root) h;
   keeps_task = λ t h. or_left _ _ h;
   fits =
@@ -82,8 +82,8 @@ StandsFor-halves c here there task = record {
   tiles = λ l root fits. count-halves (c.root == root) l c.share fits.0;
 }
 
-pub StandsFor-entered_credit : (c : Credit) → ReplacesCredit c (entered_credit c)
-StandsFor-entered_credit c = record {
+pub ReplacesCredit-entered_credit : (c : Credit) → ReplacesCredit c (entered_credit c)
+ReplacesCredit-entered_credit c = record {
   same_root = λ root h. one_of_root (c.root == root) h;
   keeps_task = λ t h. or_left _ _ h;
   fits = λ l root fits. fits;
@@ -151,17 +151,18 @@ IsExchanged-exchange passes others stands (c ∷ cs) =
     (λ yes. IsExchanged-here c (others c) cs (stands c))
     (λ no. IsExchanged-there c cs (exchange passes others cs) (IsExchanged-exchange passes others stands cs))
 
-IsSound-exchanged : (cs ds : List Credit) → IsExchanged cs ds → AreCreditsSound cs → AreCreditsSound ds
-IsSound-exchanged cs ds was sound = record {
+AreCreditsSound-exchanged : (cs ds : List Credit) → IsExchanged cs ds → AreCreditsSound cs
+    → AreCreditsSound ds
+AreCreditsSound-exchanged cs ds was sound = record {
   made = λ root h. was.keeps_task root (sound.made root (was.same_root root h));
   one = λ l root h f. was.tiles l root f ∙ sound.one l root (was.same_root root h) (was.fits l root f);
 }
 
-pub IsSound-exchange : (passes : Credit → Bool) (others : Credit → List Credit)
+pub AreCreditsSound-exchange : (passes : Credit → Bool) (others : Credit → List Credit)
     → ((c : Credit) → ReplacesCredit c (others c)) → (cs : List Credit) → AreCreditsSound cs
     → AreCreditsSound (exchange passes others cs)
-IsSound-exchange passes others stands cs sound =
-    IsSound-exchanged cs _ (IsExchanged-exchange passes others stands cs) sound
+AreCreditsSound-exchange passes others stands cs sound =
+    AreCreditsSound-exchanged cs _ (IsExchanged-exchange passes others stands cs) sound
 
 -- a root that was not made has no share
 tally-none : (l : List Half) (root : ℕ) (cs : List Credit) → is_root root cs ≡ false → tally l root cs ≡ 0
@@ -171,9 +172,9 @@ tally-none l root (c ∷ cs) h =
     let here : ones ((c.root == root) && begins_with l c.share) ≡ 0 = ap ones (and_left _ _ parts.0) in
     omega (arith, here, tally-none l root cs parts.1)
 
-IsSound-root : (cs : List Credit) (task : ℕ) → was_made task cs ≡ false → AreCreditsSound cs
+AreCreditsSound-root : (cs : List Credit) (task : ℕ) → was_made task cs ≡ false → AreCreditsSound cs
     → AreCreditsSound (whole_credit task ∷ cs)
-IsSound-root cs task new sound = record {
+AreCreditsSound-root cs task new sound = record {
   made = λ root h.
       ⊎_elim (λ here. or_left _ _ here) (λ there. or_right (task == root) _ (sound.made root there))
       (or_cases (task == root) (is_root root cs) h);
@@ -193,31 +194,34 @@ IsSound-root cs task new sound = record {
       (cases_Bool (task == root));
 }
 
-pub IsSound-next_credits : (cs : List Credit) (e : Event) → AreCreditsSound cs
+pub AreCreditsSound-next_credits : (cs : List Credit) (e : Event) → AreCreditsSound cs
     → AreCreditsSound (next_credits cs e)
-IsSound-next_credits cs (Root task) sound =
-    cond_both (was_made task cs) cs _ AreCreditsSound (λ old. sound) (λ new. IsSound-root cs task new sound)
-IsSound-next_credits cs (Create creator child) sound =
+AreCreditsSound-next_credits cs (Root task) sound =
+    cond_both (was_made task cs) cs _ AreCreditsSound (λ old. sound)
+    (λ new. AreCreditsSound-root cs task new sound)
+AreCreditsSound-next_credits cs (Create creator child) sound =
     cond_both (was_made child cs) cs _ AreCreditsSound (λ old. sound)
     (λ new.
-    IsSound-exchange (has_task_share creator) (shared_halves child)
-    (λ c. StandsFor-halves c Running Running child) cs sound)
-IsSound-next_credits cs (Finish task) sound =
-    IsSound-exchange (has_task_share task) entered_credit StandsFor-entered_credit cs sound
-IsSound-next_credits cs (Detach task) sound =
-    IsSound-exchange (has_task_share task) detached_halves (λ c. StandsFor-halves c Entered Awaited c.task) cs
+    AreCreditsSound-exchange (has_task_share creator) (shared_halves child)
+    (λ c. ReplacesCredit-halves c Running Running child) cs sound)
+AreCreditsSound-next_credits cs (Finish task) sound =
+    AreCreditsSound-exchange (has_task_share task) entered_credit ReplacesCredit-entered_credit cs sound
+AreCreditsSound-next_credits cs (Detach task) sound =
+    AreCreditsSound-exchange (has_task_share task) detached_halves
+    (λ c. ReplacesCredit-halves c Entered Awaited c.task) cs
     sound
-IsSound-next_credits cs (Fulfil task) sound =
-    IsSound-exchange (has_event_share task) entered_credit StandsFor-entered_credit cs sound
+AreCreditsSound-next_credits cs (Fulfil task) sound =
+    AreCreditsSound-exchange (has_event_share task) entered_credit ReplacesCredit-entered_credit cs sound
 
-pub IsSound-run : (cs : List Credit) (es : List Event) → AreCreditsSound cs
+pub AreCreditsSound-run : (cs : List Credit) (es : List Event) → AreCreditsSound cs
     → AreCreditsSound (fold next_credits cs es)
-IsSound-run cs [] sound = sound
-IsSound-run cs (e ∷ es) sound = IsSound-run (next_credits cs e) es (IsSound-next_credits cs e sound)
+AreCreditsSound-run cs [] sound = sound
+AreCreditsSound-run cs (e ∷ es) sound =
+    AreCreditsSound-run (next_credits cs e) es (AreCreditsSound-next_credits cs e sound)
 
-pub IsSound-credits_after : (es : List Event) → AreCreditsSound (credits_after es)
-IsSound-credits_after es =
-    IsSound-run [] es (record {
+pub AreCreditsSound-credits_after : (es : List Event) → AreCreditsSound (credits_after es)
+AreCreditsSound-credits_after es =
+    AreCreditsSound-run [] es (record {
       made = λ root h. absurd (false≢true h);
       one = λ l root h. absurd (false≢true h);
     })

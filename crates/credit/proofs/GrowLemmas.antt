@@ -15,7 +15,8 @@ use Rattle.credit.specs.declared.links.Link.{Link}
 use Rattle.credit.specs.Links.{leaf_link, link_at, link_behind, with_link, is_link_of, spot_within, spot_of}
 use Rattle.credit.specs.Links.{found}
 use Rattle.credit.specs.Links.{AreLinksRising}
-use Rattle.credit.proofs.LinkLemmas.{step-missing, link_at-past, IsLinkAdded, IsLinkAdded-set, IsRising-added}
+use Rattle.credit.proofs.LinkLemmas.{step-missing, link_at-past, IsLinkAdded, IsLinkAdded-set}
+use Rattle.credit.proofs.LinkLemmas.{AreLinksRising-added}
 use Rattle.credit.proofs.LinkLemmas.{added-here, added-elsewhere, missing-at}
 use Rattle.credit.specs.declared.tree.Node.{Node}
 use Rattle.credit.specs.declared.tree.Tree.{Tree}
@@ -422,7 +423,7 @@ pub IsGrown-made : (old mid linked_mid new : Tree) (index number j : ℕ) (s : S
 IsGrown-made old mid linked_mid new index number j s linked inside small spot pushed pushed_link mid_same put
     written same_links = (
       IsGrown-child old new index number linked
-          (IsRising-added old.links.items new.links.items index number j s linked.rising link_added)
+          (AreLinksRising-added old.links.items new.links.items index number j s linked.rising link_added)
           link_added.longer inside (ap found spot)
           (IsNodeAdded-set old new index (with_reach (node_at old index) number) linked inside items refl refl
           (omega arith) (omega (arith, linked.small index)))

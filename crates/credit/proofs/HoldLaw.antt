@@ -20,7 +20,7 @@ use Rattle.credit.specs.Credits.{whole_credit, detached_halves, next_credits, cr
 use Rattle.credit.specs.Credits.{entered_shares}
 use Rattle.credit.proofs.ShareLemmas.{IsAsLong, ByRecursion-append, length-begins_with, begins_with-append}
 use Rattle.credit.proofs.ShareLemmas.{begins_with-itself, count_by-some, list_any_weaker}
-use Rattle.credit.proofs.CreditLemmas.{AreCreditsSound, IsSound-credits_after}
+use Rattle.credit.proofs.CreditLemmas.{AreCreditsSound, AreCreditsSound-credits_after}
 use Rattle.credit.proofs.TileLaw.{shares_where, is_live_of, is_entered_of, count_by-live-entered}
 use Rattle.credit.proofs.TileLaw.{Fits-from_shares}
 
@@ -29,20 +29,20 @@ pub record HasAllOf (old new : List (List Half)) : Type 0 where
   pub any : (p : List Half → Bool) → list_any p old ≡ true → list_any p new ≡ true
   pub all : (l : List Half) → ByRecursion (IsAsLong l) new → ByRecursion (IsAsLong l) old
 
-IsWithin-itself : (xs : List (List Half)) → HasAllOf xs xs
-IsWithin-itself xs = record { any = λ p h. h; all = λ l h. h }
+HasAllOf-itself : (xs : List (List Half)) → HasAllOf xs xs
+HasAllOf-itself xs = record { any = λ p h. h; all = λ l h. h }
 
-IsWithin-through : (xs ys zs : List (List Half)) → HasAllOf xs ys → HasAllOf ys zs → HasAllOf xs zs
-IsWithin-through xs ys zs f g = record { any = λ p h. g.any p (f.any p h); all = λ l h. f.all l (g.all l h) }
+HasAllOf-through : (xs ys zs : List (List Half)) → HasAllOf xs ys → HasAllOf ys zs → HasAllOf xs zs
+HasAllOf-through xs ys zs f g = record { any = λ p h. g.any p (f.any p h); all = λ l h. f.all l (g.all l h) }
 
-IsWithin-before : (xs ys : List (List Half)) → HasAllOf ys (xs ++ ys)
-IsWithin-before xs ys = record {
+HasAllOf-before : (xs ys : List (List Half)) → HasAllOf ys (xs ++ ys)
+HasAllOf-before xs ys = record {
   any = λ p h. rw list_any-append (or_right (list_any p xs) _ h);
   all = λ l h. (ByRecursion-append (IsAsLong l) xs ys h).1;
 }
 
-IsWithin-cons : (x : List Half) (xs ys : List (List Half)) → HasAllOf xs ys → HasAllOf (x ∷ xs) (x ∷ ys)
-IsWithin-cons x xs ys w = record {
+HasAllOf-cons : (x : List Half) (xs ys : List (List Half)) → HasAllOf xs ys → HasAllOf (x ∷ xs) (x ∷ ys)
+HasAllOf-cons x xs ys w = record {
   any =
       λ p h.
       ⊎_elim (λ here. or_left _ _ here) (λ there. or_right (p x) _ (w.any p there))
@@ -56,19 +56,19 @@ entered_shares-append root cs ds =
     ap (λ es. map (λ (c : Credit). c.share) es) (filter-append (is_entered_of root) cs ds)
     ∙ map-append (λ (c : Credit). c.share) (filter (is_entered_of root) cs) (filter (is_entered_of root) ds)
 
-IsWithin-where : (b : Bool) (c : Credit) (xs ys : List Credit)
+HasAllOf-where : (b : Bool) (c : Credit) (xs ys : List Credit)
     → HasAllOf (map (λ (c : Credit). c.share) xs) (map (λ (c : Credit). c.share) ys)
     → HasAllOf (map (λ (c : Credit). c.share) (cond b (c ∷ xs) xs))
     (map (λ (c : Credit). c.share) (cond b (c ∷ ys) ys))
-IsWithin-where true c xs ys w = IsWithin-cons c.share _ _ w
-IsWithin-where false c xs ys w = w
+HasAllOf-where true c xs ys w = HasAllOf-cons c.share _ _ w
+HasAllOf-where false c xs ys w = w
 
 -- what an exchange takes away was not entered
-IsWithin-exchange : (root : ℕ) (passes : Credit → Bool) (others : Credit → List Credit)
+HasAllOf-exchange : (root : ℕ) (passes : Credit → Bool) (others : Credit → List Credit)
     → ((c : Credit) → passes c ≡ true → is_entered c.holder ≡ false) → (cs : List Credit)
     → HasAllOf (entered_shares root cs) (entered_shares root (exchange passes others cs))
-IsWithin-exchange root passes others live [] = IsWithin-itself []
-IsWithin-exchange root passes others live (c ∷ cs) =
+HasAllOf-exchange root passes others live [] = HasAllOf-itself []
+HasAllOf-exchange root passes others live (c ∷ cs) =
     cond_both (passes c) (others c ++ cs) (c ∷ exchange passes others cs)
     (λ ds. HasAllOf (entered_shares root (c ∷ cs)) (entered_shares root ds))
     (λ yes.
@@ -81,12 +81,12 @@ IsWithin-exchange root passes others live (c ∷ cs) =
     skipped in
     subst (λ xs. HasAllOf xs (entered_shares root (others c ++ cs))) (sym was)
     (subst (λ ys. HasAllOf (entered_shares root cs) ys) (sym (entered_shares-append root (others c) cs))
-    (IsWithin-before (entered_shares root (others c)) (entered_shares root cs))))
+    (HasAllOf-before (entered_shares root (others c)) (entered_shares root cs))))
     (
     λ no.
-    IsWithin-where (is_entered_of root c) c (filter (is_entered_of root) cs)
+    HasAllOf-where (is_entered_of root c) c (filter (is_entered_of root) cs)
     (filter (is_entered_of root) (exchange passes others cs))
-    (IsWithin-exchange root passes others live cs))
+    (HasAllOf-exchange root passes others live cs))
 
 is_running-not_entered : (h : Holder) → is_running h ≡ true → is_entered h ≡ false
 is_running-not_entered Running e = refl
@@ -106,9 +106,9 @@ has_event_share-live : (task : ℕ) (c : Credit) → has_event_share task c ≡ 
 has_event_share-live task c h =
     is_awaited-not_entered c.holder (and_parts (c.task == task) (is_awaited c.holder) h).1
 
-IsWithin-root : (root task : ℕ) (cs : List Credit)
+HasAllOf-root : (root task : ℕ) (cs : List Credit)
     → HasAllOf (entered_shares root cs) (entered_shares root (whole_credit task ∷ cs))
-IsWithin-root root task cs =
+HasAllOf-root root task cs =
     let skipped : ((task == root) && false) ≡ false = and_right (task == root) _ refl in
     let e : entered_shares root (whole_credit task ∷ cs) ≡ entered_shares root cs =
     ap
@@ -116,32 +116,32 @@ IsWithin-root root task cs =
     map (λ (c : Credit). c.share)
     (cond b (whole_credit task ∷ filter (is_entered_of root) cs) (filter (is_entered_of root) cs)))
     skipped in
-    subst (λ ys. HasAllOf (entered_shares root cs) ys) (sym e) (IsWithin-itself (entered_shares root cs))
+    subst (λ ys. HasAllOf (entered_shares root cs) ys) (sym e) (HasAllOf-itself (entered_shares root cs))
 
 -- what was entered stays so
-IsWithin-next_credits : (root : ℕ) (cs : List Credit) (e : Event)
+HasAllOf-next_credits : (root : ℕ) (cs : List Credit) (e : Event)
     → HasAllOf (entered_shares root cs) (entered_shares root (next_credits cs e))
-IsWithin-next_credits root cs (Root task) =
+HasAllOf-next_credits root cs (Root task) =
     cond_both (was_made task cs) cs _ (λ ds. HasAllOf (entered_shares root cs) (entered_shares root ds))
-    (λ old. IsWithin-itself _) (λ new. IsWithin-root root task cs)
-IsWithin-next_credits root cs (Create creator child) =
+    (λ old. HasAllOf-itself _) (λ new. HasAllOf-root root task cs)
+HasAllOf-next_credits root cs (Create creator child) =
     cond_both (was_made child cs) cs _ (λ ds. HasAllOf (entered_shares root cs) (entered_shares root ds))
-    (λ old. IsWithin-itself _)
+    (λ old. HasAllOf-itself _)
     (λ new.
-    IsWithin-exchange root (has_task_share creator) (shared_halves child)
+    HasAllOf-exchange root (has_task_share creator) (shared_halves child)
     (has_task_share-live creator) cs)
-IsWithin-next_credits root cs (Finish task) =
-    IsWithin-exchange root (has_task_share task) entered_credit (has_task_share-live task) cs
-IsWithin-next_credits root cs (Detach task) =
-    IsWithin-exchange root (has_task_share task) detached_halves (has_task_share-live task) cs
-IsWithin-next_credits root cs (Fulfil task) =
-    IsWithin-exchange root (has_event_share task) entered_credit (has_event_share-live task) cs
+HasAllOf-next_credits root cs (Finish task) =
+    HasAllOf-exchange root (has_task_share task) entered_credit (has_task_share-live task) cs
+HasAllOf-next_credits root cs (Detach task) =
+    HasAllOf-exchange root (has_task_share task) detached_halves (has_task_share-live task) cs
+HasAllOf-next_credits root cs (Fulfil task) =
+    HasAllOf-exchange root (has_event_share task) entered_credit (has_event_share-live task) cs
 
-IsWithin-run : (root : ℕ) (cs : List Credit) (es : List Event)
+HasAllOf-run : (root : ℕ) (cs : List Credit) (es : List Event)
     → HasAllOf (entered_shares root cs) (entered_shares root (fold next_credits cs es))
-IsWithin-run root cs [] = IsWithin-itself _
-IsWithin-run root cs (e ∷ es) =
-    IsWithin-through _ _ _ (IsWithin-next_credits root cs e) (IsWithin-run root (next_credits cs e) es)
+HasAllOf-run root cs [] = HasAllOf-itself _
+HasAllOf-run root cs (e ∷ es) =
+    HasAllOf-through _ _ _ (HasAllOf-next_credits root cs e) (HasAllOf-run root (next_credits cs e) es)
 
 -- more shares hold what fewer hold
 pub Hold-within : (old new : List (List Half)) (s : List Half) → HasAllOf old new → Hold old s → Hold new s
@@ -156,12 +156,12 @@ abbrev pub reach : List Credit → ℕ
 reach [] = 0
 reach (c ∷ cs) = length c.share + reach cs
 
-IsShort-reach : (test : Credit → Bool) (l : List Half) (cs : List Credit) → reach cs ≤ length l
+IsAsLong-reach : (test : Credit → Bool) (l : List Half) (cs : List Credit) → reach cs ≤ length l
     → ByRecursion (IsAsLong l) (shares_where test cs)
-IsShort-reach test l [] far = tt
-IsShort-reach test l (c ∷ cs) far =
+IsAsLong-reach test l [] far = tt
+IsAsLong-reach test l (c ∷ cs) far =
     let here : length c.share ≤ length l = omega arith in
-    let rest : ByRecursion (IsAsLong l) (shares_where test cs) = IsShort-reach test l cs (omega arith) in
+    let rest : ByRecursion (IsAsLong l) (shares_where test cs) = IsAsLong-reach test l cs (omega arith) in
     cond_both (test c) (c ∷ filter test cs) (filter test cs)
     (λ ds. ByRecursion (IsAsLong l) (map (λ (c : Credit). c.share) ds))
     (λ yes. (here, rest)) (λ no. rest)
@@ -192,9 +192,10 @@ Hold-apart cs root s u sound held live begins =
     let l : List Half = u ++ replicate (reach cs) Keep in
     let far : reach cs ≤ length l =
     omega (arith, length-append u (replicate (reach cs) Keep), length-replicate (reach cs) Keep) in
-    let as_live : ByRecursion (IsAsLong l) (live_shares root cs) = IsShort-reach (is_live_of root) l cs far in
+    let as_live : ByRecursion (IsAsLong l) (live_shares root cs) =
+    IsAsLong-reach (is_live_of root) l cs far in
     let as_entered : ByRecursion (IsAsLong l) (entered_shares root cs) =
-    IsShort-reach (is_entered_of root) l cs far in
+    IsAsLong-reach (is_entered_of root) l cs far in
     let on_s : begins_with l s ≡ true = begins_with-append u (replicate (reach cs) Keep) s begins in
     let found =
     held l on_s
@@ -230,6 +231,6 @@ pub Hold-credits_after : (es later : List Event) (root : ℕ) (s : List Half)
 Hold-credits_after es later root s held =
     let on : credits_after (es ++ later) ≡ fold next_credits (credits_after es) later =
     fold-append next_credits [] es later in
-    Hold-here (credits_after (es ++ later)) root s (IsSound-credits_after (es ++ later))
+    Hold-here (credits_after (es ++ later)) root s (AreCreditsSound-credits_after (es ++ later))
     (subst (λ cs. Hold (entered_shares root cs) s) (sym on)
-    (Hold-within _ _ s (IsWithin-run root (credits_after es) later) held))
+    (Hold-within _ _ s (HasAllOf-run root (credits_after es) later) held))

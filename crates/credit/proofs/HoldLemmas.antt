@@ -57,10 +57,10 @@ abbrev pub span : List (List Half) → ℕ
 span [] = 0
 span (t ∷ shares) = length t + span shares
 
-pub IsShort-span : (l : List Half) (shares : List (List Half)) → span shares ≤ length l
+pub IsAsLong-span : (l : List Half) (shares : List (List Half)) → span shares ≤ length l
     → ByRecursion (IsAsLong l) shares
-IsShort-span l [] far = tt
-IsShort-span l (t ∷ shares) far = (omega arith, IsShort-span l shares (omega arith))
+IsAsLong-span l [] far = tt
+IsAsLong-span l (t ∷ shares) far = (omega arith, IsAsLong-span l shares (omega arith))
 
 no_third : (l p : List Half) (shares : List (List Half)) → begins_with l p ≡ true
     → list_any (λ t. begins_with p t) shares ≡ false → list_any (λ t. begins_with t p) shares ≡ false
@@ -89,7 +89,7 @@ Hold-missing shares p apart off held =
     let found =
     held l on_p
     (All-from_recursion (IsAsLong l) (p ∷ shares)
-    (length-begins_with l p on_p, IsShort-span l shares far)) in
+    (length-begins_with l p on_p, IsAsLong-span l shares far)) in
     no_third l p shares on_p apart off (list_any-from_Any (λ t. begins_with l t) shares found)
 
 -- a list as long as each share is longer than a piece with which one of them goes on

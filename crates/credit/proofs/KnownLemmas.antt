@@ -14,7 +14,8 @@ use Rattle.credit.specs.Trees.{AreRunsCounted}
 use Rattle.credit.proofs.ShareLemmas.{begins_with-append, begins_with_through, length-begins_with}
 use Rattle.credit.proofs.HoldLemmas.{begins_with-either}
 use Rattle.credit.proofs.PathLemmas.{keeps-path_of, keeps_apart, keeps-none, keeps-longer, length-keeps}
-use Rattle.credit.proofs.PathLemmas.{prefix-parent, begins_with-push, IsBegunBy, here, higher, IsBegun-share}
+use Rattle.credit.proofs.PathLemmas.{prefix-parent, begins_with-push, IsBegunBy, here, higher}
+use Rattle.credit.proofs.PathLemmas.{IsBegunBy-share}
 use Rattle.credit.proofs.PathLemmas.{IsAbove, above, IsAbove-prefix}
 use Rattle.credit.proofs.HeldLemmas.{Hold-found, Hold-apart, Hold-no_run}
 
@@ -43,9 +44,10 @@ slice_get-of_take (x ∷ xs) (suc k) (suc i) t less at = slice_get-of_take xs k 
 pub data IsRunWithin (run : Option Run) (n time : ℕ) : Type 0 where
   within : (r : Run) → run ≡ Some r → r.keeps ≤ n → r.time ≡ time → IsRunWithin run n time
 
-pub IsWithin-from : (run : Option Run) (n time : ℕ) → time_within run n ≡ Some time → IsRunWithin run n time
-IsWithin-from None n time e = absurd (none_some time e)
-IsWithin-from (Some r) n time e =
+pub IsRunWithin-from : (run : Option Run) (n time : ℕ) → time_within run n ≡ Some time
+    → IsRunWithin run n time
+IsRunWithin-from None n time e = absurd (none_some time e)
+IsRunWithin-from (Some r) n time e =
     ⊎_elim
     (λ (yes : leb r.keeps n ≡ true).
     within r refl (leb-true r.keeps n yes)
@@ -87,7 +89,8 @@ IsEnteredIn-above shares at counted (n ∷ up) time e =
     (λ (first : time_above at up ≡ Some time).
     IsEnteredIn-longer shares (prefix up) (prefix (n ∷ up)) time (prefix-parent n up)
     (IsEnteredIn-above shares at counted up time first))
-    (λ (second : time_within (at up).run n ≡ Some time). from_run (IsWithin-from (at up).run n time second))
+    (λ (second : time_within (at up).run n ≡ Some time).
+    from_run (IsRunWithin-from (at up).run n time second))
     (first_of-some (time_above at up) (time_within (at up).run n) time e)
   where
     from_run : IsRunWithin (at up).run n time → IsEnteredIn shares (prefix (n ∷ up)) time
@@ -116,13 +119,13 @@ pub data IsRunOrShorter (shares : List (List Half)) (at : List ℕ → Progress)
   is_run : (l : ℕ) → l ≤ m → t ≡ keeps (prefix p) l → (at p).run ≡ Some (record { keeps = l; time = i })
       → IsRunOrShorter shares at p m i t
 
-pub IsRun-begun : (shares : List (List Half)) (at : List ℕ → Progress) → AreRunsCounted shares at
+pub IsRunOrShorter-begun : (shares : List (List Half)) (at : List ℕ → Progress) → AreRunsCounted shares at
     → (p : List ℕ)
     → time_above at p ≡ None → (m i : ℕ) (t : List Half) → slice_get shares i ≡ Some t
     → begins_with (keeps (prefix p) m) t ≡ true → IsRunOrShorter shares at p m i t
-IsRun-begun shares at counted p none m i t entered begun =
+IsRunOrShorter-begun shares at counted p none m i t entered begun =
     by_case
-    (IsBegun-share p m (path_of t).0 (path_of t).1
+    (IsBegunBy-share p m (path_of t).0 (path_of t).1
     (subst (λ r. begins_with (keeps (prefix p) m) r ≡ true) (sym (keeps-path_of t)) begun))
   where
     known : (at (path_of t).0).run ≡ Some (record { keeps = (path_of t).1; time = i })
@@ -142,12 +145,12 @@ IsRun-begun shares at counted p none m i t entered begun =
     by_case (higher n begun less) = absurd (no_higher n less (IsAbove-prefix p (n ∷ (path_of t).0) begun))
 
 -- where no shorter share begins a node's share, none does
-pub IsClear-above : (shares : List (List Half)) (at : List ℕ → Progress) → AreRunsCounted shares at
+pub HasNoShorter-above : (shares : List (List Half)) (at : List ℕ → Progress) → AreRunsCounted shares at
     → (p : List ℕ)
     → time_above at p ≡ None → HasNoShorter shares (prefix p)
-IsClear-above shares at counted p none i t entered begun =
+HasNoShorter-above shares at counted p none i t entered begun =
     from_run
-    (IsRun-begun shares at counted p none 0 i t entered
+    (IsRunOrShorter-begun shares at counted p none 0 i t entered
     (subst (λ r. begins_with r t ≡ true) (sym (keeps-none (prefix p))) begun))
   where
     from_run : IsRunOrShorter shares at p 0 i t → length (prefix p) ≤ length t
@@ -189,10 +192,10 @@ IsHeldFrom-none shares s m none upto = (
 )
 
 -- a child before the end of the run is clear
-pub IsClear-child : (shares : List (List Half)) (at : List ℕ → Progress) → AreRunsCounted shares at
+pub HasNoShorter-child : (shares : List (List Half)) (at : List ℕ → Progress) → AreRunsCounted shares at
     → (up : List ℕ) (r : Run) (k : ℕ) → (at up).run ≡ Some r → k < r.keeps
     → HasNoShorter shares (prefix (k ∷ up))
-IsClear-child shares at counted up r k run less i t entered begun =
+HasNoShorter-child shares at counted up r k run less i t entered begun =
     ⊎_elim
     (λ (first : begins_with (keeps (prefix up) k) t ≡ true).
     let later =

@@ -278,9 +278,9 @@ IsLinkAdded-set old new parent number j s inside free e = record {
         link_at-get pushed i ∙ get_or_append_left old (leaf_link parent number ∷ []) (leaf_link 0 0) i less
         ∙ sym (link_at-get old i)
 
-pub IsRising-added : (old new : List Link) (parent number j : ℕ) (s : Side) → AreLinksRising old
+pub AreLinksRising-added : (old new : List Link) (parent number j : ℕ) (s : Side) → AreLinksRising old
     → IsLinkAdded old new parent number j s → AreLinksRising new
-IsRising-added old new parent number j s rising added here side some =
+AreLinksRising-added old new parent number j s rising added here side some =
     ⊎_elim
     (λ (less : here < length old).
     ⊎_elim

@@ -150,25 +150,26 @@ pub data IsBegunBy (p : List ℕ) (m : ℕ) (q : List ℕ) (l : ℕ) : Type 0 wh
   here : q ≡ p → l ≤ m → IsBegunBy p m q l
   higher : (n : ℕ) → begins_with (prefix p) (prefix (n ∷ q)) ≡ true → l ≤ n → IsBegunBy p m q l
 
-IsBegun-lift : (n : ℕ) (p : List ℕ) (m : ℕ) (q : List ℕ) (l : ℕ) → IsBegunBy p n q l → IsBegunBy (n ∷ p) m q l
-IsBegun-lift n p m q l (here same less) =
+IsBegunBy-lift : (n : ℕ) (p : List ℕ) (m : ℕ) (q : List ℕ) (l : ℕ) → IsBegunBy p n q l
+    → IsBegunBy (n ∷ p) m q l
+IsBegunBy-lift n p m q l (here same less) =
     higher n
     (subst (λ r. begins_with (prefix (n ∷ p)) (prefix (n ∷ r)) ≡ true) (sym same)
     (begins_with-itself (prefix (n ∷ p))))
     less
-IsBegun-lift n p m q l (higher k begun less) =
+IsBegunBy-lift n p m q l (higher k begun less) =
     higher k (begins_with_through (prefix (n ∷ p)) (prefix p) (prefix (k ∷ q)) (prefix-parent n p) begun) less
 
-pub IsBegun-node : (p : List ℕ) (m : ℕ) (q : List ℕ) (l : ℕ)
+pub IsBegunBy-node : (p : List ℕ) (m : ℕ) (q : List ℕ) (l : ℕ)
     → begins_with (prefix p) (keeps (prefix q) l) ≡ true → IsBegunBy p m q l
-IsBegun-node [] m q l e =
+IsBegunBy-node [] m q l e =
     let whole : keeps (prefix q) l ≡ keeps (prefix []) 0 = begins_with-empty (keeps (prefix q) l) e in
     let same = keeps_apart q [] l 0 whole in here same.0 (omega (arith, same.1))
-IsBegun-node (n ∷ p) m q l e =
+IsBegunBy-node (n ∷ p) m q l e =
     ⊎_elim
     (λ (first : begins_with (keeps (prefix p) n) (keeps (prefix q) l) ≡ true).
-    IsBegun-lift n p m q l
-    (⊎_elim (λ begun. IsBegun-node p n q l begun)
+    IsBegunBy-lift n p m q l
+    (⊎_elim (λ begun. IsBegunBy-node p n q l begun)
     (λ (run : (j : ℕ) × (j ≤ n) × (keeps (prefix q) l ≡ keeps (prefix p) j)).
     let same = keeps_apart q p l run.0 run.2 in here same.0 (omega (arith, same.1, run.1)))
     (begins_with-keeps (prefix p) n (keeps (prefix q) l) first)))
@@ -177,10 +178,10 @@ IsBegun-node (n ∷ p) m q l e =
     here same.0 (omega (arith, same.1)))
     (begins_with-push (keeps (prefix p) n) Give (keeps (prefix q) l) e)
 
-pub IsBegun-share : (p : List ℕ) (m : ℕ) (q : List ℕ) (l : ℕ)
+pub IsBegunBy-share : (p : List ℕ) (m : ℕ) (q : List ℕ) (l : ℕ)
     → begins_with (keeps (prefix p) m) (keeps (prefix q) l) ≡ true → IsBegunBy p m q l
-IsBegun-share p m q l e =
-    ⊎_elim (λ begun. IsBegun-node p m q l begun)
+IsBegunBy-share p m q l e =
+    ⊎_elim (λ begun. IsBegunBy-node p m q l begun)
     (λ (run : (j : ℕ) × (j ≤ m) × (keeps (prefix q) l ≡ keeps (prefix p) j)).
     let same = keeps_apart q p l run.0 run.2 in here same.0 (omega (arith, same.1, run.1)))
     (begins_with-keeps (prefix p) m (keeps (prefix q) l) e)

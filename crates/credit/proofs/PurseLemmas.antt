@@ -18,12 +18,14 @@ use Rattle.credit.specs.Trees.{no_progress, node_at, child, place, progress_at, 
 use Rattle.credit.specs.Trees.{child_since, since_all, HasNoShorter, IsHeldFrom, IsTreeKnown}
 use Rattle.credit.proofs.ShareLemmas.{begins_with-longer, begins_with_through}
 use Rattle.credit.proofs.PathLemmas.{keeps-path_of, keeps-none, keeps-longer, IsBegunBy, here, higher}
-use Rattle.credit.proofs.PathLemmas.{IsBegun-share, IsAbove, above, IsAbove-prefix}
+use Rattle.credit.proofs.PathLemmas.{IsBegunBy-share, IsAbove, above, IsAbove-prefix}
 use Rattle.credit.proofs.HeldLemmas.{list_any-found, list_any-none, Hold-longer, Hold-apart, Hold-no_run}
 use Rattle.credit.proofs.HeldLemmas.{Hold-run}
 use Rattle.credit.proofs.KnownLemmas.{none_some, same_some, slice_get-take, slice_get-of_take, IsEnteredIn}
-use Rattle.credit.proofs.KnownLemmas.{entered_in, IsEnteredIn-above, IsRunOrShorter, is_run, IsRun-begun}
-use Rattle.credit.proofs.KnownLemmas.{IsClear-above, IsHeldFrom-entered, IsHeldFrom-none, IsClear-child}
+use Rattle.credit.proofs.KnownLemmas.{entered_in, IsEnteredIn-above, IsRunOrShorter, is_run}
+use Rattle.credit.proofs.KnownLemmas.{IsRunOrShorter-begun}
+use Rattle.credit.proofs.KnownLemmas.{HasNoShorter-above, IsHeldFrom-entered, IsHeldFrom-none}
+use Rattle.credit.proofs.KnownLemmas.{HasNoShorter-child}
 use Rattle.credit.proofs.CountLemmas.{count_below-full}
 use Rattle.credit.proofs.SettleLemmas.{IsFree}
 use Rattle.credit.proofs.TreeLemmas.{place-none, place-child, progress_at-place, progress_at-none}
@@ -59,7 +61,8 @@ pub IsHeldFrom-no_run : (shares : List (List Half)) (at : List ℕ → Progress)
     → IsHeldFrom shares None (keeps (prefix p) m)
 IsHeldFrom-no_run shares at known p m none empty =
     IsHeldFrom-none shares (prefix p) m
-    (λ j i t there begun. from_run j i t (IsRun-begun shares at known.counted p none j i t there begun))
+    (λ j i t there begun.
+    from_run j i t (IsRunOrShorter-begun shares at known.counted p none j i t there begun))
   where
     from_run : (j i : ℕ) (t : List Half) → IsRunOrShorter shares at p j i t → ⊥
     from_run j i t (is_run l less same run) = none_some (record { keeps = l; time = i }) (sym empty ∙ run)
@@ -78,7 +81,7 @@ pub IsHeldFrom-node : (shares : List (List Half)) (at : List ℕ → Progress) �
     → time_above at p ≡ None → IsHeldFrom shares (at p).since (keeps (prefix p) 0)
 IsHeldFrom-node shares at known p none =
     subst (λ s. IsHeldFrom shares (at p).since s) (sym (keeps-none (prefix p)))
-    (known.since p (IsClear-above shares at known.counted p none))
+    (known.since p (HasNoShorter-above shares at known.counted p none))
 
 -- ---- children one after another
 
@@ -159,7 +162,7 @@ IsHeldFrom-children shares at known p m r none run less upto = (
 )
   where
     clear : (j : ℕ) → j < r.keeps → HasNoShorter shares (prefix (j ∷ p))
-    clear j high = IsClear-child shares at known.counted p r j run high
+    clear j high = HasNoShorter-child shares at known.counted p r j run high
 
     after : (i : ℕ) (l : ℕ) → (at p).run ≡ Some (record { keeps = l; time = i }) → i ≡ r.time
     after i l e = ap (λ (x : Run). x.time) (same_some (record { keeps = l; time = i }) r (sym e ∙ run))
@@ -173,7 +176,7 @@ IsHeldFrom-children shares at known p m r none run less upto = (
         (λ (early : upto ≤ r.time). absurd (Hold-no_run (take upto shares) (prefix p) m
         (λ j i t there begun.
         let was = slice_get-take shares upto i t there in
-        let same = when j i t (IsRun-begun shares at known.counted p none j i t was.1 begun) in
+        let same = when j i t (IsRunOrShorter-begun shares at known.counted p none j i t was.1 begun) in
         omega (arith, was.0, same)) held))
         (cases_lt r.time upto)
 
@@ -236,10 +239,10 @@ overlaps-none shares tree known p m none empty low =
     (λ i t there either.
     ⊎_elim
     (λ shorter.
-    from_run i t (IsRun-begun shares (progress_at tree) known.counted p none m i t there shorter))
+    from_run i t (IsRunOrShorter-begun shares (progress_at tree) known.counted p none m i t there shorter))
     (λ longer.
     from_begun i t there
-    (IsBegun-share (path_of t).0 (path_of t).1 p m
+    (IsBegunBy-share (path_of t).0 (path_of t).1 p m
     (subst (λ x. begins_with x (keeps (prefix p) m) ≡ true) (sym (keeps-path_of t)) longer)))
     (or_cases (begins_with (keeps (prefix p) m) t) (begins_with t (keeps (prefix p) m)) either))
   where
@@ -283,12 +286,13 @@ IsFree-overlaps shares s none = record {
 
 -- ---- one tree in place of another
 
-pub IsKnown-same : (shares : List (List Half)) (at new : List ℕ → Progress) → ((up : List ℕ) → new up ≡ at up)
+pub IsTreeKnown-same : (shares : List (List Half)) (at new : List ℕ → Progress)
+    → ((up : List ℕ) → new up ≡ at up)
     → IsTreeKnown shares at → IsTreeKnown shares new
-IsKnown-same shares at new same known = subst (λ f. IsTreeKnown shares f) (sym (λ i up. same up i)) known
+IsTreeKnown-same shares at new same known = subst (λ f. IsTreeKnown shares f) (sym (λ i up. same up i)) known
 
-pub IsKnown-empty : (at : List ℕ → Progress) → ((up : List ℕ) → at up ≡ no_progress) → IsTreeKnown [] at
-IsKnown-empty at empty = record {
+pub IsTreeKnown-empty : (at : List ℕ → Progress) → ((up : List ℕ) → at up ≡ no_progress) → IsTreeKnown [] at
+IsTreeKnown-empty at empty = record {
   counted = record {
     apart = λ i j s t one two begun. absurd (none_some s one);
     run = λ up r e. absurd (none_some r (sym (ap (λ (p : Progress). p.run) (empty up)) ∙ e));

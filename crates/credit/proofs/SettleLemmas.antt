@@ -23,7 +23,8 @@ use Rattle.credit.proofs.PathLemmas.{begins_with-keeps, IsAbove, above, IsAbove-
 use Rattle.credit.proofs.HeldLemmas.{Hold-longer, Hold-apart, Hold-append, Hold-without, Hold-no_run}
 use Rattle.credit.proofs.HeldLemmas.{Hold-run}
 use Rattle.credit.proofs.CountLemmas.{count_below-same, count_below-more, count_below-all, count_below-full}
-use Rattle.credit.proofs.KnownLemmas.{none_some, same_some, slice_get-take, IsClear-child, held_child-before}
+use Rattle.credit.proofs.KnownLemmas.{none_some, same_some, slice_get-take, HasNoShorter-child}
+use Rattle.credit.proofs.KnownLemmas.{held_child-before}
 
 -- a list that begins with one as long is that one
 pub same_begun : (x y : List Half) → begins_with x y ≡ true → length x ≤ length y → x ≡ y
@@ -78,7 +79,7 @@ Hold-complete shares at counted up known r run even =
     (counted.count up r.keeps (λ n some. held_child-before shares at counted up r n run some) ∙ even) j high
     in
     all_held shares (at (j ∷ up)).since (prefix (j ∷ up))
-    (known j (IsClear-child shares at counted up r j run high)) held))
+    (known j (HasNoShorter-child shares at counted up r j run high)) held))
 
 -- and the other way round
 pub IsFull-held : (shares : List (List Half)) (at : List ℕ → Progress) → AreRunsCounted shares at
@@ -114,7 +115,7 @@ IsFull-held shares at counted up known clear held = by_run (at up).run refl
         (
         λ j high.
         known_held shares (at (j ∷ up)).since (prefix (j ∷ up))
-        (known j (IsClear-child shares at counted up r j e high))
+        (known j (HasNoShorter-child shares at counted up r j e high))
         (Hold-longer shares (prefix up) (prefix (j ∷ up)) (prefix-parent j up) held)))
 
 pub same_path : (p q : List ℕ) → (p ≡ q) ⊎ (p ≢ q)
@@ -283,10 +284,10 @@ IsSettling-parent shares at new n up was is_full marked more others = record {
             both_ways _ apart (subst (λ p. begins_with (prefix p) (prefix q) ≡ true) rest (prefix-above xs q))
 
 -- the root is marked last
-pub IsKnown-root : (shares : List (List Half)) (at new : List ℕ → Progress) → IsSettling shares at []
+pub IsTreeKnown-root : (shares : List (List Half)) (at new : List ℕ → Progress) → IsSettling shares at []
     → IsFull (at []) → IsMarked at new [] (length shares)
     → ((q : List ℕ) → (new q).held_children ≡ (at q).held_children) → IsTreeKnown shares new
-IsKnown-root shares at new was is_full marked same_count = record {
+IsTreeKnown-root shares at new was is_full marked same_count = record {
   counted = record {
     apart = was.counted.apart;
     run = runs.run;
@@ -317,9 +318,9 @@ IsKnown-root shares at new was is_full marked same_count = record {
     child_since k q = marked.since (k ∷ q) (λ e. absurd (cc))
 
 -- a node that is not full is held by nothing, nor is one above it
-pub IsKnown-stopped : (shares : List (List Half)) (at : List ℕ → Progress) (here : List ℕ)
+pub IsTreeKnown-stopped : (shares : List (List Half)) (at : List ℕ → Progress) (here : List ℕ)
     → IsSettling shares at here → (IsFull (at here) → ⊥) → IsTreeKnown shares at
-IsKnown-stopped shares at here was not_full = record {
+IsTreeKnown-stopped shares at here was not_full = record {
   counted = was.counted;
   since = λ q clear.
       ⊎_elim

@@ -11,10 +11,10 @@ use Rattle.credit.specs.Trees.{IsTreeLinked}
 use Rattle.credit.specs.Trees.{AreRunsCounted, IsTreeKnown, IsSettling, IsFull}
 use Rattle.credit.proofs.PathLemmas.{keeps-path_of}
 use Rattle.credit.proofs.SettleLemmas.{IsMarked, IsFree, IsRunPut, IsSettling-entered, IsSettling-parent}
-use Rattle.credit.proofs.SettleLemmas.{IsKnown-root}
+use Rattle.credit.proofs.SettleLemmas.{IsTreeKnown-root}
 use Rattle.credit.proofs.TreeLemmas.{progress_at-place}
 use Rattle.credit.proofs.UpdateLemmas.{IsUpdated, place-parent, place-within, updated-place, updated-parent}
-use Rattle.credit.proofs.UpdateLemmas.{updated-length, IsLinked-updated, progress_at-updated}
+use Rattle.credit.proofs.UpdateLemmas.{updated-length, IsTreeLinked-updated, progress_at-updated}
 use Rattle.credit.proofs.UpdateLemmas.{progress_at-kept, progress_at-field, held_children-small}
 
 module _ (shares : List (List Half)) (old new : Tree) (index : ℕ) (linked : IsTreeLinked old)
@@ -32,9 +32,10 @@ module _ (shares : List (List Half)) (old new : Tree) (index : ℕ) (linked : Is
     reach = refl;
   }
 
-  pub IsLinked-marked : (up : List ℕ) → place (child old) up ≡ Some index → IsTreeLinked new
-  IsLinked-marked up here =
-      IsLinked-updated old new index (with_since (node_at old index) (length shares)) (marked-update up here)
+  pub IsTreeLinked-marked : (up : List ℕ) → place (child old) up ≡ Some index → IsTreeLinked new
+  IsTreeLinked-marked up here =
+      IsTreeLinked-updated old new index (with_since (node_at old index) (length shares))
+      (marked-update up here)
       linked
 
   pub length-marked : (up : List ℕ) → place (child old) up ≡ Some index
@@ -101,10 +102,10 @@ module _ (shares : List (List Half)) (old new : Tree) (index : ℕ) (linked : Is
       → IsFull (progress_at old up)
   full-there up here is_full = subst (λ p. IsFull p) (sym (progress_at-place old up index here)) is_full
 
-  pub IsKnown-top : place (child old) [] ≡ Some index → IsSettling shares (progress_at old) []
+  pub IsTreeKnown-top : place (child old) [] ≡ Some index → IsSettling shares (progress_at old) []
       → IsFull (node_at old index).progress → IsTreeKnown shares (progress_at new)
-  IsKnown-top here was is_full =
-      IsKnown-root shares (progress_at old) (progress_at new) was (full-there [] here is_full)
+  IsTreeKnown-top here was is_full =
+      IsTreeKnown-root shares (progress_at old) (progress_at new) was (full-there [] here is_full)
       (IsMarked-mark [] here) (held-marked [] here)
 
   -- and its parent counted it
@@ -120,7 +121,7 @@ module _ (shares : List (List Half)) (old new : Tree) (index : ℕ) (linked : Is
     above = place-above n up here
 
     linked_new : IsTreeLinked new
-    linked_new = IsLinked-marked (n ∷ up) here
+    linked_new = IsTreeLinked-marked (n ∷ up) here
 
     counted-update : IsUpdated new last (node_at new index).parent
         (with_held_child (node_at new (node_at new index).parent))
@@ -136,7 +137,7 @@ module _ (shares : List (List Half)) (old new : Tree) (index : ℕ) (linked : Is
 
     pub IsLinked-counted : IsTreeLinked last
     IsLinked-counted =
-        IsLinked-updated new last (node_at new index).parent
+        IsTreeLinked-updated new last (node_at new index).parent
         (with_held_child (node_at new (node_at new index).parent)) counted-update linked_new
 
     pub place-counted : place (child last) up ≡ Some (node_at new index).parent
@@ -199,9 +200,9 @@ module _ (shares : List (List Half)) (old new : Tree) (index : ℕ) (s : List Ha
       (with_run (node_at old index) (record { keeps = (path_of s).1; time = length shares }))
   put-update = record { inside = inside; nodes = nodes; links = links; parent = refl; reach = refl }
 
-  pub IsLinked-put : IsTreeLinked new
-  IsLinked-put =
-      IsLinked-updated old new index
+  pub IsTreeLinked-put : IsTreeLinked new
+  IsTreeLinked-put =
+      IsTreeLinked-updated old new index
       (with_run (node_at old index) (record { keeps = (path_of s).1; time = length shares })) put-update
       linked
 

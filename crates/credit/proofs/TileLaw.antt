@@ -11,7 +11,7 @@ use Rattle.credit.specs.Shares.{begins_with, Tile}
 use Rattle.credit.specs.Credits.{Credit, Event, is_entered, is_root, credits_after, live_shares}
 use Rattle.credit.specs.Credits.{entered_shares}
 use Rattle.credit.proofs.ShareLemmas.{IsAsLong, ByRecursion-append, ones}
-use Rattle.credit.proofs.CreditLemmas.{tally, Fits, IsSound-credits_after}
+use Rattle.credit.proofs.CreditLemmas.{tally, Fits, AreCreditsSound-credits_after}
 
 -- the shares of the credits that pass the test
 abbrev pub shares_where : (Credit → Bool) → List Credit → List (List Half)
@@ -102,7 +102,7 @@ Tile-credits_after es root begun l long =
     let entered = entered_shares root (credits_after es) in
     let parts = ByRecursion-append (IsAsLong l) live entered (recursion_from_All (IsAsLong l) _ long) in
     let one =
-    (IsSound-credits_after es).one l root begun
+    (AreCreditsSound-credits_after es).one l root begun
     (Fits-from_shares l root (credits_after es) parts.0 parts.1) in
     omega (
       arith,

@@ -21,9 +21,9 @@ use Rattle.credit.proofs.CountLemmas.{count_below-le}
 data IsPathStep (tree : Tree) (n : ℕ) (up : List ℕ) (k : ℕ) : Type 0 where
   step : (i : ℕ) → place (child tree) up ≡ Some i → child tree i n ≡ Some k → IsPathStep tree n up k
 
-IsStep-from : (tree : Tree) (n : ℕ) (up : List ℕ) (k : ℕ) → place (child tree) (n ∷ up) ≡ Some k
+IsPathStep-from : (tree : Tree) (n : ℕ) (up : List ℕ) (k : ℕ) → place (child tree) (n ∷ up) ≡ Some k
     → IsPathStep tree n up k
-IsStep-from tree n up k e = by_parent (place (child tree) up) refl
+IsPathStep-from tree n up k e = by_parent (place (child tree) up) refl
   where
     by_parent : (o : Option ℕ) → place (child tree) up ≡ o → IsPathStep tree n up k
     by_parent None f = absurd (none_some k (sym (ap (option_and_then (λ i. child tree i n)) f) ∙ e))
@@ -32,7 +32,7 @@ IsStep-from tree n up k e = by_parent (place (child tree) up) refl
 -- a node's parent is the node above it
 pub place-parent : (tree : Tree) → IsTreeLinked tree → (n : ℕ) (up : List ℕ) (k : ℕ)
     → place (child tree) (n ∷ up) ≡ Some k → place (child tree) up ≡ Some (node_at tree k).parent
-place-parent tree linked n up k e = by_step (IsStep-from tree n up k e)
+place-parent tree linked n up k e = by_step (IsPathStep-from tree n up k e)
   where
     by_step : IsPathStep tree n up k → place (child tree) up ≡ Some (node_at tree k).parent
     by_step (step i f g) = f ∙ ap (λ j. Some j) (sym (linked.back i n k g))
@@ -40,7 +40,7 @@ place-parent tree linked n up k e = by_step (IsStep-from tree n up k e)
 pub place-within : (tree : Tree) → IsTreeLinked tree → 0 < length tree.nodes.items → (up : List ℕ) (k : ℕ)
     → place (child tree) up ≡ Some k → k < length tree.nodes.items
 place-within tree linked some [] k e = let same : 0 ≡ k = same_some 0 k e in omega (arith, same)
-place-within tree linked some (n ∷ up) k e = by_step (IsStep-from tree n up k e)
+place-within tree linked some (n ∷ up) k e = by_step (IsPathStep-from tree n up k e)
   where
     by_step : IsPathStep tree n up k → k < length tree.nodes.items
     by_step (step i f g) = (linked.within i n k g).1
@@ -49,20 +49,20 @@ place-within tree linked some (n ∷ up) k e = by_step (IsStep-from tree n up k 
 pub place-apart : (tree : Tree) → IsTreeLinked tree → (p q : List ℕ) (k : ℕ) → place (child tree) p ≡ Some k
     → place (child tree) q ≡ Some k → p ≡ q
 place-apart tree linked [] [] k e f = refl
-place-apart tree linked [] (n ∷ q) k e f = below (IsStep-from tree n q k f)
+place-apart tree linked [] (n ∷ q) k e f = below (IsPathStep-from tree n q k f)
   where
     below : IsPathStep tree n q k → [] ≡ n ∷ q
     below (step i g h) =
         let w = linked.within i n k h in
         let same : 0 ≡ k = same_some 0 k e in absurd (omega (arith, w.0, same))
-place-apart tree linked (n ∷ p) [] k e f = below (IsStep-from tree n p k e)
+place-apart tree linked (n ∷ p) [] k e f = below (IsPathStep-from tree n p k e)
   where
     below : IsPathStep tree n p k → n ∷ p ≡ []
     below (step i g h) =
         let w = linked.within i n k h in
         let same : 0 ≡ k = same_some 0 k f in absurd (omega (arith, w.0, same))
 place-apart tree linked (m ∷ p) (n ∷ q) k e f =
-    both (place-apart tree linked p q) (IsStep-from tree m p k e) (IsStep-from tree n q k f)
+    both (place-apart tree linked p q) (IsPathStep-from tree m p k e) (IsPathStep-from tree n q k f)
   where
     both : ((j : ℕ) → place (child tree) p ≡ Some j → place (child tree) q ≡ Some j → p ≡ q)
         → IsPathStep tree m p k → IsPathStep tree n q k → m ∷ p ≡ n ∷ q
@@ -118,8 +118,8 @@ module _ (old new : Tree) (index : ℕ) (node : Node) (updated : IsUpdated old n
   pub updated-place : (up : List ℕ) → place (child new) up ≡ place (child old) up
   updated-place up = ap (λ xs. place (λ i n. found (spot_of xs i n)) up) (ap (λ v. v.items) updated.links)
 
-  pub IsLinked-updated : IsTreeLinked old → IsTreeLinked new
-  IsLinked-updated linked = record {
+  pub IsTreeLinked-updated : IsTreeLinked old → IsTreeLinked new
+  IsTreeLinked-updated linked = record {
     rising = subst AreLinksRising (sym (ap (λ v. v.items) updated.links)) linked.rising;
     aligned = ap (λ v. length v.items) updated.links ∙ linked.aligned ∙ sym updated-length;
     within =

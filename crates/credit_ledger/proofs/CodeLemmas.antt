@@ -13,8 +13,8 @@ use Rattle.credit.proofs.RunLemmas.{begins_with-both, start_share-append}
 use Rattle.credit_ledger.specs.declared.entry.Entry.{Entry}
 use Rattle.credit_ledger.specs.Entries.{part_halves, tree_share, parent_and_number, is_same_path, tree_shares}
 use Rattle.credit_ledger.specs.Codes.{region_code, tree_code, pool_runs, second_code, codes, all_codes}
-use Rattle.credit_ledger.proofs.RegionLemmas.{IsShareIn, IsIn-append_left, IsIn-append_right}
-use Rattle.credit_ledger.proofs.RegionLemmas.{IsIn-append_cases}
+use Rattle.credit_ledger.proofs.RegionLemmas.{IsShareIn, IsShareIn-append_left, IsShareIn-append_right}
+use Rattle.credit_ledger.proofs.RegionLemmas.{IsShareIn-append_cases}
 use Rattle.credit_ledger.proofs.RegionLemmas.{IsShifted, shifted, AreShifted}
 
 -- ---- regions
@@ -119,31 +119,31 @@ same_path-itself (n ∷ p) = and_from _ _ (eq-eqb n n refl) (same_path-itself p)
 
 -- ---- entry by entry
 
-pub IsRegion-flat_map : (a s : List Half) (f g : Entry → List (List Half))
+pub AreShifted-flat_map : (a s : List Half) (f g : Entry → List (List Half))
     → ((e : Entry) → AreShifted a s (f e) (g e)) → (es : List Entry)
     → AreShifted a s (flat_map f es) (flat_map g es)
-IsRegion-flat_map a s f g each [] = record { there = λ y h. absurd h; back = λ x h over. absurd h }
-IsRegion-flat_map a s f g each (e ∷ es) = join (IsRegion-flat_map a s f g each es)
+AreShifted-flat_map a s f g each [] = record { there = λ y h. absurd h; back = λ x h over. absurd h }
+AreShifted-flat_map a s f g each (e ∷ es) = join (AreShifted-flat_map a s f g each es)
   where
     first_shifted : (x : List Half) → IsShifted a x (g e) → IsShifted a x (g e ++ flat_map g es)
-    first_shifted x (shifted y h same) = shifted y (IsIn-append_left y (g e) (flat_map g es) h) same
+    first_shifted x (shifted y h same) = shifted y (IsShareIn-append_left y (g e) (flat_map g es) h) same
 
     later_shifted : (x : List Half) → IsShifted a x (flat_map g es) → IsShifted a x (g e ++ flat_map g es)
-    later_shifted x (shifted y h same) = shifted y (IsIn-append_right y (g e) (flat_map g es) h) same
+    later_shifted x (shifted y h same) = shifted y (IsShareIn-append_right y (g e) (flat_map g es) h) same
 
     join : AreShifted a s (flat_map f es) (flat_map g es)
         → AreShifted a s (f e ++ flat_map f es) (g e ++ flat_map g es)
     join rest = record {
       there = λ y h. ⊎_elim
           (λ (here : IsShareIn y (g e)).
-          IsIn-append_left (a ++ y) (f e) (flat_map f es) ((each e).there y here))
+          IsShareIn-append_left (a ++ y) (f e) (flat_map f es) ((each e).there y here))
           (λ (later : IsShareIn y (flat_map g es)).
-          IsIn-append_right (a ++ y) (f e) (flat_map f es) (rest.there y later))
-          (IsIn-append_cases y (g e) (flat_map g es) h);
+          IsShareIn-append_right (a ++ y) (f e) (flat_map f es) (rest.there y later))
+          (IsShareIn-append_cases y (g e) (flat_map g es) h);
       back = λ x h over. ⊎_elim
           (λ (here : IsShareIn x (f e)). first_shifted x ((each e).back x here over))
           (λ (later : IsShareIn x (flat_map f es)). later_shifted x (rest.back x later over))
-          (IsIn-append_cases x (f e) (flat_map f es) h);
+          (IsShareIn-append_cases x (f e) (flat_map f es) h);
     }
 
 -- the second share stands in a region of its own
@@ -200,7 +200,7 @@ tree_entry root s e = record {
 pub tree-region : (root : ℕ) (s : List Half) (entries : List Entry)
     → AreShifted (start_share (region_code 0 root)) s (all_codes entries) (tree_shares root entries)
 tree-region root s entries =
-    IsRegion-flat_map (start_share (region_code 0 root)) s codes
+    AreShifted-flat_map (start_share (region_code 0 root)) s codes
     (λ e. cond (e.root == root) (tree_share e ∷ []) []) (tree_entry root s) entries
 
 -- the halves of one child that came back with these entries

@@ -21,11 +21,13 @@ use Rattle.credit_ledger.specs.declared.fault.LedgerFault.TheVariants.{Memory, O
 use Rattle.std.specs.Option.{option_map_or}
 use Rattle.credit_ledger.specs.Codes.{region_code, tree_code, pool_runs, second_code, codes, all_codes}
 use Rattle.credit_ledger.specs.Codes.{start_code}
-use Rattle.credit_ledger.proofs.RegionLemmas.{IsShareIn, IsIn-append_left, IsIn-append_right, list_any-in}
+use Rattle.credit_ledger.proofs.RegionLemmas.{IsShareIn, IsShareIn-append_left, IsShareIn-append_right}
+use Rattle.credit_ledger.proofs.RegionLemmas.{list_any-in}
 use Rattle.credit_ledger.proofs.RegionLemmas.{begins_with-shift, IsShifted, shifted, AreShifted, Hold-outside}
 use Rattle.credit_ledger.proofs.RegionLemmas.{Hold-inside}
 use Rattle.credit_ledger.proofs.CodeLemmas.{start-begun, region-overlap, pool_runs-region, odd_runs}
-use Rattle.credit_ledger.proofs.CodeLemmas.{same_path-true, IsRegion-flat_map, cond_in, in_cond, tree-region}
+use Rattle.credit_ledger.proofs.CodeLemmas.{same_path-true, AreShifted-flat_map, cond_in, in_cond}
+use Rattle.credit_ledger.proofs.CodeLemmas.{tree-region}
 use Rattle.credit_ledger.proofs.CodeLemmas.{child_part, child_parts, second-here, second-back}
 
 -- ---- pools
@@ -85,7 +87,7 @@ pool-region : (root : ℕ) (parent : List ℕ) (number : ℕ) (entries : List En
     → AreShifted (start_share (pool_runs root parent number)) [] (all_codes entries)
     (child_parts root parent number entries)
 pool-region root parent number entries =
-    IsRegion-flat_map (start_share (pool_runs root parent number)) [] codes
+    AreShifted-flat_map (start_share (pool_runs root parent number)) [] codes
     (λ e. cond (e.root == root) (child_part parent number (parent_and_number e.path) e.part) [])
     (pool_entry root parent number) entries
 
@@ -125,7 +127,7 @@ own-region : (root : ℕ) (parent : List ℕ) (number : ℕ) (entries : List Ent
     → AreShifted (start_share (number ∷ [])) [] (pool_shares root parent entries)
     (child_parts root parent number entries)
 own-region root parent number entries =
-    IsRegion-flat_map (start_share (number ∷ [])) []
+    AreShifted-flat_map (start_share (number ∷ [])) []
     (λ e. cond (e.root == root) (share_in_pool parent (parent_and_number e.path) e.part) [])
     (λ e. cond (e.root == root) (child_part parent number (parent_and_number e.path) e.part) [])
     (λ e. record {
@@ -187,16 +189,17 @@ take-all_codes (e ∷ entries) (suc n) =
 
 -- ---- what overlaps
 
-IsIn-codes : (f : Entry) (entries : List Entry) (test : Entry → Bool) → list_any test entries ≡ true
+IsShareIn-codes : (f : Entry) (entries : List Entry) (test : Entry → Bool) → list_any test entries ≡ true
     → (P : Entry → Type 0) → ((g : Entry) → test g ≡ true → P g)
     → (g : Entry) × (P g) × ((x : List Half) → IsShareIn x (codes g) → IsShareIn x (all_codes entries))
-IsIn-codes f [] test h P each = absurd (false≢true h)
-IsIn-codes f (g ∷ entries) test h P each =
+IsShareIn-codes f [] test h P each = absurd (false≢true h)
+IsShareIn-codes f (g ∷ entries) test h P each =
     ⊎_elim
-    (λ (here : test g ≡ true). (g, each g here, λ x i. IsIn-append_left x (codes g) (all_codes entries) i))
+    (λ (here : test g ≡ true).
+    (g, each g here, λ x i. IsShareIn-append_left x (codes g) (all_codes entries) i))
     (λ (later : list_any test entries ≡ true).
-    let rest = IsIn-codes f entries test later P each in
-    (rest.0, rest.1, λ x i. IsIn-append_right x (codes g) (all_codes entries) (rest.2 x i)))
+    let rest = IsShareIn-codes f entries test later P each in
+    (rest.0, rest.1, λ x i. IsShareIn-append_right x (codes g) (all_codes entries) (rest.2 x i)))
     (or_cases (test g) (list_any test entries) h)
 
 pub overlaps-shift : (a x y : List Half) → overlaps (a ++ x) (a ++ y) ≡ overlaps x y
@@ -238,7 +241,7 @@ pub overlaps_either-entry : (e : Entry) (entries : List Entry) → list_any (is_
     (second_code e.root (parent_and_number e.path) e.part (tree_share e)) (all_codes entries)
     ≡ true
 overlaps_either-entry e entries h =
-    let some = IsIn-codes e entries (is_overlap e) h (λ g. is_overlap e g ≡ true) (λ g t. t) in
+    let some = IsShareIn-codes e entries (is_overlap e) h (λ g. is_overlap e g ≡ true) (λ g t. t) in
     let g = some.0 in
     let both =
     and_parts (e.root == g.root)

@@ -15,7 +15,7 @@ use Rattle.credit.specs.declared.share.Half.{Half}
 use Rattle.credit.specs.declared.share.Half.TheVariants.{Keep}
 use Rattle.credit.specs.Shares.{begins_with, overlaps, start_share, finish_share, Hold}
 use Rattle.credit.proofs.ShareLemmas.{IsAsLong, begins_with-longer, length-begins_with}
-use Rattle.credit.proofs.HoldLemmas.{begins_with-either, span as halves_of, IsShort-span}
+use Rattle.credit.proofs.HoldLemmas.{begins_with-either, span as halves_of, IsAsLong-span}
 use Rattle.credit.proofs.HoldLaw.{HasAllOf, Hold-within}
 use Rattle.credit.proofs.RunLemmas.{start_share-append}
 use Rattle.credit_ledger.specs.declared.entry.Entry.{Entry}
@@ -26,7 +26,8 @@ use Rattle.credit_ledger.specs.declared.view.Call.TheVariants.{Enter, Look}
 use Rattle.credit_ledger.specs.declared.view.Step.{Step}
 use Rattle.credit_ledger.specs.Entries.{part_halves, tree_share, tree_shares, is_overlap, IsSpanHeld}
 use Rattle.credit_ledger.specs.Histories.{after_call, IsPossible, IsLegalFrom, IsUnder, IsOver}
-use Rattle.credit_ledger.proofs.RegionLemmas.{IsShareIn, IsIn-append_cases, Passes, passes, Passes-list_any}
+use Rattle.credit_ledger.proofs.RegionLemmas.{IsShareIn, IsShareIn-append_cases, Passes, passes}
+use Rattle.credit_ledger.proofs.RegionLemmas.{Passes-list_any}
 use Rattle.credit_ledger.proofs.CodeLemmas.{cond_in}
 
 -- ---- the shares of a root's entries
@@ -43,7 +44,7 @@ pub from_tree : (root : ℕ) (entries : List Entry) (x : List Half) → IsShareI
 from_tree root [] x there = absurd there
 from_tree root (f ∷ entries) x there =
     elim
-    (IsIn-append_cases x (cond (f.root == root) (tree_share f ∷ []) []) (tree_shares root entries)
+    (IsShareIn-append_cases x (cond (f.root == root) (tree_share f ∷ []) []) (tree_shares root entries)
     there) [
       | inl here ↦
           let is = cond_in (f.root == root) x (tree_share f) here in
@@ -61,7 +62,7 @@ held_begins shares s l held begins long =
     (list_any-from_Any (λ t. begins_with l t) shares
     (held l begins
     (All-from_recursion (IsAsLong l) (s ∷ shares)
-    (length-begins_with l s begins, IsShort-span l shares long))))
+    (length-begins_with l s begins, IsAsLong-span l shares long))))
 
 -- ---- an entry under a held span overlaps another one
 

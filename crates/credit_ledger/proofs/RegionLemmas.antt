@@ -10,7 +10,7 @@ use Rattle.credit.specs.declared.share.Half.{Half}
 use Rattle.credit.specs.declared.share.Half.TheVariants.{Keep}
 use Rattle.credit.specs.Shares.{is_same_half, begins_with, overlaps, Hold}
 use Rattle.credit.proofs.ShareLemmas.{same_half, is_same_half-itself, begins_with-append, IsAsLong}
-use Rattle.credit.proofs.HoldLemmas.{begins_with-either, span, IsShort-span}
+use Rattle.credit.proofs.HoldLemmas.{begins_with-either, span, IsAsLong-span}
 use Rattle.credit.proofs.HeldLemmas.{begins_with-cut}
 
 -- the share is one of these
@@ -18,23 +18,26 @@ abbrev pub IsShareIn : List Half → List (List Half) → Type 0
 IsShareIn x [] = ⊥
 IsShareIn x (y ∷ ys) = (x ≡ y) ⊎ IsShareIn x ys
 
-pub IsIn-append_left : (x : List Half) (xs ys : List (List Half)) → IsShareIn x xs → IsShareIn x (xs ++ ys)
-IsIn-append_left x [] ys h = absurd h
-IsIn-append_left x (y ∷ xs) ys h =
-    ⊎_elim (λ (same : x ≡ y). inl same) (λ (there : IsShareIn x xs). inr (IsIn-append_left x xs ys there)) h
+pub IsShareIn-append_left : (x : List Half) (xs ys : List (List Half)) → IsShareIn x xs
+    → IsShareIn x (xs ++ ys)
+IsShareIn-append_left x [] ys h = absurd h
+IsShareIn-append_left x (y ∷ xs) ys h =
+    ⊎_elim (λ (same : x ≡ y). inl same)
+    (λ (there : IsShareIn x xs). inr (IsShareIn-append_left x xs ys there)) h
 
-pub IsIn-append_right : (x : List Half) (xs ys : List (List Half)) → IsShareIn x ys → IsShareIn x (xs ++ ys)
-IsIn-append_right x [] ys h = h
-IsIn-append_right x (y ∷ xs) ys h = inr (IsIn-append_right x xs ys h)
+pub IsShareIn-append_right : (x : List Half) (xs ys : List (List Half)) → IsShareIn x ys
+    → IsShareIn x (xs ++ ys)
+IsShareIn-append_right x [] ys h = h
+IsShareIn-append_right x (y ∷ xs) ys h = inr (IsShareIn-append_right x xs ys h)
 
-pub IsIn-append_cases : (x : List Half) (xs ys : List (List Half)) → IsShareIn x (xs ++ ys)
+pub IsShareIn-append_cases : (x : List Half) (xs ys : List (List Half)) → IsShareIn x (xs ++ ys)
     → IsShareIn x xs ⊎ IsShareIn x ys
-IsIn-append_cases x [] ys h = inr h
-IsIn-append_cases x (y ∷ xs) ys h =
+IsShareIn-append_cases x [] ys h = inr h
+IsShareIn-append_cases x (y ∷ xs) ys h =
     ⊎_elim (λ (same : x ≡ y). inl (inl same))
     (λ (there : IsShareIn x (xs ++ ys)).
     ⊎_elim (λ (first : IsShareIn x xs). inl (inr first)) (λ (second : IsShareIn x ys). inr second)
-    (IsIn-append_cases x xs ys there)) h
+    (IsShareIn-append_cases x xs ys there)) h
 
 pub list_any-in : (test : List Half → Bool) (x : List Half) (xs : List (List Half)) → IsShareIn x xs
     → test x ≡ true → list_any test xs ≡ true
@@ -103,7 +106,7 @@ Hold-outside a s xs ys region held l begins long =
     list_any-from_Any (λ t. begins_with far t) xs
     (held far on_s
     (All-from_recursion (IsAsLong far) ((a ++ s) ∷ xs)
-    (shorter, IsShort-span far xs (omega (arith, length-far))))))))
+    (shorter, IsAsLong-span far xs (omega (arith, length-far))))))))
   where
     pad : List Half
     pad = replicate (span xs) Keep

@@ -20,8 +20,8 @@ use Rattle.credit_ledger.specs.Entries.{tree_share, tree_shares, pool_share, par
 use Rattle.credit_ledger.specs.Entries.{pool_shares, is_same_path}
 use Rattle.credit_ledger.proofs.CodeLemmas.{same_path-true, same_path-itself, cond_in as in_cond}
 use Rattle.credit_ledger.proofs.OverLemmas.{HasEntry, has_later}
-use Rattle.credit_ledger.proofs.RegionLemmas.{IsShareIn, IsIn-append_left, IsIn-append_right}
-use Rattle.credit_ledger.proofs.RegionLemmas.{IsIn-append_cases}
+use Rattle.credit_ledger.proofs.RegionLemmas.{IsShareIn, IsShareIn-append_left, IsShareIn-append_right}
+use Rattle.credit_ledger.proofs.RegionLemmas.{IsShareIn-append_cases}
 use Rattle.trace_ledger.specs.Entries.{claimed_entry, entry_of, IsEntryAt, IsLedgerOf}
 
 -- ---- the first entries
@@ -157,10 +157,12 @@ pub in_tree : (root : ℕ) (entries : List Entry) (e : Entry) → HasEntry entri
 in_tree root [] e (k, is) own = absurd (none-some e is)
 in_tree root (f ∷ entries) e (zero, is) own =
     let P : Entry → Type 0 = λ x. IsShareIn (tree_share e) (cond (x.root == root) (tree_share x ∷ []) []) in
-    IsIn-append_left (tree_share e) (cond (f.root == root) (tree_share f ∷ []) []) (tree_shares root entries)
+    IsShareIn-append_left (tree_share e) (cond (f.root == root) (tree_share f ∷ []) [])
+    (tree_shares root entries)
     (subst P (sym (same_Some f e is)) (cond_in (e.root == root) (tree_share e) (eq-eqb e.root root own)))
 in_tree root (f ∷ entries) e (suc k, is) own =
-    IsIn-append_right (tree_share e) (cond (f.root == root) (tree_share f ∷ []) []) (tree_shares root entries)
+    IsShareIn-append_right (tree_share e) (cond (f.root == root) (tree_share f ∷ []) [])
+    (tree_shares root entries)
     (in_tree root entries e (k, is) own)
 
 -- the entry is of this child of the task at the path
@@ -187,7 +189,7 @@ pub from_pool : (root : ℕ) (parent : List ℕ) (entries : List Entry) (x : Lis
 from_pool root parent [] x there = absurd there
 from_pool root parent (f ∷ entries) x there =
     elim
-    (IsIn-append_cases x
+    (IsShareIn-append_cases x
     (cond (f.root == root) (share_in_pool parent (parent_and_number f.path) f.part) [])
     (pool_shares root parent entries) there) [
       | inl here ↦
@@ -220,12 +222,12 @@ in_pool root number parent (f ∷ entries) e (zero, is) own of =
     λ x.
     IsShareIn (pool_share number e.part)
     (cond (x.root == root) (share_in_pool parent (parent_and_number x.path) x.part) []) in
-    IsIn-append_left (pool_share number e.part)
+    IsShareIn-append_left (pool_share number e.part)
     (cond (f.root == root) (share_in_pool parent (parent_and_number f.path) f.part) [])
     (pool_shares root parent entries)
     (subst P (sym (same_Some f e is)) (own_share root number parent e own of))
 in_pool root number parent (f ∷ entries) e (suc k, is) own of =
-    IsIn-append_right (pool_share number e.part)
+    IsShareIn-append_right (pool_share number e.part)
     (cond (f.root == root) (share_in_pool parent (parent_and_number f.path) f.part) [])
     (pool_shares root parent entries) (in_pool root number parent entries e (k, is) own of)
 

@@ -2,13 +2,13 @@ use Rattle.std.proofs.Common.{rules, ◌≡◌, [], ◌∷◌, ◌++◌, true, n
 use Rattle.std.specs.Result.{is_ok}
 use Rattle.serde_json.specs.Written.{compact_text, comma_if}
 use Rattle.certificate.specs.Texts.{Takes, dep_data}
-use Rattle.certificate.proofs.TakeLemmas.{IsTaken-none, IsTaken-more, Takes-items}
+use Rattle.certificate.proofs.TakeLemmas.{AreItemsTaken-none, AreItemsTaken-more, Takes-items}
 use Rattle.certificate.proofs.parts.deps_alone.Goals as goal
 
 pub items-init : goal.items-init
 items-init c =
     let none : c.in_ok-items.items.items ≡ [] = search rules in
-    rw none (IsTaken-none dep_data _ _ _ c.in_ok-rest.ensures)
+    rw none (AreItemsTaken-none dep_data _ _ _ c.in_ok-rest.ensures)
 
 pub items-preserved : goal.items-preserved
 items-preserved c =
@@ -20,7 +20,7 @@ items-preserved c =
     c.in-Some.behind.now =
     c.in-Some.ensures in
     rw grown
-    (IsTaken-more dep_data c.items.items.items c.in-Some.item c.items.later c.args.rest.now
+    (AreItemsTaken-more dep_data c.items.items.items c.in-Some.item c.items.later c.args.rest.now
     c.items.rest.now c.in-Some.behind.now [] c.items.invariant takes)
 
 pub returns : goal.returns

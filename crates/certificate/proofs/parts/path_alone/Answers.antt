@@ -2,13 +2,13 @@ use Rattle.std.proofs.Common.{rules, ◌≡◌, [], ◌∷◌, ◌++◌, true, n
 use Rattle.std.specs.Result.{is_ok}
 use Rattle.serde_json.specs.Written.{compact_text, comma_if}
 use Rattle.certificate.specs.Texts.{Takes, whole_number}
-use Rattle.certificate.proofs.TakeLemmas.{IsTaken-none, IsTaken-more, Takes-items}
+use Rattle.certificate.proofs.TakeLemmas.{AreItemsTaken-none, AreItemsTaken-more, Takes-items}
 use Rattle.certificate.proofs.parts.path_alone.Goals as goal
 
 pub numbers-init : goal.numbers-init
 numbers-init c =
     let none : c.in_ok-numbers.numbers.items ≡ [] = search rules in
-    rw none (IsTaken-none whole_number _ _ _ c.in_ok-rest.ensures)
+    rw none (AreItemsTaken-none whole_number _ _ _ c.in_ok-rest.ensures)
 
 pub numbers-preserved : goal.numbers-preserved
 numbers-preserved c =
@@ -20,7 +20,7 @@ numbers-preserved c =
     (comma_if c.numbers.later ++ compact_text (whole_number c.in-Some.number)) c.in-Some.behind.now =
     c.in-Some.ensures in
     rw grown
-    (IsTaken-more whole_number c.numbers.numbers.items c.in-Some.number c.numbers.later c.args.rest.now
+    (AreItemsTaken-more whole_number c.numbers.numbers.items c.in-Some.number c.numbers.later c.args.rest.now
     c.numbers.rest.now c.in-Some.behind.now [] c.numbers.invariant takes)
 
 pub returns : goal.returns

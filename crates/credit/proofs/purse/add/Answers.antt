@@ -5,7 +5,7 @@ use Rattle.std.proofs.lemmas.List.{get_or_push}
 use Rattle.credit.specs.Paths.{path_of}
 use Rattle.credit.specs.Trees.{node_at, with_run, progress_at, IsSettling}
 use Rattle.credit.proofs.PurseLemmas.{IsFree-overlaps}
-use Rattle.credit.proofs.StepLemmas.{IsLinked-put, IsSettling-put}
+use Rattle.credit.proofs.StepLemmas.{IsTreeLinked-put, IsSettling-put}
 use Rattle.credit.proofs.purse.add.Goals as goal
 
 pub settle-requires-clause-linked : goal.settle-requires-clause-linked
@@ -35,7 +35,7 @@ settle-requires-clause-linked c =
       time = c.len.result;
     })))
     c.last.ensures c.put_run.ensures.nodes) in
-    IsLinked-put c.args.shares.now.items c.args.tree.now c.put_run.new.self c.args.index c.args.share
+    IsTreeLinked-put c.args.shares.now.items c.args.tree.now c.put_run.new.self c.args.index c.args.share
     c.requires.linked c.requires.place c.requires.within nodes c.put_run.ensures.links
 
 pub settle-requires-clause-settling : goal.settle-requires-clause-settling

@@ -5,9 +5,10 @@ use Rattle.std.proofs.lemmas.Bool.{both_ways}
 use Rattle.credit.specs.declared.tree.Node.{Node}
 use Rattle.credit.specs.Trees.{child, place, node_at, with_held_child, progress_at, IsSettling, IsFull}
 use Rattle.credit.proofs.TreeLemmas.{reverse_take_more, progress_at-place}
-use Rattle.credit.proofs.SettleLemmas.{IsKnown-stopped}
+use Rattle.credit.proofs.SettleLemmas.{IsTreeKnown-stopped}
 use Rattle.credit.proofs.UpdateLemmas.{place-within}
-use Rattle.credit.proofs.StepLemmas.{IsLinked-marked, length-marked, place-above, count-small, IsKnown-top}
+use Rattle.credit.proofs.StepLemmas.{IsTreeLinked-marked, length-marked, place-above, count-small}
+use Rattle.credit.proofs.StepLemmas.{IsTreeKnown-top}
 use Rattle.credit.proofs.StepLemmas.{IsLinked-counted, place-counted, length-counted, IsSettling-counted}
 use Rattle.credit.proofs.purse.settle.Goals as goal
 
@@ -28,14 +29,15 @@ mark-requires c =
 
 pub returns-then-depth-eq0-clause-linked : goal.returns-then-depth-eq0-clause-linked
 returns-then-depth-eq0-clause-linked c =
-    IsLinked-marked c.args.shares.now c.levels.tree c.mark.new.self c.levels.index c.levels.invariant.linked
+    IsTreeLinked-marked c.args.shares.now c.levels.tree c.mark.new.self c.levels.index
+    c.levels.invariant.linked
     c.levels.invariant.within c.mark.ensures.nodes c.mark.ensures.links
     (reverse (take c.levels.depth c.args.runs.now)) c.levels.invariant.place
 
 pub returns-then-depth-eq0-clause-known : goal.returns-then-depth-eq0-clause-known
 returns-then-depth-eq0-clause-known c =
     let none = path-none c.args.runs.now c.levels.depth c.if-depth-eq0.true in
-    IsKnown-top c.args.shares.now c.levels.tree c.mark.new.self c.levels.index c.levels.invariant.linked
+    IsTreeKnown-top c.args.shares.now c.levels.tree c.mark.new.self c.levels.index c.levels.invariant.linked
     c.levels.invariant.within c.mark.ensures.nodes c.mark.ensures.links
     (ap (place (child c.levels.tree)) (sym none) ∙ c.levels.invariant.place)
     (subst (λ p. IsSettling c.args.shares.now (progress_at c.levels.tree) p) none c.levels.invariant.settling)
@@ -43,7 +45,7 @@ returns-then-depth-eq0-clause-known c =
 
 pub returns-clause-known : goal.returns-clause-known
 returns-clause-known c =
-    IsKnown-stopped c.args.shares.now (progress_at c.levels.tree)
+    IsTreeKnown-stopped c.args.shares.now (progress_at c.levels.tree)
     (reverse (take c.levels.depth c.args.runs.now)) c.levels.invariant.settling
     (λ is_full. both_ways c.is_full.result c.levels-test.false
     (c.is_full.ensures.1
@@ -67,7 +69,8 @@ count_child-requires-clause-within c =
     length-marked c.args.shares.now c.levels.tree c.mark.new.self c.levels.index c.levels.invariant.linked
     c.levels.invariant.within c.mark.ensures.nodes c.mark.ensures.links (n ∷ up) here in
     let inside = place-within c.mark.new.self
-    (IsLinked-marked c.args.shares.now c.levels.tree c.mark.new.self c.levels.index c.levels.invariant.linked
+    (IsTreeLinked-marked c.args.shares.now c.levels.tree c.mark.new.self c.levels.index
+    c.levels.invariant.linked
     c.levels.invariant.within c.mark.ensures.nodes c.mark.ensures.links (n ∷ up) here)
     (omega (arith, long, c.levels.invariant.within)) up (node_at c.mark.new.self c.levels.index).parent
     (place-above c.args.shares.now c.levels.tree c.mark.new.self c.levels.index c.levels.invariant.linked

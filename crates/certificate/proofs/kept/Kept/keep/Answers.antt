@@ -5,7 +5,7 @@ use Rattle.std.specs.Result.{is_ok}
 use Rattle.ompt_events.specs.Records.{made}
 use Rattle.ompt_events.specs.Traces.{TraceView, IsSoundIn}
 use Rattle.ompt_events.specs.Limits.{max_records, max_tasks}
-use Rattle.certificate.proofs.KeptLemmas.{IsKept-more}
+use Rattle.certificate.proofs.KeptLemmas.{IsTraceKept-more}
 use Rattle.certificate.proofs.kept.Kept.keep.Goals as goal
 use Rattle.certificate.proofs.kept.Kept.keep.Goals.{else-makes-via-then-makes+else-self-ge-MAX_TASKS}
 use Rattle.certificate.proofs.kept.Kept.keep.Goals.{else-makes-via-else-makes}
@@ -34,7 +34,7 @@ invariant_of-self-then-makes-2 c =
     ≡ c.self.inside.tasks + cond (is_some (made c.args.event.body)) 1 0 =
     rw makes refl in
     rw grown
-    (IsKept-more c.self.inside.version c.self.inside.records.items c.args.event c.self.inside.tasks
+    (IsTraceKept-more c.self.inside.version c.self.inside.records.items c.args.event c.self.inside.tasks
     (c.self.inside.tasks + 1) c.self.invariant sound c.read_numbers.ensures room counted few)
 
 pub invariant_of-self-else-makes-2 : goal.invariant_of-self-else-makes-2
@@ -56,5 +56,5 @@ invariant_of-self-else-makes-2 c =
     let few : c.self.inside.tasks ≤ max_tasks =
     omega (arith, c.self.invariant.counted, c.self.invariant.trace.is_trace.few_tasks) in
     rw grown
-    (IsKept-more c.self.inside.version c.self.inside.records.items c.args.event c.self.inside.tasks
+    (IsTraceKept-more c.self.inside.version c.self.inside.records.items c.args.event c.self.inside.tasks
     c.self.inside.tasks c.self.invariant sound c.read_numbers.ensures room counted few)

@@ -5,7 +5,7 @@ use Rattle.std.specs.Result.{is_ok}
 use Rattle.ompt_events.specs.Limits.{max_records, max_tasks}
 use Rattle.ompt_events.specs.Traces.{TraceView, IsSoundIn, tasks_in}
 use Rattle.certificate.specs.Keeping.{IsTraceKept}
-use Rattle.certificate.proofs.RoomLemmas.{HaveRoom-few, IsKept-append}
+use Rattle.certificate.proofs.RoomLemmas.{HaveRoom-few, IsTraceKept-append}
 use Rattle.certificate.proofs.kept.Kept.keep_all.Goals as goal
 
 grown : (c : goal.After-drop-records-2)
@@ -49,7 +49,7 @@ kept_is c =
     ap (λ (t : TraceView). t.version) c.self-2.view_is in
     let sound : All (λ r. IsSoundIn c.self-2.inside.version r.body) c.args.records.items =
     (rw same c.requires.sound) in
-    IsKept-append c.self-2.inside.version c.self-2.inside.records.items c.args.records.items
+    IsTraceKept-append c.self-2.inside.version c.self-2.inside.records.items c.args.records.items
     c.self-2.inside.tasks c.args.tasks c.self-2.invariant sound c.requires.in_range c.requires.counted
     (few_records c) (few_tasks c)
 
