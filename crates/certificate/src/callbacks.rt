@@ -90,7 +90,7 @@ macro_rules! members {
                 prior: id "prior",
                 next: next "next",
                 turns: turns,
-                share: claim
+                claim: claim
             }
         }
     };
@@ -105,7 +105,7 @@ macro_rules! members {
         }
     };
     (Cancel $shape:ident $given:tt) => {
-        $shape! { $given Cancel { flags: flags "flags", task: id "task", share: claim } }
+        $shape! { $given Cancel { flags: flags "flags", task: id "task", claim: claim } }
     };
     (Turns $shape:ident $given:tt) => {
         $shape! { $given Turns { prior: short "prior_turn", next: short "next_turn" } }

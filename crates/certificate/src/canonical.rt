@@ -210,7 +210,7 @@ fn switching(line: &[u8]) -> Option<Record>
     lines!(switching take_parts
         (_alloc line (Record {
             thread, seq, seen,
-            body: Body::TaskSchedule { status, turns: None, prior, next, share: None },
+            body: Body::TaskSchedule { status, turns: None, prior, next, claim: None },
         }))
         next prior seen seq status thread)
 }
@@ -223,7 +223,7 @@ fn finishing(alloc: Global, line: &[u8]) -> Option<Record>
         (alloc line (Record {
             thread, seq, seen,
             body: Body::TaskSchedule {
-                status, turns: None, prior, next, share: Some(Claim { kept, root, path }),
+                status, turns: None, prior, next, claim: Some(Claim { kept, root, path }),
             },
         }))
         kept next path prior root seen seq status thread)
@@ -239,7 +239,7 @@ fn switching_in_turn(line: &[u8]) -> Option<Record>
             body: Body::TaskSchedule {
                 status,
                 turns: Some(Turns { prior: prior_turn, next: next_turn }),
-                prior, next, share: None,
+                prior, next, claim: None,
             },
         }))
         next next_turn prior prior_turn seen seq status thread)
@@ -255,7 +255,7 @@ fn finishing_in_turn(alloc: Global, line: &[u8]) -> Option<Record>
             body: Body::TaskSchedule {
                 status,
                 turns: Some(Turns { prior: prior_turn, next: next_turn }),
-                prior, next, share: Some(Claim { kept, root, path }),
+                prior, next, claim: Some(Claim { kept, root, path }),
             },
         }))
         kept next next_turn path prior prior_turn root seen seq status thread)
@@ -278,7 +278,7 @@ fn cancelling(line: &[u8]) -> Option<Record>
     ensures { IfSome result (λ event. line.now ≡ line_of event) }
 {
     lines!(cancelling take_parts
-        (_alloc line (Record { thread, seq, seen, body: Body::Cancel { flags, task, share: None } }))
+        (_alloc line (Record { thread, seq, seen, body: Body::Cancel { flags, task, claim: None } }))
         flags seen seq task thread)
 }
 
@@ -289,7 +289,7 @@ fn discarding(alloc: Global, line: &[u8]) -> Option<Record>
     lines!(discarding take_parts
         (alloc line (Record {
             thread, seq, seen,
-            body: Body::Cancel { flags, task, share: Some(Claim { kept, root, path }) },
+            body: Body::Cancel { flags, task, claim: Some(Claim { kept, root, path }) },
         }))
         flags kept path root seen seq task thread)
 }

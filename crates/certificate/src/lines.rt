@@ -106,16 +106,16 @@ macro_rules! read_schedule {
             $prior:ident: id $prior_name:literal,
             $next:ident: next $next_name:literal,
             $turns:ident: turns,
-            $share:ident: claim
+            $claim:ident: claim
         }
     ) => {{
         let $status = status($value, $status_name)?;
         let $prior = id($value, $prior_name)?;
         let $next = next($status, $value, $next_name)?;
         let told = turns($value, tells_turns($version, $status))?;
-        let $share = share($alloc, $value, $status.part().is_some())?;
+        let $claim = share($alloc, $value, $status.part().is_some())?;
         let $turns = short_turns(told)?;
-        Ok(Body::$variant { $status, $turns, $prior, $next, $share })
+        Ok(Body::$variant { $status, $turns, $prior, $next, $claim })
     }};
 }
 
@@ -126,13 +126,13 @@ macro_rules! read_cancel {
         $variant:ident {
             $flags:ident: flags $flags_name:literal,
             $task:ident: id $task_name:literal,
-            $share:ident: claim
+            $claim:ident: claim
         }
     ) => {{
         let $flags: CancelFlags = flags($value, $flags_name)?;
         let $task = id($value, $task_name)?;
-        let $share = share($alloc, $value, $flags.contains(CancelFlags::DISCARDED_TASK))?;
-        Ok(Body::$variant { $flags, $task, $share })
+        let $claim = share($alloc, $value, $flags.contains(CancelFlags::DISCARDED_TASK))?;
+        Ok(Body::$variant { $flags, $task, $claim })
     }};
 }
 

@@ -141,7 +141,7 @@ fn switching(version: u32, found: &Found, turns: Option<Turns>) -> Option<Record
             turns,
             prior,
             next,
-            share: None,
+            claim: None,
         },
     })
 }
@@ -192,7 +192,7 @@ fn finishing(version: u32, found: Found, turns: Option<Turns>) -> Option<Record>
             turns,
             prior,
             next,
-            share: Some(Claim { kept, root, path }),
+            claim: Some(Claim { kept, root, path }),
         },
     })
 }

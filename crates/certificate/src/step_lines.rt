@@ -86,13 +86,13 @@ macro_rules! read_schedule {
             $prior:ident: id $prior_name:literal,
             $next:ident: next $next_name:literal,
             $turns:ident: turns,
-            $share:ident: claim
+            $claim:ident: claim
         }
     ) => {{
         let $status = found!(status($value, $status_name));
         let $prior = found!(id($value, $prior_name));
         let $next = found!(next($status, $value, $next_name));
-        Ok(Loose { body: Body::$variant { $status, $turns: None, $prior, $next, $share: None }, fits: true })
+        Ok(Loose { body: Body::$variant { $status, $turns: None, $prior, $next, $claim: None }, fits: true })
     }};
 }
 
@@ -103,12 +103,12 @@ macro_rules! read_cancel {
         $variant:ident {
             $flags:ident: flags $flags_name:literal,
             $task:ident: id $task_name:literal,
-            $share:ident: claim
+            $claim:ident: claim
         }
     ) => {{
         let $flags: CancelFlags = found!(flags($value, $flags_name));
         let $task = found!(id($value, $task_name));
-        Ok(Loose { body: Body::$variant { $flags, $task, $share: None }, fits: true })
+        Ok(Loose { body: Body::$variant { $flags, $task, $claim: None }, fits: true })
     }};
 }
 

@@ -92,15 +92,15 @@ pub(crate) fn put_record(out: &mut Vec<u8>, event: &Record) -> Result<(), AllocE
             turns,
             prior,
             next,
-            share,
+            claim,
         } => match turns {
-            Some(turns) => match share {
+            Some(turns) => match claim {
                 Some(claim) => {
                     put_finishing_in_turn(out, event, *status, *turns, *prior, *next, claim)
                 }
                 None => put_switching_in_turn(out, event, *status, *turns, *prior, *next),
             },
-            None => match share {
+            None => match claim {
                 Some(claim) => put_finishing(out, event, *status, *prior, *next, claim),
                 None => put_switching(out, event, *status, *prior, *next),
             },
@@ -111,7 +111,7 @@ pub(crate) fn put_record(out: &mut Vec<u8>, event: &Record) -> Result<(), AllocE
             parallel,
             task,
         } => put_sync_region(out, event, *kind, *endpoint, *parallel, *task),
-        Body::Cancel { flags, task, share } => match share {
+        Body::Cancel { flags, task, claim } => match claim {
             Some(claim) => put_discarding(out, event, *flags, *task, claim),
             None => put_cancelling(out, event, *flags, *task),
         },

@@ -100,14 +100,14 @@ pub enum Body {
         list: Deps,
     },
     /// `prior` stops running or is fulfilled with this status (19.5.2.10), and `next`, where there is one,
-    /// runs from here on. A finishing record has a `share`. In a trace of version 2 one with a `next` has
+    /// runs from here on. A finishing record has a `claim`. In a trace of version 2 one with a `next` has
     /// `turns`.
     TaskSchedule {
         status: Status,
         turns: Option<Turns>,
         prior: u64,
         next: Option<u64>,
-        share: Option<Claim>,
+        claim: Option<Claim>,
     },
     /// `task` begins or ends a synchronisation region (19.5.2.13).
     SyncRegion {
@@ -117,11 +117,11 @@ pub enum Body {
         task: u64,
     },
     /// `task` cancels a region or sees it cancelled, or is itself discarded (19.5.2.18). Discarded, it has
-    /// a `share`.
+    /// a `claim`.
     Cancel {
         flags: CancelFlags,
         task: u64,
-        share: Option<Claim>,
+        claim: Option<Claim>,
     },
 }
 
@@ -434,7 +434,7 @@ impl Body {
         ensures { option_copied result ≡ claim self.now }
     {
         match self {
-            Body::TaskSchedule { share, .. } | Body::Cancel { share, .. } => share.as_ref(),
+            Body::TaskSchedule { claim, .. } | Body::Cancel { claim, .. } => claim.as_ref(),
             _ => None,
         }
     }
@@ -454,10 +454,10 @@ impl Body {
             Body::TaskSchedule {
                 prior,
                 next,
-                share,
+                claim,
                 ..
-            } => { NamedTasks::of(*prior, *next, claimed_root(share)) }
-            Body::Cancel { task, share, .. } => NamedTasks::of(*task, claimed_root(share), None),
+            } => { NamedTasks::of(*prior, *next, claimed_root(claim)) }
+            Body::Cancel { task, claim, .. } => NamedTasks::of(*task, claimed_root(claim), None),
         }
     }
 }
@@ -500,10 +500,10 @@ fn is_initial(flags: TaskFlags) -> bool
 }
 
 /// The root that is claimed.
-fn claimed_root(share: &Option<Claim>) -> Option<u64>
-    ensures { result ≡ option_map (λ c. c.root) share.now }
+fn claimed_root(claim: &Option<Claim>) -> Option<u64>
+    ensures { result ≡ option_map (λ c. c.root) claim.now }
 {
-    share.as_ref().map(|claim| claim.root)
+    claim.as_ref().map(|claim| claim.root)
 }
 
 /// Whether a cancellation discards its task.

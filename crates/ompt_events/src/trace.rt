@@ -139,17 +139,17 @@ impl Body {
             Body::TaskSchedule {
                 status,
                 next,
-                share,
+                claim,
                 ..
             } => {
                 next.is_some() == status.demands_next()
-                    && share.is_some() == status.part().is_some()
-                    && is_short(share)
+                    && claim.is_some() == status.part().is_some()
+                    && is_short(claim)
             }
-            Body::Cancel { flags, share, .. } => {
+            Body::Cancel { flags, claim, .. } => {
                 flags.are_named()
-                    && share.is_some() == self.discarded().is_some()
-                    && is_short(share)
+                    && claim.is_some() == self.discarded().is_some()
+                    && is_short(claim)
             }
             _ => true,
         }
@@ -175,10 +175,10 @@ impl Body {
 }
 
 /// Whether the claimed path, if there is one, is within the limit.
-fn is_short(share: &Option<Claim>) -> bool
-    ensures { IsTrue result ↔ IfSome share.now (λ claim. length claim.path ≤ MAX_DEPTH) }
+fn is_short(claim: &Option<Claim>) -> bool
+    ensures { IsTrue result ↔ IfSome claim.now (λ claim. length claim.path ≤ MAX_DEPTH) }
 {
-    match share {
+    match claim {
         Some(claim) => claim.path.as_slice().len() <= MAX_DEPTH,
         None => true,
     }
@@ -234,21 +234,21 @@ fn read_arguments(body: &Body)
             turns,
             prior,
             next,
-            share,
+            claim,
             ..
         } => {
             read_turns(*turns);
             let _prior = *prior;
             read_id(*next);
-            read_share(share);
+            read_claimed(claim);
         }
         Body::SyncRegion { parallel, task, .. } => {
             let _task = *task;
             read_id(*parallel);
         }
-        Body::Cancel { task, share, .. } => {
+        Body::Cancel { task, claim, .. } => {
             let _number = *task;
-            read_share(share);
+            read_claimed(claim);
         }
     }
 }
@@ -263,10 +263,10 @@ fn read_turns(turns: Option<Turns>)
 }
 
 /// Each number of the claim, if there is one, is within the range of its type.
-fn read_share(share: &Option<Claim>)
-    ensures { IfSome share.now ClaimInRange }
+fn read_claimed(claim: &Option<Claim>)
+    ensures { IfSome claim.now ClaimInRange }
 {
-    if let Some(claim) = share {
+    if let Some(claim) = claim {
         read_claim(claim);
     }
 }

@@ -46,15 +46,15 @@ impl<'a> Model for Schedule<'a> {
 
 impl<'a> Schedule<'a> {
     /// What its record says, with what is claimed of a task that it finishes.
-    fn body(&self, share: Option<Claim>) -> Body
-        ensures { result ≡ schedule_body self.now share }
+    fn body(&self, claim: Option<Claim>) -> Body
+        ensures { result ≡ schedule_body self.now claim }
     {
         Body::TaskSchedule {
             status: self.status,
             turns: self.turns(),
             prior: self.prior.id(),
             next: self.next_id(),
-            share,
+            claim,
         }
     }
 
@@ -422,13 +422,13 @@ impl Recorder {
 }
 
 /// What the record of a discard says.
-fn discard_body(task: &TaskData, flags: CancelFlags, share: Option<Claim>) -> Body
-    ensures { result ≡ Cancel flags task.now.id share }
+fn discard_body(task: &TaskData, flags: CancelFlags, claim: Option<Claim>) -> Body
+    ensures { result ≡ Cancel flags task.now.id claim }
 {
     Body::Cancel {
         flags,
         task: task.id(),
-        share,
+        claim,
     }
 }
 

@@ -19,9 +19,9 @@ returns-in_err-told c =
     c.in_ok-next.ensures
     (rw (← c.tells_turns.ensures) c.in_err-told.ensures))
 
-pub returns-in_err-share : goal.returns-in_err-share
-returns-in_err-share c =
-    let p = err_from_is_err_and c.from_residual-in_err-share.result c.from_residual-in_err-share.ensures.1 in
+pub returns-in_err-claim : goal.returns-in_err-claim
+returns-in_err-claim c =
+    let p = err_from_is_err_and c.from_residual-in_err-claim.result c.from_residual-in_err-claim.ensures.1 in
     let finishes : c.is_some.result ≡ is_some (status_part c.in_ok-status.status) =
     c.is_some.ensures ∙ ap is_some c.part.ensures in
     let told = option_map as_turns c.in_ok-told.told in
@@ -39,7 +39,7 @@ returns-in_err-share c =
       is_next = c.in_ok-next.ensures;
       is_turns = read;
     })
-    (rw (← finishes) (c.in_err-share.ensures (other_than _ Memory found))))
+    (rw (← finishes) (c.in_err-claim.ensures (other_than _ Memory found))))
 
 pub returns-in_err-turns : goal.returns-in_err-turns
 returns-in_err-turns c =
@@ -54,14 +54,14 @@ returns-in_err-turns c =
     rw (p.1, p.2) (
     λ _.
     schedule-past c.args.version (meant_at c.args.value.now) c.in_ok-status.status c.in_ok-prior.prior
-    c.in_ok-next.next told c.in_ok-share.share _
+    c.in_ok-next.next told c.in_ok-claim.claim _
     (record {
       is_status = c.in_ok-status.ensures;
       is_prior = c.in_ok-prior.ensures;
       is_next = c.in_ok-next.ensures;
       is_turns = read;
     })
-    (rw (← finishes) (c.in_ok-share.ensures (ok_not_err _ Memory))) c.in_err-turns.ensures)
+    (rw (← finishes) (c.in_ok-claim.ensures (ok_not_err _ Memory))) c.in_err-turns.ensures)
 
 pub returns : goal.returns
 returns c =
@@ -74,11 +74,11 @@ returns c =
     (rw (← c.tells_turns.ensures) c.in_ok-told.ensures) in
     λ _.
     schedule-ok c.args.version (meant_at c.args.value.now) c.in_ok-status.status c.in_ok-prior.prior
-    c.in_ok-next.next told c.in_ok-turns.turns c.in_ok-share.share
+    c.in_ok-next.next told c.in_ok-turns.turns c.in_ok-claim.claim
     (record {
       is_status = c.in_ok-status.ensures;
       is_prior = c.in_ok-prior.ensures;
       is_next = c.in_ok-next.ensures;
       is_turns = read;
     })
-    (rw (← finishes) (c.in_ok-share.ensures (ok_not_err _ Memory))) c.in_ok-turns.ensures
+    (rw (← finishes) (c.in_ok-claim.ensures (ok_not_err _ Memory))) c.in_ok-turns.ensures

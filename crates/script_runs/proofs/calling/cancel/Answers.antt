@@ -16,7 +16,7 @@ returns-then-contains-clause-called g c = elim c.match-ompt_callback_cancel_disc
       let t = c.in_ok-value.value in
       rw (w.result-is, c.in-Cancel.is)
       (call_discarded old c.ompt_callback_cancel_discarded.new.self t given w.in-Ok.field-0
-      (entry_of_part old.thread Whole t) c.in-Cancel.task c.in-Cancel.share w.in-Ok.ensures.made
+      (entry_of_part old.thread Whole t) c.in-Cancel.task c.in-Cancel.claim w.in-Ok.ensures.made
       (eqb-true (bit_and given.0 64) 64
       (sym {b = bit_and given.0 64 == 64} (c.if-contains.ensures tt)))
       c.in_ok-value.ensures)

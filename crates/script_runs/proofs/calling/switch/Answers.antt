@@ -6,5 +6,5 @@ returns-in-Ok-clause-called g c =
     let it = c.in-TaskSchedule in
     rw (it.is, c.in-Some.is)
     (call_switched c.args.recorder.now c.ompt_callback_task_schedule.new.self c.in_ok-value.value
-    c.in_ok-other.other it.status it.turns it.prior c.in-Some.next it.share c.in-Ok.ensures.stopped
+    c.in_ok-other.other it.status it.turns it.prior c.in-Some.next it.claim c.in-Ok.ensures.stopped
     c.in_ok-value.ensures c.in_ok-other.ensures)

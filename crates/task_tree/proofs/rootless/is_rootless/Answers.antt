@@ -45,12 +45,12 @@ returns-then-is_none-4 c = (
 pub returns-else-is_none-4 : goal.returns-else-is_none-4
 returns-else-is_none-4 c = (
   λ yes.
-      claim_rootless c.args.tasks.now c.args.regions.now c.args.roots.now c.args.body.now c.in-Cancel.share
+      claim_rootless c.args.tasks.now c.args.regions.now c.args.roots.now c.args.body.now c.in-Cancel.claim
       (ap claim c.in-Cancel.is) (c.claims_unmade-else-is_none-4.ensures.0 yes),
   λ has.
       c.claims_unmade-else-is_none-4.ensures.1
       (claim_left c.args.tasks.now c.args.regions.now c.args.roots.now c.args.body.now c.args.first
-      c.args.second c.in-Cancel.share c.requires.subject c.requires.object
+      c.args.second c.in-Cancel.claim c.requires.subject c.requires.object
       (λ none. false≢true (sym c.if-is_none-4.false ∙ c.is_none-in-Cancel.ensures.1 none))
       (none_missing _ c.args.second (ap object c.in-Cancel.is)) (ap claim c.in-Cancel.is)
       (ap created c.in-Cancel.is) (ap region_named c.in-Cancel.is) has),
@@ -143,12 +143,12 @@ pub returns-else-is_none-3 : goal.returns-else-is_none-3
 returns-else-is_none-3 c = (
   λ yes.
       claim_rootless c.args.tasks.now c.args.regions.now c.args.roots.now c.args.body.now
-      c.in-TaskSchedule.share (ap claim c.in-TaskSchedule.is) (c.claims_unmade.ensures.0 yes),
+      c.in-TaskSchedule.claim (ap claim c.in-TaskSchedule.is) (c.claims_unmade.ensures.0 yes),
   λ has. c.claims_unmade.ensures.1 (elim c.if-is_none-2.branch [
     | then-is_none-2 w ↦ absurd (false≢true (sym c.if-is_none-3.false ∙ w.value-is ∙ w.if-is_none-2.true))
     | else-is_none-2+then-is_some w ↦
         claim_left c.args.tasks.now c.args.regions.now c.args.roots.now c.args.body.now c.args.first
-        c.args.second c.in-TaskSchedule.share c.requires.subject c.requires.object
+        c.args.second c.in-TaskSchedule.claim c.requires.subject c.requires.object
         (λ none. false≢true (sym w.if-is_none-2.false ∙ c.is_none-in-TaskSchedule.ensures.1 none))
         (full_missing _ c.args.second
         (λ none.
@@ -158,7 +158,7 @@ returns-else-is_none-3 c = (
         (ap region_named c.in-TaskSchedule.is) has
     | else-is_none-2+else-is_some w ↦
         claim_left c.args.tasks.now c.args.regions.now c.args.roots.now c.args.body.now c.args.first
-        c.args.second c.in-TaskSchedule.share c.requires.subject c.requires.object
+        c.args.second c.in-TaskSchedule.claim c.requires.subject c.requires.object
         (λ none. false≢true (sym w.if-is_none-2.false ∙ c.is_none-in-TaskSchedule.ensures.1 none))
         (none_missing _ c.args.second
         (ap object c.in-TaskSchedule.is
