@@ -1,6 +1,5 @@
 -- What a piece of a file stands for: whole lines behind the header, judged with no count of what stands
--- before
--- them.
+-- before them.
 use Rattle.std.specs.Prelude.{ℕ, ◌≡◌, ◌≢◌, ◌≤◌, ◌<◌, ◌+◌, ◌⊎◌, false, ◌==◌, List, [], ◌∷◌, ◌++◌, length, drop}
 use Rattle.std.specs.Prelude.{Option, Some, None, Result, Ok, Err, All, is_some, if◌then◌else◌}
 use Rattle.std.specs.List.{AllByRecursion}

@@ -28,8 +28,7 @@ pub record IsFromLine (n : ℕ) (bytes rest : List ℕ) : Type 0 where
   pub parts : bytes ≡ before ++ rest
 
 -- the line of number n is being read: behind the lines before it at most as many bytes were given as two of
--- the
--- longest lines have, and among them this line with its line feed; or nothing was given yet
+-- the longest lines have, and among them this line with its line feed; or nothing was given yet
 pub record IsBeingRead (n : ℕ) (bytes left : List ℕ) : Type 0 where
   pub waiting : List ℕ
   pub begins : IsFromLine n bytes (waiting ++ left)

@@ -298,8 +298,7 @@ turn_greatest rs thread task trace gap n =
         ]
 
 -- where a root is suspended and where it runs on, it does so on the thread on which it began; so the
--- suspension
--- is the earlier one
+-- suspension is the earlier one
 root_runs_on : (rs : List Record) (a b : ℕ) → IsTraceOf 2 rs → IsFreeOf rs CreatedTwice
     → IsFreeOf rs NotCurrent → IsFreeOf rs TurnGap → (again : IsResumption rs a b) → IsRoot rs again.task
     → IsEarlierOnThread rs a b

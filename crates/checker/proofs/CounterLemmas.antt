@@ -50,8 +50,7 @@ filter_contains p (x ∷ xs) a has = of (filter_contains p xs a) (p x) has
     of rest false among = Contains-append_right (x ∷ []) xs a (rest among)
 
 -- those records of a greedy order that may be taken, in its order, are the greedy order of these, where with
--- each all
--- may be taken that happens before it
+-- each all may be taken that happens before it
 greedy_filter : (rs : List Record) (may : ℕ → Type 0) (p : ℕ → Bool) (order : List ℕ)
     → ((a : ℕ) → (p a ≡ true) ↔ may a) → ((a b : ℕ) → HappensBefore rs a b → may b → may a)
     → IsGreedy rs order → IsGreedyAfter rs may [] (filter p order)

@@ -1,6 +1,5 @@
 -- From the records so far in the order of the ledger to the causes that this excludes; and what is kept of
--- the
--- tasks.
+-- the tasks.
 use Rattle.std.proofs.Common.{[], ◌∷◌, ◌≡◌, ◌∙◌, ℕ, ◌<◌, ◌≤◌, ◌+◌, Bool, true, false, cond, List, length}
 use Rattle.std.proofs.Common.{get_or, set, take, Option, Some, None, refl, sym, ap, subst, arith, inl, inr}
 use Rattle.std.specs.Prelude.{is_some, slice_get, option_and_then}
@@ -117,9 +116,8 @@ entries_most rs n entries after is = of (is_some (at finish rs n)) is
     of false is' = omega (arith, is')
 
 -- what is known after a record that makes an entry is how many entries there are then, and after one that
--- makes
--- none it is no more than there are: the greater of that and the entries before is how many there are behind
--- it
+-- makes none it is no more than there are: the greater of that and the entries before is how many there are
+-- behind it
 pub entries_by_known : (rs : List Record) (i after entries : ℕ) → after ≡ known_after rs i
     → FitsBehind rs i entries → max entries after ≡ cond (is_some (at finish rs i)) (entries + 1) entries
 entries_by_known rs i after entries knows fits = of (is_some (at finish rs i)) refl knows

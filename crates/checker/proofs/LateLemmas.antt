@@ -90,8 +90,7 @@ one_creation file task place other once one another =
     (created_at_made task file other another)
 
 -- of a late task among the first n and the next one, which is late too, the one that is created first is the
--- first of
--- all
+-- first of all
 pub first_of_late : (file own : List Record) (tasks : List ℕ) (bound n task place : ℕ) (first : Option Late)
     (late : Late)
     → IsFreeOf file CreatedTwice → slice_get tasks n ≡ Some task → IsBehindAt file own bound task place

@@ -481,8 +481,7 @@ unordered_within : (rs : List Record) (i : ℕ) → HasCause rs i NoOrder → i 
 unordered_within rs i (no_order h) = h.within
 
 -- where no record may follow, the first that doesn't stand is the first without an order; and where all
--- stand, each
--- record has one
+-- stand, each record has one
 pub finds_unordered : (rs : List Record) (placed : List Bool) (heads links order : List ℕ) (found : Option ℕ)
     → ArePlaced rs placed heads links order → ((j : ℕ) → MayStandNext rs placed j → ⊥)
     → MatchOption found ((i : ℕ) → i < length placed → Stands placed i) (IsFirstUnplaced placed)

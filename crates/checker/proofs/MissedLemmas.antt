@@ -1,6 +1,5 @@
 -- A task that is unfinished by what the record has seen is incomplete in some order: in that in which the
--- record
--- comes as early as the ledger lengths allow.
+-- record comes as early as the ledger lengths allow.
 use Rattle.std.proofs.Common.{◌≡◌, ◌∙◌, ℕ, zero, suc, ◌<◌, ◌≤◌, ◌+◌, Bool, true, false, cond, ltb, List, []}
 use Rattle.std.proofs.Common.{◌∷◌, ◌++◌, length, refl, sym, ap, subst, arith, inl, inr}
 use Rattle.std.specs.Prelude.{Contains, IsPermutation, filter, Some, is_some, not}

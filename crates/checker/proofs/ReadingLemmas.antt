@@ -58,8 +58,7 @@ abbrev pub StartsExplicit : List Record → ℕ → ℕ → Type 0
 StartsExplicit rs i task = IsExplicit rs task × IsStart rs i task
 
 -- what the one reading says the other says too, and of records that have the same orders, creations, starts
--- and
--- completions
+-- and completions
 pub record AreAlike (a b : Reading) : Type 0 where
   pub long : length a.records ≡ length b.records
   pub shows : (i : ℕ) (cause : Cause) → a.shows i cause ↔ b.shows i cause

@@ -1,6 +1,5 @@
 -- Two lists of records that say the same of all but turns show the same causes, but for those that are of
--- turns, of
--- states and of orders.
+-- turns, of states and of orders.
 use Rattle.std.proofs.Common.{◌≡◌, ◌∙◌, ℕ, List, Bool, cond, refl, sym, ap, subst, arith, ◌+◌}
 use Rattle.std.specs.Prelude.{take, filter, is_some, Contains, ◌==◌, count_by}
 use Rattle.ompt_events.specs.declared.records.Record.{Record}

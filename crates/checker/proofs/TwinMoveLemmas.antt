@@ -1,6 +1,5 @@
--- Two lists of records that say the same of all but turns: what each task is, and its moves where it stays on
--- one
--- thread.
+-- Two lists of records that say the same of all but turns: what each task is, and its moves where it stays
+-- on one thread.
 use Rattle.std.proofs.Common.{◌≡◌, ◌∙◌, ℕ, List, [], ◌∷◌, ◌++◌, Option, Some, None, Bool, false, cond, refl}
 use Rattle.std.proofs.Common.{sym, ap, map, ◌+◌}
 use Rattle.std.specs.Prelude.{slice_get, take, filter, is_some, option_map, option_and_then, not, ◌&&◌, ◌==◌}

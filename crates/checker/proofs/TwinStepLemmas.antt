@@ -1,6 +1,5 @@
 -- Two lists of records that say the same of all but turns have the same steps and orders, and the same tasks
--- are
--- complete at each record, where the same records start tasks and a resumption is in file order on one
+-- are complete at each record, where the same records start tasks and a resumption is in file order on one
 -- thread.
 use Rattle.std.proofs.Common.{◌≡◌, ◌∙◌, ℕ, ◌<◌, List, [], ◌∷◌, length, sym, subst, arith, inl, inr}
 use Rattle.std.specs.Prelude.{◌↔◌, ⊤, take, slice_index, ◌++◌}
@@ -35,9 +34,8 @@ pub record IsLaterThere (rs : List Record) (a b : ℕ) : Type 0 where
   pub within : b < length rs
   pub same_thread : thread_at rs a ≡ thread_at rs b
 
--- the twin starts the same explicit tasks at the same records, and where one of these records resumes a task,
--- that is
--- later on the same thread
+-- the twin starts the same explicit tasks at the same records, and where one of these records resumes a
+-- task, that is later on the same thread
 pub record KeepsSteps (rs ss : List Record) : Type 0 where
   pub twins : AreTwins rs ss
   pub starts : (i task : ℕ) → IsExplicit rs task → IsStart rs i task → IsStart ss i task

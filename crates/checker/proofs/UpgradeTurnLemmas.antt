@@ -1,6 +1,5 @@
 -- In an upgraded trace no task's turns fall along the file, and where a task runs on it does so later on the
--- same
--- thread: so it has the steps and starts of the trace that it was made of.
+-- same thread: so it has the steps and starts of the trace that it was made of.
 use Rattle.std.proofs.Common.{◌≡◌, ◌≢◌, ◌∙◌, ℕ, ◌<◌, ◌≤◌, ◌+◌, List, [], ◌∷◌, ◌++◌, Option, Some, None, Bool}
 use Rattle.std.proofs.Common.{true, false, cond, refl, sym, ap, subst, arith, inl, inr, ◌⊎◌}
 use Rattle.std.proofs.lemmas.Bool.{cases_eq, cases_order, eq-eqb, ne_eqb, false≢true}

@@ -1,6 +1,5 @@
--- Where no record speaks for a task that its thread does not run, a task runs on the thread on which it began
--- or ran
--- next; so where no task moves, on one thread alone.
+-- Where no record speaks for a task that its thread does not run, a task runs on the thread on which it
+-- began or ran next; so where no task moves, on one thread alone.
 use Rattle.std.proofs.Common.{◌≡◌, ◌≢◌, ◌∙◌, ℕ, ◌<◌, ◌+◌, List, [], ◌∷◌, ◌++◌, Option, Some, None, Bool, true}
 use Rattle.std.proofs.Common.{false, refl, sym, ap, subst, arith, inl, inr, ◌⊎◌}
 use Rattle.std.proofs.lemmas.Bool.{cases_eq, cases_order}

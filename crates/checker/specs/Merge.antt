@@ -52,8 +52,7 @@ pub record IsGreedyBehind (rs : List Record) (base order : List ℕ) : Type 0 wh
   pub greedy : IsGreedyAfter rs (λ _. ⊤) base more
 
 -- just those of the order stand, of each thread up to its head, and the links lead from each record to the
--- next
--- one of its thread
+-- next one of its thread
 pub record ArePlaced (rs : List Record) (placed : List Bool) (heads links order : List ℕ) : Type 0 where
   pub all : length placed ≡ length rs
   pub to_order : (i : ℕ) → Stands placed i → Contains order i

@@ -42,8 +42,7 @@ abbrev pub IsBound : List Record → ℕ → ℕ → Type 0
 IsBound rs i bound = (task : ℕ) → IsCompleteAt rs task i ↔ IsDone rs bound task
 
 -- at the index of each task stands the first of the first n places at which its turn 0 begins, or the number
--- of
--- records
+-- of records
 pub record AreStartsBelow (rs : List Record) (n : ℕ) (tasks starts : List ℕ) : Type 0 where
   pub all : length starts ≡ length tasks
   pub low : (index : ℕ) → index < length starts
@@ -71,8 +70,7 @@ abbrev pub StartsNoneAt : List Record → ℕ → Type 0
 StartsNoneAt rs i = (task : ℕ) → IsExplicit rs task → IsStart rs i task → ⊥
 
 -- the task at the index of the run in the tasks' own order is that whose predecessors must be complete at i,
--- and
--- no others; the bound decides which of them are
+-- and no others; the bound decides which of them are
 pub record IsDependentAt (rs : List Record) (own : RunView) (i index bound : ℕ) : Type 0 where
   pub dependent : ℕ
   pub there : slice_get own.family.tasks index ≡ Some dependent
@@ -129,10 +127,9 @@ pub data IsEarlierOf (other late : Late) : Option Late → Type 0 where
 -- ---- what decides it
 
 -- what clauses see of that: the run of the file, and that in the tasks' own order; by index of the task in
--- its own
--- order the length from which on it is finished, and the greatest of the lengths of its predecessors; and by
--- index
--- in the file where it starts, unless no task has a predecessor that an entry finishes
+-- its own order the length from which on it is finished, and the greatest of the lengths of its
+-- predecessors; and by index in the file where it starts, unless no task has a predecessor that an entry
+-- finishes
 pub record PrecedenceView : Type 0 where
   pub file : RunView
   pub own : OwnView

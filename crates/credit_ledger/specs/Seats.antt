@@ -125,8 +125,7 @@ pub record Knows (history : List Step) (n : ℕ) (v : View) : Type 0 where
   pub own : seat_calls n history ≡ v.own
 
 -- the number is greater than that of the seat, than each that the seat knows to be given, and than that of
--- each
--- seat whose calls it has seen
+-- each seat whose calls it has seen
 pub record IsLater (v : View) (n : ℕ) : Type 0 where
   pub than_given : v.given ≤ n
   pub than_seat : v.number < n
@@ -222,10 +221,8 @@ Entered before after =
     × (after ≡ (with_call before.0 (Enter e), []))
 
 -- the history after a call is legal, begins with all that the seat had seen and was told of, and ends with
--- the
--- call and its reply; the seat's own calls are the former ones and this one, and it has no others in the
--- history;
--- it knows the same numbers to be given
+-- the call and its reply; the seat's own calls are the former ones and this one, and it has no others in the
+-- history; it knows the same numbers to be given
 pub record Extends (v : View) (call : Call) (reply : ℕ) (w : View) : Type 0 where
   pub number : w.number ≡ v.number
   pub given : w.given ≡ v.given

@@ -1,8 +1,6 @@
 -- What a trace of version 1 is in version 2, where turns are told. They are counted along the file, so each
--- task
--- must run on one thread alone: where an untied task runs on on another one (OpenMP 5.2, 12.1), the order of
--- the
--- file does not tell its turns.
+-- task must run on one thread alone: where an untied task runs on on another one (OpenMP 5.2, 12.1), the
+-- order of the file does not tell its turns.
 use Rattle.std.specs.Prelude.{ℕ, ◌≡◌, ◌≢◌, ◌<◌, ◌+◌, List, length, Some, take, count_by, slice_get}
 use Rattle.std.specs.Prelude.{if◌then◌else◌}
 use Rattle.std.specs.Option.{option_map_or}
@@ -46,8 +44,7 @@ telling told (TaskSchedule status turns prior next share) = TaskSchedule status 
 telling told body = body
 
 -- what the record at the place says in version 2: where a task runs next, in which turn its prior task is by
--- the
--- records of its thread before it, and which turn of the next task begins
+-- the records of its thread before it, and which turn of the next task begins
 abbrev pub body_upgraded : List Record → List Record → ℕ → Body → Body
 body_upgraded rs ss i body =
     option_map_or (λ task. telling (record { prior = turn_at ss i; next = turn_counted rs i task }) body)

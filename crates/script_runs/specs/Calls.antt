@@ -7,9 +7,8 @@ use Rattle.ompt_events.specs.declared.names.Endpoint.TheVariants.{End}
 use Rattle.scripts.specs.declared.script.Step.{Step}
 
 -- the call of a record or a step, without what recorders add to it: the claim of a finished task, the turns
--- of
--- a schedule, and at the end of an initial or implicit task the team's size, the task's number there and its
--- flags, which are those with which it began
+-- of a schedule, and at the end of an initial or implicit task the team's size, the task's number there and
+-- its flags, which are those with which it began
 abbrev pub called : Body → Body
 called (TaskSchedule status turns prior next share) = TaskSchedule status None prior next None
 called (Cancel given task share) = Cancel given task None

@@ -13,8 +13,7 @@ use Rattle.script_runs.specs.declared.fault.RunFault.{RunFault}
 use Rattle.script_runs.specs.declared.fault.RunFault.TheVariants.{Memory, Thread, Call}
 
 -- the trace is gathered from the recorders of a run of the script: the records of each thread are its steps,
--- in
--- their order, and the finishing records pair off with the entries of the one ledger
+-- in their order, and the finishing records pair off with the entries of the one ledger
 pub record IsRunOf (steps : List Step) (trace : TraceView) : Type 0 where
   pub version : trace.version ≡ 2
   pub calls : (thread : ℕ) → recorded_calls (thread_records trace.records thread) ≡ calls_of steps thread

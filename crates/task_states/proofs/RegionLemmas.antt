@@ -1,6 +1,5 @@
 -- How the open regions change from record to record, the first place in the file at which a region may not
--- begin
--- or end, and where a region began.
+-- begin or end, and where a region began.
 use Rattle.std.proofs.Common.{◌≡◌, ◌≢◌, ◌∙◌, ℕ, ◌<◌, ◌≤◌, ◌+◌, min, Bool, List, [], ◌∷◌, length, Option, Some}
 use Rattle.std.proofs.Common.{None, true, false, refl, sym, ap, subst, arith, inl, inr, ◌⊎◌, set}
 use Rattle.std.proofs.Math.Nat.{min-le_left, min-le_right, min-eq_left, min-eq_right}

@@ -1,6 +1,5 @@
--- Rising lists of numbers: two with the same elements are equal. What is read of a list does not change where
--- its
--- elements are replaced by others of which the same is read.
+-- Rising lists of numbers: two with the same elements are equal. What is read of a list does not change
+-- where its elements are replaced by others of which the same is read.
 use Rattle.std.proofs.Common.{◌≡◌, ◌∙◌, ℕ, zero, suc, ◌<◌, ◌≤◌, ◌+◌, List, [], ◌∷◌, Option, Some, None, true}
 use Rattle.std.proofs.Common.{false, Bool, cond, refl, sym, ap, subst, arith, inl, inr, ◌⊎◌, map}
 use Rattle.std.proofs.lemmas.Bool.{cases_eq, cases_lt}

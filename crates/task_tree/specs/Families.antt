@@ -12,8 +12,7 @@ use Rattle.task_tree.specs.Runs.{RunView, IsRun}
 use Rattle.task_tree.specs.Own.{OwnView}
 
 -- what clauses see of families: that of the file; the run of the arranged records, where file order is not
--- the
--- tasks' own order; the places in own order; and the first record with a turn gap
+-- the tasks' own order; the places in own order; and the first record with a turn gap
 pub record FamiliesView : Type 0 where
   pub file : FamilyView
   pub arranged : Option RunView
@@ -37,8 +36,7 @@ pub record AreFamiliesOf (rs : List Record) (families : FamiliesView) : Type 0 w
   pub gap : FindsFirst rs TurnGap families.gap
 
 -- the run is that of the records in the tasks' own order: as they stand in the file, where no task's turns
--- fall
--- along it, or arranged
+-- fall along it, or arranged
 pub data IsOwnOf (rs : List Record) (own : OwnView) : Type 0 where
   own_in_file : own.run.records ≡ rs → own.places ≡ places rs → TurnsRise rs → IsOwnOf rs own
   own_by_turn : own.run.records ≡ in_own_order rs → own.places ≡ own_places rs → IsOwnOf rs own

@@ -15,8 +15,7 @@ use Rattle.task_tree.specs.Roots.{AreRoots}
 
 -- what clauses see of a family: the tasks in the order in which they are made; by index of the task the
 -- place of the record that makes it, the row of its children, its link to its parent and its root; and by
--- place of the
--- record the indices of the tasks that it names
+-- place of the record the indices of the tasks that it names
 pub record FamilyView : Type 0 where
   pub tasks : List ℕ
   pub places : List ℕ

@@ -13,8 +13,7 @@ use Rattle.task_tree.specs.Runs.{RunView, IsRun}
 use Rattle.task_tree.specs.OwnOrder.{AreAllPlaces}
 
 -- what clauses see of a run in its tasks' own order: the run, whose records stand in that order, and by
--- number
--- in it the place in the file
+-- number in it the place in the file
 pub record OwnView : Type 0 where
   pub run : RunView
   pub places : List ℕ
