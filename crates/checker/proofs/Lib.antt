@@ -32,3 +32,4 @@ mod UpgradeVerdictLemmas
 mod BeforeLemmas
 mod DecidingLemmas
 mod ShareLemmas
+mod UpgradeableLemmas

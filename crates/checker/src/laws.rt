@@ -53,3 +53,8 @@ pub fn an_upgrade_keeps_the_verdict()
         → (i task : ℕ) (found : Option (List ℕ))
         → IsCounterBy (by_task rs) i task found ↔ IsCounterBy (by_task upgraded) i task found }
 {}
+
+/// A trace of version 1 that shows no cause can be upgraded: none of its tasks moves.
+pub fn a_well_formed_first_version_can_be_upgraded()
+    ensures { (rs : List Record) → IsTraceOf 1 rs → ShowsNone (by_task rs) → MovesNowhere rs }
+{}

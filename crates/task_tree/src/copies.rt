@@ -42,9 +42,9 @@ fn body_of(alloc: Global, body: &Body) -> Result<Body, AllocError>
         ImplicitTask (endpoint actual index flags parallel task);
         TaskCreate (deps flags task child);
         Dependences (task) list by deps_of;
-        TaskSchedule (status turns prior next) share by share_of;
+        TaskSchedule (status turns prior next) claim by claim_of;
         SyncRegion (kind endpoint parallel task);
-        Cancel (flags task) share by share_of;
+        Cancel (flags task) claim by claim_of;
     }
 }
 
@@ -58,10 +58,10 @@ fn deps_of(alloc: Global, list: &Deps) -> Result<Deps, AllocError>
 }
 
 /// The same claim once more, if there is one.
-fn share_of(alloc: Global, share: &Option<Claim>) -> Result<Option<Claim>, AllocError>
-    ensures { IfOk result (λ copy. copy ≡ share.now) }
+fn claim_of(alloc: Global, claim: &Option<Claim>) -> Result<Option<Claim>, AllocError>
+    ensures { IfOk result (λ copy. copy ≡ claim.now) }
 {
-    let Some(claim) = share else {
+    let Some(claim) = claim else {
         return Ok(None);
     };
     Ok(Some(Claim {

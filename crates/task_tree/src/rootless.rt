@@ -112,13 +112,13 @@ fn is_rootless(
             first.is_none() || names_no_region(body, regions)
         }
         Body::TaskCreate { .. } => first.is_none() || has_no_root(second, roots),
-        Body::TaskSchedule { next, share, .. } => {
+        Body::TaskSchedule { next, claim, .. } => {
             first.is_none()
                 || (next.is_some() && second.is_none())
-                || claims_unmade(share, first, tasks, roots)
+                || claims_unmade(claim, first, tasks, roots)
         }
-        Body::Cancel { share, .. } => {
-            first.is_none() || claims_unmade(share, first, tasks, roots)
+        Body::Cancel { claim, .. } => {
+            first.is_none() || claims_unmade(claim, first, tasks, roots)
         }
     }
 }
@@ -136,15 +136,15 @@ fn has_no_root(task: Slot, roots: &[StandingSlot]) -> bool
 
 /// Whether a root is claimed for the task that no record makes.
 fn claims_unmade(
-    share: &Option<Claim>,
+    claim: &Option<Claim>,
     task: Slot,
     tasks: &Numbering,
     roots: &[StandingSlot],
 ) -> bool
     requires { AreRootsMade tasks.now roots.now }
-    ensures { IsTrue result ↔ IsSomeAnd share.now (λ claim. Contains tasks.now claim.root → ⊥) }
+    ensures { IsTrue result ↔ IsSomeAnd claim.now (λ claim. Contains tasks.now claim.root → ⊥) }
 {
-    match share {
+    match claim {
         Some(claim) => !is_root_of(claim.root, task, roots) && !tasks.contains(claim.root),
         None => false,
     }

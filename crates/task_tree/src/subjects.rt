@@ -132,18 +132,18 @@ fn look_up(
         Body::TaskSchedule {
             prior,
             next,
-            share,
+            claim,
             ..
         } => {
-            check_claim(share, thread, tasks, hints, known);
+            check_claim(claim, thread, tasks, hints, known);
             Found {
                 subject: slot_near(tasks, *prior, near, known),
                 object: start(tasks, *next, thread, hints, known),
             }
         }
         Body::SyncRegion { task, .. } => alone(slot_near(tasks, *task, near, known)),
-        Body::Cancel { task, share, .. } => {
-            check_claim(share, thread, tasks, hints, known);
+        Body::Cancel { task, claim, .. } => {
+            check_claim(claim, thread, tasks, hints, known);
             alone(slot_near(tasks, *task, near, known))
         }
     }
@@ -224,16 +224,16 @@ fn checked(index: Option<usize>, known: &mut bool) -> Slot
 
 /// Looks up the root that is claimed, where the thread's last claim found one first.
 fn check_claim(
-    share: &Option<Claim>,
+    claim: &Option<Claim>,
     thread: u8,
     tasks: &Numbering,
     hints: &mut Hints,
     known: &mut bool,
 )
     ensures { IsTrue known.new
-        → IsTrue known.old × IfSome share.now (λ claim. Contains tasks.now claim.root) }
+        → IsTrue known.old × IfSome claim.now (λ claim. Contains tasks.now claim.root) }
 {
-    let Some(claim) = share else {
+    let Some(claim) = claim else {
         return;
     };
     match tasks.index_near(claim.root, hints.root(thread)) {
