@@ -7,9 +7,8 @@ use Rattle.ompt_events.specs.declared.names.Endpoint.TheVariants.{End}
 use Rattle.scripts.specs.declared.script.Step.{Step}
 
 -- the call of a record or a step, without what recorders add to it: the claim of a finished task, the turns
--- of
--- a schedule, and at the end of an initial or implicit task the team's size, the task's number there and its
--- flags, which are those with which it began
+-- of a schedule, and at the end of an initial or implicit task the team's size, the task's number there and
+-- its flags, which are those with which it began
 abbrev pub called : Body → Body
 called (TaskSchedule status turns prior next share) = TaskSchedule status None prior next None
 called (Cancel given task share) = Cancel given task None
@@ -24,7 +23,7 @@ thread_records rs thread = filter (λ (r : Record). r.thread == thread) rs
 abbrev pub steps_of : List Step → ℕ → List Step
 steps_of steps thread = filter (λ (s : Step). s.thread == thread) steps
 
--- the calls that records tell, and those that steps tell
+-- the calls of records, and those of steps
 abbrev pub recorded_calls : List Record → List Body
 recorded_calls rs = map (λ (r : Record). called r.body) rs
 
