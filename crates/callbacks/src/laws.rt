@@ -36,15 +36,15 @@ pub fn no_entry_is_named_twice()
         → IsFreeOf (gathered closed.buffers) EntryTwice }
 {}
 
-/// The finishing records and the ledger's entries pair off one to one if and only if there are as many of
-/// each, if no two recorders have the same thread number.
+/// If no two recorders have the same thread number, the finishing records and the ledger's entries pair off
+/// one to one if and only if there are as many of each.
 pub fn as_many_records_pair_off()
     ensures { (closed : ClosedView) → AreClosed closed → HaveOwnThreads closed.buffers
         → (entries_in (gathered closed.buffers) ≡ length closed.entries) ↔ ArePaired closed }
 {}
 
-/// If they pair off, no record names a greater length than that of the ledger, if no two recorders have the
-/// same thread number.
+/// If no two recorders have the same thread number and these pair off, no record names a greater length
+/// than that of the ledger.
 pub fn no_length_is_ahead()
     ensures { (closed : ClosedView) → AreClosed closed → HaveOwnThreads closed.buffers → ArePaired closed
         → IsFreeOf (gathered closed.buffers) LengthAhead }

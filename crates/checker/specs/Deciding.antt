@@ -36,7 +36,7 @@ IsFirstOrNone reading found = MatchOption found ((i : ℕ) → AreComplete readi
 
 -- ---- the work
 
--- places in file order; at every other record all that must be complete is
+-- places in file order; at every other record all that must be complete is complete
 pub record AreStops (reading : Reading) (n : ℕ) (stops : List ℕ) : Type 0 where
   pub each : (i : ℕ) → i < n → Contains stops i ⊎ AreComplete reading i
   pub within : (k place : ℕ) → slice_get stops k ≡ Some place → place < n
@@ -59,7 +59,7 @@ pub record IsWork (work : WorkView) : Type 0 where
 abbrev pub IsShared : ℕ → ℕ → ℕ → Type 0
 IsShared workers worker index = (turn : ℕ) × (index ≡ worker + turn * workers)
 
--- at the stop with this index all that must be complete is
+-- at the stop with this index all that must be complete is complete
 abbrev pub IsStopMet : Reading → List ℕ → ℕ → Type 0
 IsStopMet reading stops index = (place : ℕ) → slice_get stops index ≡ Some place → AreComplete reading place
 

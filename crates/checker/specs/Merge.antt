@@ -121,7 +121,7 @@ pub record IsPlaceTaken (rs : List Record) (placed : List Bool) (place : ℕ) (r
 abbrev pub created_index : List ℕ → List Record → ℕ → Option ℕ
 created_index tasks rs i = option_and_then (λ task. position (λ t. t == task) tasks) (at awaited rs i)
 
--- behind the indices of all tasks, the slot of the turn that a task begins at each record
+-- after the indices of all tasks, the slot of the turn that a task begins at each record
 abbrev pub turn_slot : List ℕ → List Record → List ℕ → ℕ → Option ℕ
 turn_slot tasks rs rows i =
     option_and_then

@@ -41,7 +41,7 @@ AreRowLengths rs n tasks lengths =
 
 -- ---- what the slots hold
 
--- the slot is that of the turn behind the one in which an explicit task is suspended at i
+-- the slot is that of the turn after the one in which an explicit task is suspended at i
 pub record IsSlotBehind (rs : List Record) (tasks rows : List ℕ) (i slot : ℕ) : Type 0 where
   pub index : ℕ
   pub turn : ℕ

@@ -28,7 +28,7 @@ pub record IsLeastShown (reading : Reading) (i : ℕ) (cause : Cause) : Type 0 w
 
 -- ---- what must be complete
 
--- all that must be complete at i is, by what the record there has seen
+-- all that must be complete at i is complete, by what the record there has seen
 abbrev pub AreComplete : Reading → ℕ → Type 0
 AreComplete reading i = (task : ℕ) → IsRequiredBy reading i task → IsCompleteAt reading.records task i
 

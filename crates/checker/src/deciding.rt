@@ -74,7 +74,7 @@ impl<'a, 'r> Deciding<'a, 'r> {
     }
 
     /// Returns the places, in file order, at which a wait ends, or at which a task that may have
-    /// predecessors starts or is complete. At every other place all that must be complete is.
+    /// predecessors starts or is complete. At every other place all that must be complete is complete.
     pub(crate) fn find_stops(&self, alloc: Global) -> Result<Vec<u32>, AllocError>
         ensures { IfOk result (λ stops. AreStops (by_task self.now.run.records)
             (length self.now.run.records) stops.items) }
@@ -88,7 +88,7 @@ impl<'a, 'r> Deciding<'a, 'r> {
         Ok(stops)
     }
 
-    /// Returns false only if all that must be complete at the place is.
+    /// Returns false only if all that must be complete at the place is complete there.
     fn is_stop(&self, at: usize) -> bool
         requires { at < length self.now.run.records }
         ensures { result ≡ false → AreComplete (by_task self.now.run.records) at }

@@ -108,7 +108,7 @@ pub(crate) fn lists_of_keys(
 }
 
 /// Returns the key of the list that has the record at a place: the index of the task whose creation it
-/// awaits, or, behind the indices of all tasks, the slot of the turn that a task begins there.
+/// awaits, or, after the indices of all tasks, the slot of the turn that a task begins there.
 fn key_at(run: &Run, suspensions: &Suspensions, at: usize) -> Option<usize>
     requires within { at < length run.now.records }
     requires known { AreSuspensions run.now.records run.now.family.tasks suspensions.now }

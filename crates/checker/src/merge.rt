@@ -16,9 +16,9 @@ use ompt_events::{Cause, Fault, exclude};
 use std::alloc::{AllocError, Global};
 use task_tree::Run;
 
-/// Returns the greedy order behind these records: it begins with them, and then repeatedly takes the first
-/// record in file order whose predecessors are all placed. Requires that each of these records may be
-/// placed behind those before it. Fails with NoOrder at the first record that is not placed in the end.
+/// Returns the greedy order that begins with these records: after them it repeatedly takes the first record
+/// in file order whose predecessors are all placed. Requires that each of these records may be placed after
+/// those before it. Fails with NoOrder at the first record that is not placed in the end.
 pub(crate) fn find_order(alloc: Global, makers: &Makers, base: Vec<u32>) -> Result<Vec<u32>, Fault>
     requires { AreInTurn makers.now.run.records base.items }
     ensures linearization { IfOk result (λ order. IsLinearization makers.now.run.records order.items) }

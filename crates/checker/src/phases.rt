@@ -1,4 +1,5 @@
-//! The phases of a check, in the order of their causes.
+//! The phases of a check, in the order of their causes. A phase that excludes a cause fails with it, at the
+//! first record that shows it, if it occurs.
 ghost use Rattle.std.specs.Prelude.{◌≡◌, Ok, Err, IfOk, IfErr, OnOk};
 ghost use Rattle.ompt_events.specs.declared.fault.Fault.TheVariants.{Memory};
 ghost use Rattle.ompt_events.specs.declared.cause.Cause.TheVariants.{NotCurrent, TurnGap, TargetTask};
@@ -180,8 +181,7 @@ fn order_of(alloc: Global, sound: &Sound) -> Result<Order, Fault>
     order_by_merge(alloc, sound)
 }
 
-/// Does the same for a file of which one pass does not show it. The tables of the merge are dropped at its
-/// end.
+/// Does the same if one pass does not show the order. The tables of the merge are dropped at its end.
 fn order_by_merge(alloc: Global, sound: &Sound) -> Result<Order, Fault>
     ensures linearization { IfOk result (IsLinearization sound.now.run.records) }
     ensures greedy { IfOk result (IsGreedy sound.now.run.records) }

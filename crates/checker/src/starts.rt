@@ -339,8 +339,8 @@ impl Precedence<'_, '_> {
         }
     }
 
-    /// Returns the earlier created one of a late predecessor, if one is known, and this task. This task
-    /// does not count if the entries below the length finish it.
+    /// Returns the one that is created first in file order: of a late predecessor, if one is known, and
+    /// this task, unless the entries below the length finish it.
     fn earlier_of(&self, first: Option<Late>, task: u64, bound: u32) -> Option<Late>
         ensures { (predecessors : List ℕ) (n dependent : ℕ) → slice_get predecessors n ≡ Some task
             → ArePredecessors self.now.own.run.records dependent predecessors
@@ -373,7 +373,8 @@ impl Precedence<'_, '_> {
     }
 }
 
-/// Returns the earlier created one of a late predecessor, if one is known, and another.
+/// Returns the one that is created first in file order: of a late predecessor, if one is known, and
+/// another.
 fn earlier(first: Option<Late>, other: Late) -> Late
     ensures { IsEarlierOf other result first }
 {

@@ -78,7 +78,7 @@ impl Suspensions {
         other_place(place, run.len(), at)
     }
 
-    /// Returns the slot of the turn behind the one in which an explicit task is suspended at a place.
+    /// Returns the slot of the turn after the one in which an explicit task is suspended at a place.
     pub(crate) fn slot_behind(&self, run: &Run, at: usize) -> Option<usize>
         requires within { at < length run.now.records }
         requires is_run { IsRun run.now }
@@ -200,7 +200,7 @@ fn no_ends(alloc: Global, run: &Run, slots: usize) -> Result<Vec<u32>, AllocErro
     vec![in alloc; run.len() as u32; slots]
 }
 
-/// Fills the slot behind the turn that ends at a place.
+/// Fills the slot of the turn after the one that ends at a place.
 fn note_end(run: &Run, rows: &[usize], places: &mut Vec<u32>, at: usize)
     requires at { at < length run.now.records }
     requires is_run { IsRun run.now }
@@ -215,7 +215,7 @@ fn note_end(run: &Run, rows: &[usize], places: &mut Vec<u32>, at: usize)
     }
 }
 
-/// Returns the slot of the turn behind the one in which an explicit task is suspended at a place.
+/// Returns the slot of the turn after the one in which an explicit task is suspended at a place.
 fn slot_behind(run: &Run, rows: &[usize], at: usize) -> Option<usize>
     requires within { at < length run.now.records }
     requires is_run { IsRun run.now }

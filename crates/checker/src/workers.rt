@@ -243,7 +243,7 @@ fn least_of(
     Ok(least)
 }
 
-/// Returns the one that is first in the order of the stops, of a finding, if there is one, and another.
+/// Returns the one that is first in the order of the stops: of a finding, if there is one, and another.
 fn lesser(least: Option<Finding>, other: Finding) -> Finding
     ensures { IsLesserOf least other result }
 {

@@ -11,7 +11,8 @@ pub enum CallFault {
     /// Out of memory.
     #[error("out of memory")]
     Memory = 1,
-    /// There are 2^22 records or entries, 64 dependences, 2^32 - 1 children of the task, or 2^32 turns.
+    /// There are already 2^22 records or entries, 2^32 - 1 children of the task, or 2^32 turns; or more
+    /// than 64 dependences are listed.
     #[error("a limit of the file format is reached")]
     Full = 2,
     /// No run makes this call here: the task does not run on the thread, or its state does not allow the

@@ -364,9 +364,10 @@ impl Recorder {
         Ok(())
     }
 
-    /// Records that a task that has not begun is discarded, since its taskgroup was cancelled (11.5 and
-    /// 19.5.2.18). Adds the flag `discarded_task` to the flags, puts the task's credit into the ledger, and
-    /// may wait for its turn there. Returns the index of the entry. If the call fails, it returns the task.
+    /// Records that the task, which has not begun, is discarded, since its taskgroup was cancelled (11.5
+    /// and 19.5.2.18). Adds the flag `discarded_task` to the flags, puts the task's credit into the ledger,
+    /// and may wait for its turn there. Returns the index of the entry. If the call fails, it returns the
+    /// task.
     pub fn ompt_callback_cancel_discarded<R: Wait>(
         &mut self,
         ledger: &SharedLedger,

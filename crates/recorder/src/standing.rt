@@ -6,9 +6,9 @@ ghost use Rattle.recorder.specs.Standing.{standing_at_start, innermost, next_sta
 use bitflags::Flags;
 use ompt_events::{Body, Endpoint, TaskFlags};
 
-/// The open roots of a thread, which are its initial and implicit tasks, the task that it runs, and the
-/// creation that awaits its dependences. Parallel regions are not nested, so at most two roots are open: an
-/// initial task, and above it a member of a team.
+/// The open roots of a thread (its initial and implicit tasks), the task that it runs, and the creation
+/// that awaits its dependences. Parallel regions are not nested, so at most two roots are open: an initial
+/// task, and above it a member of a team.
 #[derive(Clone, Copy, Debug)]
 pub struct Standing {
     /// The initial task that is open.

@@ -67,7 +67,7 @@ AreChildrenDone done = (task m : ℕ) → IsExplicit (records_of done) task → 
 
 -- ---- from the children to their parents
 
--- all indices of tasks, each behind that of its parent
+-- all indices of tasks, each after that of its parent
 pub record IsParentsFirst (family : FamilyView) (order : List ℕ) : Type 0 where
   pub all : (index : ℕ) → index < length family.tasks → (place : ℕ) × (slice_get order place ≡ Some index)
   pub within : (place index : ℕ) → slice_get order place ≡ Some index → index < length family.tasks

@@ -31,8 +31,8 @@ with_length l Event n = record { whole = l.whole; body = l.body; event = min l.e
 abbrev pub done_length : Lengths → ℕ
 done_length l = min l.whole (max l.body l.event)
 
--- for each part of the task the length behind an entry for it, or never; it is at most that of each record
--- for which `counts` holds
+-- for each part of the task the ledger length after an entry for it, or never; it is at most that of each
+-- record for which `counts` holds
 pub record AreLeast (rs : List Record) (counts : ℕ → Type 0) (task : ℕ) (lengths : Lengths) : Type 0 where
   pub each : (part : Part) (k : ℕ) → counts k → at finish rs k ≡ Some (task, part)
       → length_of lengths part ≤ seen_at rs k + 1

@@ -84,7 +84,7 @@ pub record AreChildLimits (done : DoneView) (n : ℕ) (latest : List ℕ) : Type
       → slice_get latest index ≡ Some limit
       → IsChildLimit done n task limit
 
--- the same of the children and their descendants
+-- the same for the children and their descendants
 pub record AreLatestFamilies (done : DoneView) (n : ℕ) (families : List ℕ) : Type 0 where
   pub all : length families ≡ length (tasks_of done)
   pub each : (index task limit : ℕ) → slice_get (tasks_of done) index ≡ Some task
@@ -129,7 +129,7 @@ pub record AreNodes (done : DoneView) (nodes : List Node) : Type 0 where
   pub count : length nodes ≡ length (records_of done)
   pub marks : AreLimitMarks done nodes
 
--- what is known behind the first n records
+-- what is known after the first n records
 pub record IsLimitProgress (done : DoneView) (n : ℕ) (nodes : List Node)
     (progress : Progress) : Type 0 where
   pub count : length nodes ≡ n

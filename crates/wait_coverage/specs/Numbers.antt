@@ -5,7 +5,7 @@ use Rattle.ompt_events.specs.Places.{at}
 use Rattle.ompt_events.specs.Tree.{child_number}
 use Rattle.task_tree.specs.Subjects.{subject}
 
--- by index of each task how many children the first n records create for it
+-- by index of each task how many children it creates in the first n records
 pub record AreCreationCounts (rs : List Record) (n : ℕ) (tasks counts : List ℕ) : Type 0 where
   pub all : length counts ≡ length tasks
   pub each : (index task count : ℕ) → slice_get tasks index ≡ Some task → slice_get counts index ≡ Some count

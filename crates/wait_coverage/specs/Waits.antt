@@ -121,7 +121,7 @@ abbrev pub IsLateTask : DoneView → Wait → ℕ → ℕ → Type 0
 IsLateTask done wait seen task =
     IsAwaited (records_of done) (tasks_of done) wait task × (IsEarly done seen task → ⊥)
 
--- such a task is created at this place in the file
+-- such a task, which is created at this place in the file
 abbrev pub IsLateAt : DoneView → Wait → ℕ → ℕ → ℕ → Type 0
 IsLateAt done wait seen place task =
     CreatesAtPlace (own_of done.teams) place task × IsLateTask done wait seen task

@@ -126,9 +126,9 @@ impl<'a> Coverage<'a> {
 
     /// Returns, of the tasks that the end with this index among the ends covers and that the entries of the
     /// ledger below the length that the end names don't finish, the one created first in the file. Returns
-    /// none if these entries hold the credit that the end waits for (F. Mattern, 1989). The contract says
-    /// this if the ledger is that of the trace and its records have right entries, as those without the
-    /// causes 1 to 13 have. Fails only when out of memory.
+    /// none if these entries hold the credit that the end waits for (F. Mattern, 1989). The contract
+    /// guarantees this if the ledger is that of the trace and its records have right entries, as those
+    /// without the causes 1 to 13 have. Fails only when out of memory.
     pub fn first_open(&self, index: usize, ledger: &Ledger) -> Result<Option<u64>, CoverFault>
         requires { index < length self.now.ends }
         ensures fault { IfErr result (λ fault. fault ≡ Memory) }

@@ -56,7 +56,7 @@ impl<'a> Done<'a> {
     }
 
     /// Returns the ledger lengths from which on the tasks are finished, by the entries of the ledger. The
-    /// contract says this only if the ledger is that of the trace.
+    /// contract guarantees this only if the ledger is that of the trace.
     pub(crate) fn of_ledger(
         alloc: Global,
         teams: &'a Teams<'a>,

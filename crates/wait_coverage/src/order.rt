@@ -1,4 +1,4 @@
-//! The tasks in an order in which each comes behind its parent.
+//! The tasks in an order in which each comes after its parent.
 ghost use Rattle.std.specs.Prelude.{ℕ, ◌≡◌, ◌<◌, List, Some, IsTrue, IfOk, length, map};
 ghost use Rattle.std.specs.List.{range_with_len};
 ghost use Rattle.std.specs.List.Sorted.{IsNonDecreasingBy};
@@ -10,7 +10,7 @@ ghost use Rattle.wait_coverage.specs.Done.{IsParentsFirst, AreRanked};
 use std::alloc::{AllocError, Global};
 use task_tree::Family;
 
-/// Returns the indices of all tasks, each behind that of its parent.
+/// Returns the indices of all tasks, each after that of its parent.
 pub(crate) fn parents_first(alloc: Global, family: &Family) -> Result<Vec<usize>, AllocError>
     ensures { IfOk result (λ order. (records : List Record) → IsFamilyOf records family.now
         → IsParentsFirst family.now order.items) }

@@ -128,10 +128,10 @@ pub fn find_known<'a>(alloc: Global, teams: &'a Teams<'a>) -> Result<Known<'a>, 
 
 /// Returns, of the tasks that the end with this number in the tasks' own order covers, and that are
 /// unfinished there, the one created first in the file (OpenMP 5.2, 15.3 to 15.5). Returns none if all are
-/// finished, or if the record ends no wait. The contract says this if the lengths are those from which on
-/// the tasks are finished, or, with right entries, those from which on their credit is held (F. Mattern,
-/// 1989). Takes a few steps, and where a task is unfinished a few for each record and memory linear in the
-/// records. Fails only when out of memory.
+/// finished, or if the record ends no wait. The contract guarantees this if the lengths are those from
+/// which on the tasks are finished, or, with right entries, those from which on their credit is held (F.
+/// Mattern, 1989). Takes a few steps, and where a task is unfinished a few for each record and memory
+/// linear in the records. Fails only when out of memory.
 pub fn find_open(alloc: Global, known: &Known, number: usize) -> Result<Option<u64>, Fault>
     requires { number < length known.now.done.teams.run.records }
     ensures first { AreDone known.now.done → IfOk result (λ found.
@@ -179,9 +179,9 @@ pub(crate) fn open_at(
 }
 
 /// Returns whether the end with this number in the tasks' own order covers the task, and the task is
-/// unfinished there (OpenMP 5.2, 15.3 to 15.5). The contract says this if the lengths are those from which
-/// on the tasks are finished. Takes a few steps for each record, and memory linear in the records. Fails
-/// only when out of memory.
+/// unfinished there (OpenMP 5.2, 15.3 to 15.5). The contract guarantees this if the lengths are those from
+/// which on the tasks are finished. Takes a few steps for each record, and memory linear in the records.
+/// Fails only when out of memory.
 pub fn is_open(alloc: Global, known: &Known, number: usize, task: u64) -> Result<bool, Fault>
     requires { number < length known.now.done.teams.run.records }
     ensures open { AreDone known.now.done → IfOk result (λ found.

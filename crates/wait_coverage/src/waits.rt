@@ -109,7 +109,7 @@ impl<'a> Search<'a> {
         Search { teams, wait }
     }
 
-    /// Returns by index of the task whether it is waited for. Requires an order that has each task behind
+    /// Returns by index of the task whether it is waited for. Requires an order that has each task after
     /// its parent.
     pub(crate) fn find_awaited(
         &self,
