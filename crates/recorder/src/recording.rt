@@ -23,8 +23,8 @@ use std::sync::Wait;
 use thread_buffers::Buffer;
 
 /// The recorder of one thread. Its calls are the callbacks of an OMPT tool (OpenMP 5.2, 19.5.2): each that
-/// succeeds appends one record. Schedules, discards, the ends of regions and [`Recorder::meet`] use the
-/// ledger that all threads share; no other call does.
+/// succeeds appends one record. Schedules, discards, the ends of regions and [`Recorder::meet`] look at the
+/// ledger that all threads share or add to it, and may wait for their turn there; no other call waits.
 #[derive(Drop)]
 pub struct Recorder {
     alloc: Global,
