@@ -10,7 +10,7 @@ use Rattle.thread_buffers.specs.Buffers.{BufferView}
 use Rattle.recorder.specs.Logs.{AreOrderly, AreRecorded, known_of}
 use Rattle.recorder.specs.Recorders.{RecorderView, HaveEntries, IsBacked}
 
--- what clauses see of closed recorders
+-- the view of closed recorders
 pub record ClosedView : Type 0 where
   pub entries : List Entry
   pub buffers : List BufferView
@@ -19,24 +19,25 @@ pub record ClosedView : Type 0 where
 abbrev pub thread_of : BufferView → ℕ × List Record
 thread_of b = (b.thread, b.records)
 
--- the same of a recorder that is not closed yet
+-- the same for a recorder that is not closed yet
 abbrev pub recorded_by : RecorderView → ℕ × List Record
 recorded_by r = (r.thread, r.records)
 
--- the buffer's records are at most 2^22 that one recorder made, in their order; none names more of the
--- ledger than it has, and the entry that a finishing record makes stands at the index that the record names
+-- the buffer's records are at most 2^22 that one recorder made, in their order; none names a greater length
+-- than that of the ledger, and the entry that a finishing record makes is at the index that the record
+-- names
 pub record IsBuffer (entries : List Entry) (b : BufferView) : Type 0 where
   pub few : length b.records ≤ max_records
   pub orderly : AreOrderly b.thread b.records
   pub known : known_of b.records ≤ length entries
   pub entered : HaveEntries b.records entries
 
--- each buffer is such a one, and they are sorted by thread number
+-- each buffer satisfies this, and they are sorted by thread number
 pub record AreClosed (closed : ClosedView) : Type 0 where
   pub buffers : All (IsBuffer closed.entries) closed.buffers
   pub sorted : IsNonDecreasingBy (λ (b : BufferView). b.thread) closed.buffers
 
--- the seat and the buffer are those of the recorder, and what always holds of a recorder holds of them
+-- the seat and the buffer are those of the recorder, and the invariant of a recorder holds for them
 pub record IsPart (r : RecorderView) (seat : Seat) (b : BufferView) : Type 0 where
   pub ledger : seat_id seat ≡ r.ledger
   pub seat_is : view_of seat ≡ r.seat
@@ -45,7 +46,7 @@ pub record IsPart (r : RecorderView) (seat : Seat) (b : BufferView) : Type 0 whe
   pub recorded : AreRecorded r.thread r.records r.known
   pub backed : IsBacked r.records r.known r.seat
 
--- the recorders taken apart: the seats and the buffers are in the order of the recorders
+-- the seats and the buffers of the recorders, in the order of the recorders
 abbrev pub AreParts : List RecorderView → List Seat → List BufferView → Type 0
 AreParts [] [] [] = ⊤
 AreParts (r ∷ recorders) (seat ∷ seats) (b ∷ buffers) = IsPart r seat b × AreParts recorders seats buffers

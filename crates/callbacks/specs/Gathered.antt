@@ -21,15 +21,15 @@ use Rattle.callbacks.specs.Closed.{ClosedView}
 abbrev pub gathered : List BufferView → List Record
 gathered buffers = flat_map (λ (b : BufferView). b.records) buffers
 
--- no two buffers have one thread number
+-- no two buffers have the same thread number
 abbrev pub HaveOwnThreads : List BufferView → Type 0
 HaveOwnThreads buffers =
     (i j : ℕ) (a b : BufferView) → i < j → slice_get buffers i ≡ Some a → slice_get buffers j ≡ Some b
     → a.thread ≢ b.thread
 
--- the finishing records and the ledger's entries pair off one to one: an entry stands at an index exactly if
--- a finishing record names that index and has the entry's thread, task, part and claim; and no two finishing
--- records name the same index
+-- the finishing records and the ledger's entries pair off one to one: there is an entry at an index if and
+-- only if a finishing record names that index and has the entry's thread, task, part and claim; and no two
+-- finishing records name the same index
 pub record ArePaired (closed : ClosedView) : Type 0 where
   pub ledger : IsLedgerOf (gathered closed.buffers) closed.entries
   pub once : IsFreeOf (gathered closed.buffers) EntryTwice
@@ -44,8 +44,8 @@ count_of Entries rs = entries_in rs
 count_of Records rs = length rs
 count_of Tasks rs = tasks_in rs
 
--- why there is no trace: two buffers have one thread number, or the finishing records and the entries do not
--- pair off; else there are too many records or tasks; else memory is short
+-- why there is no trace: two buffers have the same thread number, or the finishing records and the entries
+-- do not pair off; else there are too many records or tasks; else out of memory
 pub data IsGatherFault (closed : ClosedView) : CallFault → Type 0 where
   unpaired : (HaveOwnThreads closed.buffers → ArePaired closed → ⊥) → IsGatherFault closed WrongState
   too_many : HaveOwnThreads closed.buffers → ArePaired closed → (IsWithinLimits (gathered closed.buffers) → ⊥)
@@ -54,8 +54,8 @@ pub data IsGatherFault (closed : ClosedView) : CallFault → Type 0 where
       → IsGatherFault closed Memory
 
 -- a task goes from record a to record b: it is created at a, and starts, is discarded or has its event
--- fulfilled at b; or it is suspended at a, and runs on at b. All the program's steps are such ones, but for
--- those from record to record of one thread
+-- fulfilled at b; or it is suspended at a, and runs on at b. All steps of the program are of these kinds,
+-- except those from record to record of one thread
 pub data IsHandOver (rs : List Record) (a b : ℕ) : Type 0 where
   started : (task : ℕ) → at created rs a ≡ Some task → IsStart rs b task → IsHandOver rs a b
   was_discarded : (task : ℕ) → at created rs a ≡ Some task → at discarded rs b ≡ Some task → IsHandOver rs a b
@@ -63,6 +63,6 @@ pub data IsHandOver (rs : List Record) (a b : ℕ) : Type 0 where
   runs_on : IsResumption rs a b → IsHandOver rs a b
 
 -- wherever a task goes from a to b, record b names at least the ledger length that a names. Between two
--- threads a note sees to that, which is given after a and met before b
+-- threads a note that is given after a and met before b ensures this
 abbrev pub AreHandedOver : List Record → Type 0
 AreHandedOver rs = (a b : ℕ) → IsHandOver rs a b → seen_at rs a ≤ seen_at rs b

@@ -1,4 +1,4 @@
-//! The end of recording: all recorders of a ledger are closed with it.
+//! The end of recording: the ledger and all its recorders are closed.
 ghost use Rattle.std.specs.Prelude.{◌≡◌, ◌≤◌, [], ℕ, List, All, length, map, IfOk, IfErr};
 ghost use Rattle.std.specs.List.Sorted.{IsPermutation, IsNonDecreasingBy};
 ghost use Rattle.std.specs.Vec.{vec_capacity};
@@ -16,7 +16,7 @@ use std::marker::Model;
 use std::sync::Wait;
 use thread_buffers::Buffer;
 
-/// What closed recorders leave: the ledger, and the records of each thread, by the numbers of the threads.
+/// What closed recorders leave: the ledger, and the records of each thread, sorted by thread number.
 #[derive(Drop)]
 pub struct Closed {
     ledger: Ledger,
@@ -35,14 +35,14 @@ impl Model for Closed {
 }
 
 impl Closed {
-    /// The ledger, after its last call.
+    /// Returns the ledger, as it is after its last call.
     pub fn ledger(&self) -> &Ledger
         ensures { result.now ≡ self.now.entries }
     {
         &self.ledger
     }
 
-    /// The records of each thread, by the numbers of the threads.
+    /// Returns the records of each thread, sorted by thread number.
     pub fn buffers(&self) -> &[Buffer]
         ensures buffers { result.now ≡ self.now.buffers }
         ensures are_closed { AreClosed self.now }
@@ -50,7 +50,7 @@ impl Closed {
         self.buffers.as_slice()
     }
 
-    /// The records of each thread, for good.
+    /// Returns the records of each thread, sorted by thread number, and drops the ledger.
     pub(crate) fn into_buffers(self) -> Vec<Buffer>
         ensures buffers { result.items ≡ self.buffers }
         ensures are_closed { AreClosed self }
@@ -59,9 +59,10 @@ impl Closed {
     }
 }
 
-/// Ends the recording: these recorders of the ledger are closed, and with them the ledger, which takes its turn
-/// a last time. Give it all of them: [`gather`](crate::gather) refuses where an entry was made by none of them.
-/// Refused for memory alone, before a seat is touched: the ledger and the recorders come back as they were.
+/// Ends the recording: closes these recorders of the ledger, and the ledger, which takes its turn a last
+/// time. Pass all recorders of the ledger: [`gather`](crate::gather) fails if an entry was made by none of
+/// them. Fails only when out of memory, before a seat is touched, and returns the ledger and the recorders
+/// as they were.
 pub fn close_all<R: Wait>(
     alloc: Global,
     ledger: SharedLedger,
@@ -92,7 +93,7 @@ pub fn close_all<R: Wait>(
     Ok(Closed { ledger, buffers })
 }
 
-/// The seats and the records of the recorders, in their order. There is room for them.
+/// Returns the seats and the records of the recorders, in their order. Requires room for them.
 fn take_apart(
     recorders: Vec<Recorder>,
     seats: Vec<Seat>,
@@ -115,7 +116,7 @@ fn take_apart(
     (seats, buffers)
 }
 
-/// The buffers by the numbers of their threads.
+/// Returns the buffers, sorted by thread number.
 fn by_thread(buffers: Vec<Buffer>) -> Vec<Buffer>
     ensures permutation { IsPermutation buffers.items result.items }
     ensures sorted { IsNonDecreasingBy (λ b. b.thread) result.items }

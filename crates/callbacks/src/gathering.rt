@@ -31,7 +31,7 @@ pub(crate) enum Counted {
 }
 
 impl Counted {
-    /// How many of them there are.
+    /// Returns how many of them the records have.
     fn count(self, records: &[Record]) -> usize
         ensures { result ≡ count_of self records.now }
     {
@@ -48,8 +48,8 @@ impl Counted {
         }
     }
 
-    /// How many more there may be, up to a limit, beside those in the buffers; none where these are too
-    /// many.
+    /// Returns how many more there may be, up to a limit, beside those in the buffers. Returns none if
+    /// these are too many.
     fn left(self, buffers: &[Buffer], limit: usize) -> Option<usize>
         ensures { MatchOption result (limit < count_of self (gathered buffers.now))
             (λ left. left + count_of self (gathered buffers.now) ≡ limit) }
@@ -66,7 +66,8 @@ impl Counted {
     }
 }
 
-/// Whether no two buffers have one thread number.
+/// Returns whether no two buffers have the same thread number. Requires that the buffers are sorted by
+/// thread number.
 fn are_apart(buffers: &[Buffer]) -> bool
     requires { IsNonDecreasingBy (λ b. b.thread) buffers.now }
     ensures { IsTrue result ↔ HaveOwnThreads buffers.now }
@@ -80,8 +81,8 @@ fn are_apart(buffers: &[Buffer]) -> bool
 }
 
 impl Closed {
-    /// Whether no two buffers have one thread number, and the finishing records and the ledger's entries
-    /// pair off one to one.
+    /// Returns whether no two buffers have the same thread number, and the finishing records and the
+    /// ledger's entries pair off one to one.
     fn is_paired(&self) -> bool
         ensures { IsTrue result ↔ (HaveOwnThreads self.now.buffers × ArePaired self.now) }
     {
@@ -91,7 +92,7 @@ impl Closed {
         self.are_as_many()
     }
 
-    /// Whether the records make as many entries as the ledger has.
+    /// Returns whether the records make as many entries as the ledger has.
     fn are_as_many(&self) -> bool
         ensures { IsTrue result ↔ (entries_in (gathered self.now.buffers) ≡ length self.now.entries) }
     {
@@ -102,7 +103,7 @@ impl Closed {
         }
     }
 
-    /// Whether there are no more records and tasks than a trace may have.
+    /// Returns whether there are no more records and tasks than a trace may have.
     fn is_within(&self) -> bool
         ensures { IsTrue result ↔ IsWithinLimits (gathered self.now.buffers) }
     {
@@ -112,15 +113,15 @@ impl Closed {
     }
 }
 
-/// The trace of closed recorders, of version 2: the records of each thread are those of its recorder, one
-/// thread after another by their numbers. It is refused as `WrongState` where two recorders have one thread
-/// number, or where an entry of the ledger was made by none of these records, as where a recorder of the
-/// ledger is missing; as `Full` where there are more than 2^22 records or 2^20 tasks; and else for memory.
-/// Refused, the closed recorders come back as they were.
+/// Returns the trace of closed recorders, of version 2: the records of each thread are those of its
+/// recorder, one thread after another by thread number. Fails with `WrongState` if two recorders have the
+/// same thread number, or if an entry of the ledger was made by none of these records, for example because
+/// a recorder of the ledger is missing. Else fails with `Full` if there are more than 2^22 records or 2^20
+/// tasks, or with `Memory`. When it fails, it returns the closed recorders as they were.
 ///
-/// A trace that is gathered has none of the causes `SeqGap`, `EntryTwice`, `LengthAhead` and `TargetTask`,
-/// and no `NestedParallel` where no task is made twice. It has no `LengthBack` where each task that was
-/// created or suspended on another thread was handed over with a note that was met.
+/// A gathered trace has none of the causes `SeqGap`, `EntryTwice`, `LengthAhead` and `TargetTask`, and no
+/// `NestedParallel` if no task is made twice. It has no `LengthBack` if each task that was created or
+/// suspended on another thread was handed over with a note that was met.
 pub fn gather(alloc: Global, closed: Closed) -> Result<Trace, (Closed, CallFault)>
     ensures trace { IfOk result (λ trace. trace ≡ record { version = 2; records = gathered closed.buffers }) }
     ensures apart { OnOk result (HaveOwnThreads closed.buffers) }
@@ -141,7 +142,8 @@ pub fn gather(alloc: Global, closed: Closed) -> Result<Trace, (Closed, CallFault
     }
 }
 
-/// The trace of closed recorders that have one.
+/// Returns the trace of closed recorders. Fails only when out of memory. Requires that they are within the
+/// limits of a trace.
 fn joined(alloc: Global, closed: Closed) -> Result<Trace, (Closed, CallFault)>
     requires { IsWithinLimits (gathered closed.buffers) }
     ensures trace { IfOk result (λ trace. trace ≡ record { version = 2; records = gathered closed.buffers }) }
@@ -156,7 +158,7 @@ fn joined(alloc: Global, closed: Closed) -> Result<Trace, (Closed, CallFault)>
 }
 
 impl Closed {
-    /// Why there is no trace of these, before it needs memory.
+    /// Fails if there is no trace of these recorders, for a reason other than memory.
     fn test(&self) -> Result<(), CallFault>
         ensures apart { OnOk result (HaveOwnThreads self.now.buffers) }
         ensures paired { OnOk result (ArePaired self.now) }
@@ -172,7 +174,7 @@ impl Closed {
         Ok(())
     }
 
-    /// How many records there are.
+    /// Returns how many records there are.
     fn record_count(&self) -> usize
         requires { IsWithinLimits (gathered self.now.buffers) }
         ensures { result ≡ length (gathered self.now.buffers) }
@@ -184,7 +186,7 @@ impl Closed {
     }
 }
 
-/// The trace of records that are one.
+/// Returns the trace of these records. Requires that they are those of a trace of version 2.
 fn trace_of(records: Vec<Record>) -> Trace
     requires { IsTraceOf 2 records.items }
     ensures { result ≡ record { version = 2; records = records.items } }
@@ -195,7 +197,7 @@ fn trace_of(records: Vec<Record>) -> Trace
     }
 }
 
-/// The records of all buffers, one thread after another. There is room for them.
+/// Returns the records of all buffers, one thread after another. Requires room for them.
 fn concatenated(buffers: Vec<Buffer>, records: Vec<Record>) -> Vec<Record>
     requires empty { records.items ≡ [] }
     requires fits { length (gathered buffers.items) ≤ vec_capacity records }
@@ -209,7 +211,7 @@ fn concatenated(buffers: Vec<Buffer>, records: Vec<Record>) -> Vec<Record>
     records
 }
 
-/// Puts more records behind these. There is room for them.
+/// Appends more records to these. Requires room for them.
 fn append(records: &mut Vec<Record>, more: Vec<Record>)
     requires { length records.old.items + length more.items ≤ vec_capacity records.old }
     ensures items { records.new.items ≡ records.old.items ++ more.items }

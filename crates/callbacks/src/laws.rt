@@ -1,5 +1,6 @@
-//! What a gathered trace is free of, and when its finishing records pair off with the ledger's entries: laws
-//! over the definitions alone, proved for whatever closed recorders leave. The functions do nothing.
+//! Which causes a gathered trace does not have, and when its finishing records pair off with the ledger's
+//! entries. These are laws about the definitions alone, proved for whatever closed recorders leave. The
+//! functions do nothing.
 ghost use Rattle.std.specs.Prelude.{◌≡◌, ◌↔◌, length};
 ghost use Rattle.ompt_events.specs.declared.cause.Cause.TheVariants.{SeqGap, CreatedTwice, NestedParallel};
 ghost use Rattle.ompt_events.specs.declared.cause.Cause.TheVariants.{EntryTwice, LengthAhead, LengthBack};
@@ -8,7 +9,8 @@ ghost use Rattle.ompt_events.specs.Causes.{IsFreeOf, entries_in};
 ghost use Rattle.callbacks.specs.Closed.{ClosedView, AreClosed};
 ghost use Rattle.callbacks.specs.Gathered.{gathered, HaveOwnThreads, ArePaired, AreHandedOver};
 
-/// Each thread's records have the numbers 0, 1, 2 and so on, if no two recorders have one thread number.
+/// Each thread's records have the numbers 0, 1, 2 and so on, if no two recorders have the same thread
+/// number.
 pub fn threads_are_numbered()
     ensures { (closed : ClosedView) → AreClosed closed → HaveOwnThreads closed.buffers
         → IsFreeOf (gathered closed.buffers) SeqGap }
@@ -19,35 +21,37 @@ pub fn no_task_is_on_a_device()
     ensures { (closed : ClosedView) → AreClosed closed → IsFreeOf (gathered closed.buffers) TargetTask }
 {}
 
-/// No parallel region is inside another one, if no two recorders have one thread number and no task is made
-/// twice.
+/// No parallel region is inside another one, if no two recorders have the same thread number and no task is
+/// made twice.
 pub fn no_region_is_nested()
     ensures { (closed : ClosedView) → AreClosed closed → HaveOwnThreads closed.buffers
         → IsFreeOf (gathered closed.buffers) CreatedTwice
         → IsFreeOf (gathered closed.buffers) NestedParallel }
 {}
 
-/// No two finishing records name the same entry of the ledger, if no two recorders have one thread number.
+/// No two finishing records name the same entry of the ledger, if no two recorders have the same thread
+/// number.
 pub fn no_entry_is_named_twice()
     ensures { (closed : ClosedView) → AreClosed closed → HaveOwnThreads closed.buffers
         → IsFreeOf (gathered closed.buffers) EntryTwice }
 {}
 
-/// The finishing records and the ledger's entries pair off one to one exactly where there are as many of
-/// each, if no two recorders have one thread number.
+/// If no two recorders have the same thread number, the finishing records and the ledger's entries pair off
+/// one to one if and only if there are as many of each.
 pub fn as_many_records_pair_off()
     ensures { (closed : ClosedView) → AreClosed closed → HaveOwnThreads closed.buffers
         → (entries_in (gathered closed.buffers) ≡ length closed.entries) ↔ ArePaired closed }
 {}
 
-/// Where they pair off, no record names more of the ledger than there is.
+/// If no two recorders have the same thread number and these pair off, no record names a greater length
+/// than that of the ledger.
 pub fn no_length_is_ahead()
     ensures { (closed : ClosedView) → AreClosed closed → HaveOwnThreads closed.buffers → ArePaired closed
         → IsFreeOf (gathered closed.buffers) LengthAhead }
 {}
 
-/// No record names a shorter ledger than one that the program puts before it, if no two recorders have one
-/// thread number and each task is handed over with a note.
+/// No record names a lesser length than one that the program puts before it, if no two recorders have the
+/// same thread number and each task is handed over with a note.
 pub fn lengths_never_fall()
     ensures { (closed : ClosedView) → AreClosed closed → HaveOwnThreads closed.buffers
         → AreHandedOver (gathered closed.buffers) → IsFreeOf (gathered closed.buffers) LengthBack }

@@ -1,9 +1,9 @@
 //! OMPT's callbacks as library calls (OpenMP 5.2, 19.5.2): recorders for the threads of a program, and the
 //! trace that is gathered from them.
 //!
-//! A program makes its calls on a `Recorder` for each thread and hands `TaskData` values to them;
+//! A program makes its calls on a `Recorder` for each thread and passes `TaskData` values to them.
 //! `close_all` ends the ledger and all recorders, and `gather` makes the trace that an auditor takes.
-//! docs/RECORDER.md has a worked program.
+//! docs/RECORDER.md has a worked program. Read `closed` first, then `gathering` and `laws`.
 #![tactic(auto)]
 
 mod closed;

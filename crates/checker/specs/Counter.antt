@@ -1,4 +1,4 @@
--- The order of all records in which one stands as early as it can, and what it shows of a task.
+-- The order of all records in which one is as early as possible, and what it shows of a task.
 use Rattle.std.specs.Prelude.{ℕ, ◌≡◌, ◌<◌, ◌≤◌, ◌⊎◌, ◌↔◌, ⊤, ltb, Bool, false, List, [], ◌∷◌, ◌++◌, Contains}
 use Rattle.std.specs.Prelude.{Option, Some, None, MatchOption, length, slice_index}
 use Rattle.std.specs.Option.{option_map_or}
@@ -15,8 +15,8 @@ use Rattle.checker.specs.Readings.{Reading, by_task, IsRequiredBy}
 use Rattle.checker.specs.Verdicts.{ShowsNone, IsMissed, task_of}
 use Rattle.checker.specs.Search.{IsClear}
 
--- the records that happen before i, again and again the first in file order of which all that happens before
--- it stands; then i; then the others in the same manner
+-- first the records that happen before i, each time the first in file order whose predecessors are all
+-- placed; then i; then the others in the same manner
 pub record IsEarliestOrder (rs : List Record) (i : ℕ) (order : List ℕ) : Type 0 where
   pub before : List ℕ
   pub after : List ℕ
@@ -25,8 +25,8 @@ pub record IsEarliestOrder (rs : List Record) (i : ℕ) (order : List ℕ) : Typ
   pub before_greedy : IsGreedyAfter rs (λ a. HappensBefore rs a i) [] before
   pub after_greedy : IsGreedyAfter rs (λ _. ⊤) (before ++ i ∷ []) after
 
--- no record shows a cause, the task must be complete at i, and in this order it isn't: that in which i is
--- earliest
+-- no record shows a cause, the task must be complete at i, and it isn't in this order, in which i is as
+-- early as possible
 pub record IsCounterOrderBy (reading : Reading) (i task : ℕ) (order : List ℕ) : Type 0 where
   pub well_formed : ShowsNone reading
   pub required : IsRequiredBy reading i task
@@ -38,25 +38,25 @@ pub record IsCounterOrderBy (reading : Reading) (i task : ℕ) (order : List ℕ
 abbrev pub HasNoCounterOrderBy : Reading → ℕ → ℕ → Type 0
 HasNoCounterOrderBy reading i task = ShowsNone reading → IsMissed reading i task → ⊥
 
--- an order was asked for that leaves the task incomplete at i: this is it, or there is none
+-- the result of a search for an order that leaves the task incomplete at i: this order, or there is none
 abbrev pub IsCounterBy : Reading → ℕ → ℕ → Option (List ℕ) → Type 0
 IsCounterBy reading i task found =
     MatchOption found (HasNoCounterOrderBy reading i task) (IsCounterOrderBy reading i task)
 
--- with a no goes an order that leaves its task incomplete at its record, and with no other verdict
+-- a no has an order that leaves its task incomplete at its record; other verdicts have none
 abbrev pub IsShownBy : Reading → Verdict → Option (List ℕ) → Type 0
 IsShownBy reading (No i why) (Some order) = IsCounterOrderBy reading i (task_of why) order
 IsShownBy reading (No i why) None = ⊥
 IsShownBy reading verdict (Some order) = ⊥
 IsShownBy reading verdict None = ⊤
 
--- the same of a trace as it is meant, by each task's own order
+-- such an order by each task's own order, as a trace is meant
 abbrev pub IsCounterOrder : List Record → ℕ → ℕ → List ℕ → Type 0
 IsCounterOrder rs = IsCounterOrderBy (by_task rs)
 
 -- ---- what the search for it knows
 
--- what clauses see of a run in its order
+-- the view of a run with the order of its records
 pub record OrderedView : Type 0 where
   pub ledger : MakersView
   pub order : List ℕ
@@ -68,11 +68,11 @@ pub record IsOrdered (ordered : OrderedView) : Type 0 where
   pub linearization : IsLinearization ordered.ledger.run.records ordered.order
   pub greedy : IsGreedy ordered.ledger.run.records ordered.order
 
--- whether the record at i stands below the bound of its thread
+-- whether the record at i is below the bound of its thread
 abbrev pub is_below : List Record → List ℕ → ℕ → Bool
 is_below rs bounds i = option_map_or (λ thread. ltb i (slice_index bounds thread)) (thread_at rs i) false
 
--- by thread a place: of the thread's records just those below it happen before i
+-- by thread a bound: just those records of the thread that are below it happen before i
 pub record AreBounds (rs : List Record) (i : ℕ) (bounds : List ℕ) : Type 0 where
   pub all : (a thread : ℕ) → thread_at rs a ≡ Some thread → thread < length bounds
   pub each : (a thread : ℕ) → thread_at rs a ≡ Some thread
@@ -99,12 +99,12 @@ pub record AreEarlierInThread (rs : List Record) (i : ℕ) (bounds : List ℕ) :
   pub earlier : (a : ℕ) → a < i → thread_at rs a ≡ thread_at rs i → IsBelow rs bounds a
   pub only : (a : ℕ) → IsBelow rs bounds a → (a < i) × (thread_at rs a ≡ thread_at rs i)
 
--- the record makes one of so many entries
+-- the record makes an entry below this length
 abbrev pub MakesBelow : List Record → ℕ → ℕ → Type 0
 MakesBelow rs entries c = IsFinishing rs c × (seen_at rs c < entries)
 
 -- the bounds were raised to each record with the property, and no further: just those records, and earlier
--- ones of their threads, came below
+-- ones of their threads, were added below
 pub record AreRaisedTo (rs : List Record) (has : ℕ → Type 0) (old new : List ℕ) : Type 0 where
   pub kept : (a : ℕ) → IsBelow rs old a → IsBelow rs new a
   pub raised : (c : ℕ) → has c → IsBelow rs new c

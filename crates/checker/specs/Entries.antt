@@ -9,21 +9,22 @@ use Rattle.task_tree.specs.Runs.{RunView, IsRun}
 use Rattle.checker.specs.Suspensions.{AreSuspensions}
 use Rattle.checker.specs.declared.suspensions.Suspensions.{Suspensions}
 
--- of the first n records each finishing one stands at its entry, where the table has it; where no record
--- stands, the number of records does
+-- each finishing one of the first n records is at its entry in the table, if the table has that entry; an
+-- entry without a record has the number of records
 pub record AreEntryPlaces (rs : List Record) (n : ℕ) (makers : List ℕ) : Type 0 where
   pub each : (i : ℕ) → i < n → IsFinishing rs i → seen_at rs i < length makers
       → slice_index makers (seen_at rs i) ≡ i
   pub only : (entry : ℕ) → entry < length makers → slice_index makers entry < length rs
       → IsFinishing rs (slice_index makers entry) × (seen_at rs (slice_index makers entry) ≡ entry)
 
--- what clauses see of the ledger of a run, and of where its tasks are suspended
+-- the view of the ledger of a run, and of where its tasks are suspended
 pub record MakersView : Type 0 where
   pub run : RunView
   pub places : List ℕ
   pub suspensions : Suspensions
 
--- the table has each entry of the run's ledger, whose lengths are those that records name
+-- the table has each entry of the run's ledger, no entry is made twice, and no record names a greater
+-- length
 pub record IsLedger (ledger : MakersView) : Type 0 where
   pub run : IsRun ledger.run
   pub makers : AreEntryPlaces ledger.run.records (length ledger.run.records) ledger.places

@@ -13,12 +13,12 @@ use Rattle.checker.specs.Schedule.{Awaits}
 abbrev pub entries_before : List Record → ℕ → ℕ
 entries_before rs n = entries_in (take n rs)
 
--- the record names no more than so many entries, and makes the next one if it makes any
+-- the record names no more than this many entries, and makes the next one if it makes any
 pub record FitsBehind (rs : List Record) (i entries : ℕ) : Type 0 where
   pub named : seen_at rs i ≤ entries
   pub own : IsFinishing rs i → seen_at rs i ≡ entries
 
--- the first n records stand in such an order, and make so many entries
+-- the first n records are in such an order, and make this many entries
 pub record AreInOrder (rs : List Record) (n entries : ℕ) (known : List ℕ) : Type 0 where
   pub count : entries ≡ entries_before rs n
   pub short : entries ≤ n
@@ -27,7 +27,7 @@ pub record AreInOrder (rs : List Record) (n entries : ℕ) (known : List ℕ) : 
   pub is_known : AreKnownLengths rs n known
   pub free : (k : ℕ) → k < n → IsBehind rs k → ⊥
 
--- what is kept of a task is a record at which it is suspended, and the turn that ends there; or the number of
+-- what is kept of a task: a record at which it is suspended, and the turn that ends there; or the number of
 -- records
 abbrev pub AreLastSuspensions : List Record → List ℕ → List Suspension → Type 0
 AreLastSuspensions rs tasks lasts =

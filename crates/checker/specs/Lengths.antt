@@ -9,7 +9,7 @@ use Rattle.checker.specs.Schedule.{Awaits}
 abbrev pub PrecedesAwaited : List Record → ℕ → Type 0
 PrecedesAwaited rs i = (c : ℕ) × Awaits rs i c × (seen_at rs i < seen_at rs c)
 
--- what each thread knew last, by its first n records: none of these knew more
+-- by thread the greatest length known after one of its records among the first n; 0 if there is none
 pub record AreKnownLengths (rs : List Record) (n : ℕ) (known : List ℕ) : Type 0 where
   pub all : length known ≡ 256
   pub most : (k thread : ℕ) → k < n → thread_at rs k ≡ Some thread

@@ -1,6 +1,6 @@
--- What a check answers. Read Readings first: what a trace shows and demands; then Verdicts: what a yes, a no
--- and a malformed say; then Starts: which tasks must be complete where a task starts. The others say what the
--- phases of the check know while they run.
+-- What a check returns. Read Readings first: what a trace shows and requires; then Verdicts: what a yes, a
+-- no and a malformed say; then Starts: which tasks must be complete where a task starts. The others define
+-- what the phases of the check know while they run.
 pub mod Readings
 pub mod Verdicts
 pub mod Search

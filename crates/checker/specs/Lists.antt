@@ -1,7 +1,7 @@
--- Places in lists, one list for each key, each in rising order.
+-- Places in linked lists, one list for each key, each in rising order.
 use Rattle.std.specs.Prelude.{ℕ, ◌≡◌, ◌<◌, ◌≤◌, ◌+◌, List, length, Option, Some, slice_index}
 
--- the first of n places from one on that has the key; n where there is none
+-- of n places the first one, from a place on, that has the key; n if there is none
 pub record IsNextWith (key : ℕ → Option ℕ) (n k from next : ℕ) : Type 0 where
   pub behind : from ≤ next
   pub within : next ≤ n
@@ -14,7 +14,7 @@ pub record AreLists (key : ℕ → Option ℕ) (n from : ℕ) (firsts nexts : Li
   pub next : (i k : ℕ) → from ≤ i → i < n → key i ≡ Some k
       → IsNextWith key n k (i + 1) (slice_index nexts i)
 
--- each of n places has a later one behind it, or the end
+-- the next place of each of n places is a later one, or the end
 pub record LeadsOn (n : ℕ) (nexts : List ℕ) : Type 0 where
   pub all : length nexts ≡ n
   pub later : (i : ℕ) → i < n → i < slice_index nexts i

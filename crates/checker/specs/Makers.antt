@@ -1,4 +1,4 @@
--- The ledger's entries while they are looked for.
+-- The ledger's entries during the search for the records that make them.
 use Rattle.std.specs.Prelude.{◌≡◌, ◌<◌, ◌↔◌, ℕ, Bool, true, List, length, nat_lt, slice_index, if◌then◌else◌}
 use Rattle.std.specs.Ordering.{nat_cmp}
 use Rattle.std.specs.BTreeSet.{contains}
@@ -9,7 +9,8 @@ use Rattle.ompt_events.specs.Causes.{entries_in}
 use Rattle.checker.specs.declared.makers.Named.{Named}
 use Rattle.checker.specs.Entries.{AreEntryPlaces}
 
--- whether the entry is named so far: of so many records the table has one at it
+-- whether the entry is named so far: the table has a record for it, or it is in the set of the entries
+-- beyond
 abbrev pub is_named : ℕ → Named → ℕ → Bool
 is_named records named entry =
     if nat_lt entry (length named.makers.items) then nat_lt (slice_index named.makers.items entry) records
@@ -24,7 +25,7 @@ abbrev pub AreEntriesNamed : List Record → ℕ → Named → Type 0
 AreEntriesNamed rs n named =
     (entry : ℕ) → (is_named (length rs) named entry ≡ true) ↔ IsMadeBelow rs n entry
 
--- and each by the record that makes it, in a table that has room for the whole ledger
+-- each of them is named by the record that makes it, in a table with room for the whole ledger
 pub record IsNaming (rs : List Record) (n : ℕ) (told : Named) : Type 0 where
   pub all : length told.makers.items ≡ entries_in rs
   pub named : AreEntriesNamed rs n told

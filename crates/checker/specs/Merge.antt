@@ -1,4 +1,4 @@
--- The records while they are put into an order.
+-- The records while they are put into an order. A record stands when it is placed in the order.
 use Rattle.std.specs.Prelude.{ℕ, ◌≡◌, ◌≢◌, ◌<◌, ◌≤◌, ◌+◌, ◌==◌, ◌⊎◌, ◌++◌, ⊤, List, Contains, length, take}
 use Rattle.std.specs.Prelude.{Bool, true, Option, Some, option_and_then, option_map, slice_get, slice_index}
 use Rattle.std.specs.Option.{option_or}
@@ -17,21 +17,21 @@ use Rattle.checker.specs.Suspensions.{AreSuspensions}
 use Rattle.checker.specs.declared.suspensions.Suspensions.{Suspensions}
 use Rattle.checker.specs.declared.waiting.Waiting.{Waiting}
 
--- the record stands in the order already
+-- the record is placed already
 abbrev pub Stands : List Bool → ℕ → Type 0
 Stands placed i = slice_get placed i ≡ Some true
 
--- with a record that stands all stand that happen before it
+-- if a record is placed, so are all that happen before it
 abbrev pub IsPlacedPrefix : List Record → List Bool → Type 0
 IsPlacedPrefix rs placed = (a b : ℕ) → HappensBefore rs a b → Stands placed b → Stands placed a
 
--- the record may stand next: it doesn't stand yet, and each step that leads to it starts at one that does
+-- the record may be placed next: it isn't placed yet, and each step that leads to it starts at one that is
 pub record MayStandNext (rs : List Record) (placed : List Bool) (i : ℕ) : Type 0 where
   pub within : i < length rs
   pub missing : Stands placed i → ⊥
   pub steps : (a : ℕ) → IsStep rs a i → Stands placed a
 
--- of each thread the first record that doesn't stand; the number of records where all stand
+-- of each thread the first record that isn't placed; the number of records if all are
 pub record AreHeads (rs : List Record) (placed : List Bool) (heads : List ℕ) : Type 0 where
   pub all : (i thread : ℕ) → thread_at rs i ≡ Some thread → thread < length heads
   pub below : (thread i : ℕ) → thread_at rs i ≡ Some thread → i < slice_index heads thread → Stands placed i
@@ -39,20 +39,20 @@ pub record AreHeads (rs : List Record) (placed : List Bool) (heads : List ℕ) :
       → thread_at rs (slice_index heads thread) ≡ Some thread
   pub missing : (thread : ℕ) → thread < length heads → Stands placed (slice_index heads thread) → ⊥
 
--- each of the list may stand next where those before it in the list stand
+-- each record of the list may be placed next once those before it in the list are placed
 abbrev pub AreInTurn : List Record → List ℕ → Type 0
 AreInTurn rs order =
     (k : ℕ) → k < length order → IsReady rs (λ _. ⊤) (take k order) (slice_index order k)
 
--- the order begins with these, and goes on with the first record in file order that may stand next, until all
--- stand
+-- the order begins with these records, and then takes the first record in file order that may be placed
+-- next, until none is left
 pub record IsGreedyBehind (rs : List Record) (base order : List ℕ) : Type 0 where
   pub more : List ℕ
   pub parts : order ≡ base ++ more
   pub greedy : IsGreedyAfter rs (λ _. ⊤) base more
 
--- just those of the order stand, of each thread up to its head, and the links lead from each record to the
--- next one of its thread
+-- just the records of the order are placed, of each thread up to its head, and the links lead from each
+-- record to the next one of its thread
 pub record ArePlaced (rs : List Record) (placed : List Bool) (heads links order : List ℕ) : Type 0 where
   pub all : length placed ≡ length rs
   pub to_order : (i : ℕ) → Stands placed i → Contains order i
@@ -67,31 +67,31 @@ pub record ArePlaced (rs : List Record) (placed : List Bool) (heads links order 
   pub left : List ℕ
   pub permutation : IsPermutation (places rs) (order ++ left)
 
--- there is such a record, and it doesn't stand
+-- there is such a record, and it isn't placed
 pub record IsUnplaced (placed : List Bool) (i : ℕ) : Type 0 where
   pub within : i < length placed
   pub missing : Stands placed i → ⊥
 
--- the first record that doesn't stand
+-- the first record that isn't placed
 pub record IsFirstUnplaced (placed : List Bool) (i : ℕ) : Type 0 where
   pub unplaced : IsUnplaced placed i
   pub before : (k : ℕ) → k < i → Stands placed k
 
--- the ledger length that is reached: each entry below it is made by a record that stands; and where a record
--- names a greater length, the record that makes the next entry doesn't stand
+-- the ledger length that is reached: each entry below it is made by a record that is placed; and if a
+-- record names a greater length, the record that makes the next entry isn't placed
 pub record IsLow (rs : List Record) (placed : List Bool) (low : ℕ) : Type 0 where
   pub below : (i : ℕ) → IsFinishing rs i → seen_at rs i < low → Stands placed i
   pub next : (i : ℕ) → low < seen_at rs i → (m : ℕ) × IsFinishing rs m × (seen_at rs m ≡ low)
       × (Stands placed m → ⊥)
 
--- what is tested of the head of a thread
+-- what is tested for the head of a thread
 pub record IsReadyHead (rs : List Record) (placed : List Bool) (low i : ℕ) : Type 0 where
   pub within : i < length rs
   pub is_let : (c : ℕ) → Awaits rs i c → Stands placed c
   pub is_entered : seen_at rs i ≤ low
 
--- what is known while records are put in order: their tasks, where these are suspended, which records stand,
--- the head of each thread, and the ledger length that is reached
+-- what is known while records are put in order: their tasks, where these are suspended, which records are
+-- placed, the head of each thread, and the ledger length that is reached
 pub record IsFront (rs : List Record) (family : FamilyView) (known : Suspensions) (placed : List Bool)
     (heads : List ℕ) (low : ℕ) : Type 0 where
   pub family_of : IsFamilyOf rs family
@@ -100,17 +100,17 @@ pub record IsFront (rs : List Record) (family : FamilyView) (known : Suspensions
   pub are_heads : AreHeads rs placed heads
   pub is_low : IsLow rs placed low
 
--- the places are those that may stand next, and perhaps some that stand already
+-- the places are those that may be placed next, and perhaps some that are placed already
 pub record AreOffered (rs : List Record) (placed : List Bool) (ready : List ℕ) : Type 0 where
   pub all : (i : ℕ) → MayStandNext rs placed i → Contains ready i
   pub only : (i : ℕ) → Contains ready i → Stands placed i ⊎ MayStandNext rs placed i
 
--- some that may stand next were put to them
+-- some that may be placed next were added
 pub record AreMore (rs : List Record) (placed : List Bool) (old new : List ℕ) : Type 0 where
   pub kept : (i : ℕ) → Contains old i → Contains new i
   pub only : (i : ℕ) → Contains new i → Contains old i ⊎ MayStandNext rs placed i
 
--- one that may stand next and does not stand was taken from them, the least, and some that stand
+-- the least that may be placed next was taken out, perhaps with some that are placed already
 pub record IsPlaceTaken (rs : List Record) (placed : List Bool) (place : ℕ) (ready : List ℕ) : Type 0 where
   pub next : MayStandNext rs placed place
   pub first : (i : ℕ) → i < place → MayStandNext rs placed i → ⊥
@@ -121,7 +121,7 @@ pub record IsPlaceTaken (rs : List Record) (placed : List Bool) (place : ℕ) (r
 abbrev pub created_index : List ℕ → List Record → ℕ → Option ℕ
 created_index tasks rs i = option_and_then (λ task. position (λ t. t == task) tasks) (at awaited rs i)
 
--- behind the indices of all tasks, the slot of the turn that a task begins at each record
+-- after the indices of all tasks, the slot of the turn that a task begins at each record
 abbrev pub turn_slot : List ℕ → List Record → List ℕ → ℕ → Option ℕ
 turn_slot tasks rs rows i =
     option_and_then
@@ -137,7 +137,7 @@ key_of tasks rs rows i = option_or (created_index tasks rs i) (turn_slot tasks r
 abbrev pub named_length : List Record → ℕ → Option ℕ
 named_length rs i = option_map (λ (r : Record). r.seen) (slice_get rs i)
 
--- the lists are those of the records that await each other one, and that name each ledger length
+-- the lists of the records that await each record, and of those that name each ledger length
 pub record AreWaiting (rs : List Record) (tasks : List ℕ) (known : Suspensions)
     (waiting : Waiting) : Type 0 where
   pub awaiting : AreLists (key_of tasks rs known.rows.items) (length rs) 0 waiting.by_key.firsts.items

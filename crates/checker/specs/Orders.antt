@@ -1,4 +1,4 @@
--- The list that stands for an order.
+-- The list of places that an order is.
 use Rattle.std.specs.Prelude.{ℕ, List}
 use Rattle.std.specs.List.{range_with_len}
 use Rattle.checker.specs.declared.verdict.Places.{Places}

@@ -1,6 +1,6 @@
--- How a trace is read: in which order of its records regions, teams and the numbers of children are meant. A
--- task's own records stand in the order of its turns, which the file need not have; where no task's turns
--- fall along the file, and so in every trace without turns, both readings say the same.
+-- How a trace is read: which order of its records defines regions, teams and the numbers of children. A
+-- task's own order is that of its turns, and the file need not have it. Where no task's turns fall along
+-- the file, and so in every trace without turns, both readings say the same.
 use Rattle.std.specs.Prelude.{ℕ, ◌≡◌, ◌⊎◌, List, Some}
 use Rattle.ompt_events.specs.declared.records.Record.{Record}
 use Rattle.ompt_events.specs.declared.cause.Cause.{Cause}
@@ -13,8 +13,8 @@ use Rattle.ompt_events.specs.Coverage.{Covers}
 use Rattle.ompt_events.specs.Dependences.{IsPredecessor}
 use Rattle.ompt_events.specs.Causes.{HasCause, Shows}
 
--- the records; which causes they show; which tasks the wait that ends at a record covers; and which tasks
--- a task depends on, among its earlier siblings
+-- the records; which causes they show; which tasks the wait that ends at a record covers; and which tasks a
+-- task depends on, among its earlier siblings
 pub record Reading : Type 1 where
   pub records : List Record
   pub shows : ℕ → Cause → Type 0

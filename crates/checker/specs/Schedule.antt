@@ -34,8 +34,8 @@ pub record IsEarlierOnThread (rs : List Record) (a b : ℕ) : Type 0 where
   pub within : b < length rs
   pub same : thread_at rs a ≡ thread_at rs b
 
--- each record awaits one other at most, which happens before it; and each step of the program is one along a
--- thread or leads from a record to one that awaits it
+-- each record awaits at most one other, which happens before it; and each step of the program goes along a
+-- thread or from a record to one that awaits it
 pub record EachAwaitsOne (rs : List Record) : Type 0 where
   -- no record fulfils one task and starts another
   pub apart : (i task other : ℕ) → at fulfilled rs i ≡ Some task → at started rs i ≡ Some other → ⊥
@@ -48,7 +48,7 @@ pub record EachAwaitsOne (rs : List Record) : Type 0 where
   -- an explicit task that runs on was suspended at one record alone in the turn before
   pub once : (a b i : ℕ) (again : IsResumption rs a i) → IsExplicit rs again.task
       → at suspended_turn rs b ≡ Some (again.task, again.turn) → a ≡ b
-  -- where one record that starts a task tells no turns, none does
+  -- if one record that starts a task has no turns, no record has
   pub alike : (i k task : ℕ) → at started rs i ≡ Some task → at told_turns rs i ≡ None
       → at told_turns rs k ≡ None
 

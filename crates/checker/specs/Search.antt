@@ -1,4 +1,4 @@
--- What the searches of a check tell one another.
+-- What the phases of a check pass on to one another.
 use Rattle.std.specs.Prelude.{ℕ, ◌≡◌, ◌<◌, List, [], ◌∷◌, Contains, length}
 use Rattle.ompt_events.specs.declared.records.Record.{Record}
 use Rattle.ompt_events.specs.declared.cause.Cause.{Cause}
@@ -27,7 +27,7 @@ use Rattle.checker.specs.declared.verdict.Why.{Why}
 abbrev pub IsClear : List Record → List Cause → Type 0
 IsClear rs causes = (cause : Cause) → Contains causes cause → ShowsNowhere rs cause
 
--- what was found is the least cause that the trace shows, unless memory ran out
+-- the fault is the least cause that the trace shows, at its first record, or out of memory
 abbrev pub IsLeastFound : List Record → Fault → Type 0
 IsLeastFound rs fault = IsShownFault rs all_causes fault
 
@@ -41,33 +41,33 @@ state_causes = NotCurrent ∷ Moved ∷ TurnGap ∷ StatusOrder ∷ RegionOrder 
 abbrev pub edge_causes : List Cause
 edge_causes = NestedParallel ∷ DepsPlace ∷ ShareWrong ∷ []
 
--- the states of the run's tasks, where it shows none of these causes
+-- the states of the run's tasks; the run shows none of these causes
 pub record AreStatesOf (run : RunView) (own : OwnView) (states : StatesView) : Type 0 where
   pub of_run : states.run ≡ run
   pub of_own : states.regions.own ≡ own
   pub are : IsStates states
   pub clear : IsClear run.records state_causes
 
--- the edges between its tasks, where it shows none of those
+-- the edges between the run's tasks; the run shows none of those causes
 pub record AreEdgesOf (run : RunView) (own : OwnView) (edges : EdgesView) : Type 0 where
   pub of_run : edges.run ≡ own.run
   pub clear : IsClear run.records edge_causes
 
--- the lengths from which on the run's tasks are finished, and their credit is held where the entries are
--- right
+-- the lengths from which on the run's tasks are finished; if the entries are right, also those from which
+-- on their credit is held
 pub record IsKnownOf (own : OwnView) (known : KnownView) : Type 0 where
   pub of_own : own_of known.done.teams ≡ own
   pub done : AreDone known.done
   pub credit : HasRightEntries own.run.records → AreCreditLengths known.done
 
--- ---- what is known once ordering alone may show a cause
+-- ---- what is known once only order, ledger and TargetTask may show a cause
 
--- the trace shows none of the causes before those of the ledger
+-- the trace shows none of the causes before EntryTwice
 pub record IsSoundRun (run : RunView) : Type 0 where
   pub is_run : IsRun run
   pub clear : IsClear run.records (before EntryTwice)
 
--- what clauses see of a trace: its run, and that in the tasks' own order
+-- the view of a trace: its run, and that in the tasks' own order
 pub record SoundView : Type 0 where
   pub run : RunView
   pub own : OwnView
@@ -83,8 +83,8 @@ pub record IsSoundView (view : SoundView) : Type 0 where
 
 -- ---- the first violation
 
--- what the reading says of waits is said at its records, and at none that starts a task, or at which a
--- taskwait with dependences is complete
+-- a wait that covers a task ends at one of the records, and at none at which a task must be complete as a
+-- predecessor
 pub record IsOfRecords (reading : Reading) : Type 0 where
   pub within : (i task : ℕ) → reading.covers i task → i < length reading.records
   pub apart : (i task other : ℕ) → reading.covers i task → IsPrecededBy reading i other → ⊥
@@ -96,7 +96,7 @@ pub record IsFirstViolation (reading : Reading) (i : ℕ) (why : Why) : Type 0 w
 
 -- ---- what is known where no cause occurs
 
--- what clauses see of a trace without a cause
+-- the view of a trace without a cause
 pub record ClearView : Type 0 where
   pub run : RunView
   pub own : OwnView

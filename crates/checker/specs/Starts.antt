@@ -37,12 +37,12 @@ pub record IsFirstLateAt (rs : List Record) (i task : ℕ) : Type 0 where
 
 -- ---- what the search knows
 
--- by the entries below this length it is decided which tasks are complete at i
+-- the entries below this length decide which tasks are complete at i
 abbrev pub IsBound : List Record → ℕ → ℕ → Type 0
 IsBound rs i bound = (task : ℕ) → IsCompleteAt rs task i ↔ IsDone rs bound task
 
--- at the index of each task stands the first of the first n places at which its turn 0 begins, or the number
--- of records
+-- by index of each task the first of the first n places at which its turn 0 begins, or the number of
+-- records
 pub record AreStartsBelow (rs : List Record) (n : ℕ) (tasks starts : List ℕ) : Type 0 where
   pub all : length starts ≡ length tasks
   pub low : (index : ℕ) → index < length starts
@@ -52,32 +52,32 @@ pub record AreStartsBelow (rs : List Record) (n : ℕ) (tasks starts : List ℕ)
   pub first : (index task k : ℕ) → slice_get tasks index ≡ Some task → k < n
       → at begun_turn rs k ≡ Some (task, 0) → slice_index starts index ≤ k
 
--- of all places
+-- the same for all places
 abbrev pub AreStarts : List Record → List ℕ → List ℕ → Type 0
 AreStarts rs tasks starts = AreStartsBelow rs (length rs) tasks starts
 
--- no length is above 0
+-- all lengths are 0
 abbrev pub AreNoLengths : List ℕ → Type 0
 AreNoLengths lengths = (index : ℕ) → index < length lengths → slice_index lengths index ≡ 0
 
--- an explicit task starts at i, which stands at the index
+-- the explicit task at this index starts at i
 abbrev pub StartsAt : List Record → List ℕ → ℕ → ℕ → Type 0
 StartsAt rs tasks i index =
     (task : ℕ) × (slice_get tasks index ≡ Some task) × IsExplicit rs task × IsStart rs i task
 
--- none does
+-- no explicit task starts at i
 abbrev pub StartsNoneAt : List Record → ℕ → Type 0
 StartsNoneAt rs i = (task : ℕ) → IsExplicit rs task → IsStart rs i task → ⊥
 
--- the task at the index of the run in the tasks' own order is that whose predecessors must be complete at i,
--- and no others; the bound decides which of them are
+-- the task at the index of the run in the tasks' own order is the one whose predecessors must be complete
+-- at i, and no others; the bound decides which of them are
 pub record IsDependentAt (rs : List Record) (own : RunView) (i index bound : ℕ) : Type 0 where
   pub dependent : ℕ
   pub there : slice_get own.family.tasks index ≡ Some dependent
   pub same : (task : ℕ) → IsPrecededBy (by_task rs) i task ↔ IsPredecessor own.records dependent task
   pub bounds : (task : ℕ) → IsCompleteAt rs task i ↔ IsDone own.records bound task
 
--- there is none
+-- no predecessor must be complete at i
 abbrev pub IsPrecededByNone : List Record → ℕ → Type 0
 IsPrecededByNone rs i = (task : ℕ) → IsPrecededBy (by_task rs) i task → ⊥
 
@@ -86,13 +86,13 @@ abbrev pub IsUnfinishedPredecessor : List Record → ℕ → ℕ → ℕ → Typ
 IsUnfinishedPredecessor rs task bound predecessor =
     IsPredecessor rs task predecessor × (IsDone rs bound predecessor → ⊥)
 
--- they finish each
+-- the entries below the length finish each predecessor of the task
 abbrev pub AreDoneBefore : List Record → ℕ → ℕ → Type 0
 AreDoneBefore rs task bound = (predecessor : ℕ) → IsPredecessor rs task predecessor
     → IsDone rs bound predecessor
 
--- of those that they don't finish this one is created first in the file; own has its records in the tasks'
--- own order
+-- of the predecessors that they don't finish, this one is created first in the file; own has the file's
+-- records in the tasks' own order
 pub record IsFirstBehind (file own : List Record) (task bound predecessor : ℕ) : Type 0 where
   pub behind : IsUnfinishedPredecessor own task bound predecessor
   pub creation : ℕ
@@ -101,7 +101,7 @@ pub record IsFirstBehind (file own : List Record) (task bound predecessor : ℕ)
       → IsUnfinishedPredecessor own task bound other
       → ⊥
 
--- they don't finish the task, which is created at the place in the file
+-- the entries below the length don't finish the task, which is created at this place in the file
 abbrev pub IsBehindAt : List Record → List Record → ℕ → ℕ → ℕ → Type 0
 IsBehindAt file own bound task place = (IsDone own bound task → ⊥) × (at created file place ≡ Some task)
 
@@ -109,7 +109,7 @@ IsBehindAt file own bound task place = (IsDone own bound task → ⊥) × (at cr
 abbrev pub IsAmongFirst : List ℕ → ℕ → ℕ → Type 0
 IsAmongFirst tasks n task = (k : ℕ) × (k < n) × (slice_get tasks k ≡ Some task)
 
--- of the first n of these tasks the entries finish all, or of those that they don't finish this one is
+-- the entries finish all of the first n of these tasks; or of those that they don't finish this one is
 -- created first
 abbrev pub IsFirstOf : List Record → List Record → List ℕ → ℕ → ℕ → Option Late → Type 0
 IsFirstOf file own tasks bound n None = (task : ℕ) → IsAmongFirst tasks n task → IsDone own bound task
@@ -118,15 +118,15 @@ IsFirstOf file own tasks bound n (Some late) =
     × ((task place : ℕ) → IsAmongFirst tasks n task → IsBehindAt file own bound task place
     → late.place ≤ place)
 
--- of a late task, if there is one, and another the one that is created first
+-- of a late task, if there is one, and another, the one that is created first
 pub data IsEarlierOf (other late : Late) : Option Late → Type 0 where
   the_only : late ≡ other → IsEarlierOf other late None
   the_first : {first : Late} → late ≡ first → first.place < other.place → IsEarlierOf other late (Some first)
   the_other : {first : Late} → late ≡ other → other.place ≤ first.place → IsEarlierOf other late (Some first)
 
--- ---- what decides it
+-- ---- the tables that decide it
 
--- what clauses see of that: the run of the file, and that in the tasks' own order; by index of the task in
+-- the view of the tables: the run of the file, and that in the tasks' own order; by index of the task in
 -- its own order the length from which on it is finished, and the greatest of the lengths of its
 -- predecessors; and by index in the file where it starts, unless no task has a predecessor that an entry
 -- finishes
@@ -137,7 +137,7 @@ pub record PrecedenceView : Type 0 where
   pub latest : List ℕ
   pub starts : Option (List ℕ)
 
--- all is that of the run, whose edges are at hand
+-- all tables are those of the run that has these edges
 pub record IsPrecedence (of_edges : RunView) (known : PrecedenceView) : Type 0 where
   pub same : of_edges ≡ known.own.run
   pub file : IsRun known.file

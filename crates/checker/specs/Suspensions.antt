@@ -29,19 +29,19 @@ abbrev pub AreRowsInOrder : List ℕ → Type 0
 AreRowsInOrder rows =
     (index : ℕ) → index + 1 < length rows → slice_index rows index ≤ slice_index rows (index + 1)
 
--- each turn that begins has its slot
+-- each turn but 0 that begins has its slot
 abbrev pub HaveSlots : List Record → List ℕ → List ℕ → Type 0
 HaveSlots rs tasks rows =
     (i index turn : ℕ) → IsStartOf rs tasks i index turn → 0 < turn → HasSlot rows index turn
 
--- each of the first n records begins no turn of its task at or beyond the length of its row
+-- none of the first n records begins a turn of its task at or beyond the length of the task's row
 abbrev pub AreRowLengths : List Record → ℕ → List ℕ → List ℕ → Type 0
 AreRowLengths rs n tasks lengths =
     (i index turn : ℕ) → i < n → IsStartOf rs tasks i index turn → turn < slice_index lengths index
 
--- ---- what stands in the slots
+-- ---- what the slots hold
 
--- the slot is that of the turn behind the one in which an explicit task is suspended at i
+-- the slot is that of the turn after the one in which an explicit task is suspended at i
 pub record IsSlotBehind (rs : List Record) (tasks rows : List ℕ) (i slot : ℕ) : Type 0 where
   pub index : ℕ
   pub turn : ℕ
@@ -50,7 +50,7 @@ pub record IsSlotBehind (rs : List Record) (tasks rows : List ℕ) (i slot : ℕ
   pub has : HasSlot rows index (turn + 1)
   pub is : slot ≡ slice_index rows index + (turn + 1)
 
--- there is none
+-- there is no such slot
 abbrev pub HasNoSlotBehind : List Record → List ℕ → List ℕ → ℕ → Type 0
 HasNoSlotBehind rs tasks rows i = (slot : ℕ) → IsSlotBehind rs tasks rows i slot → ⊥
 
@@ -61,8 +61,8 @@ pub record IsEndBefore (rs : List Record) (task turn place : ℕ) : Type 0 where
   pub next : turn ≡ before + 1
   pub suspends : at suspended_turn rs place ≡ Some (task, before)
 
--- a slot has a place at which the turn before its own ends, or the number of records; and of the first n
--- records each at which an explicit task is suspended has filled its slot, if there is one
+-- a slot holds a place at which the turn before its own ends, or the number of records; and each of the
+-- first n records at which an explicit task is suspended has filled its slot, if there is one
 pub record AreTurnEnds (rs : List Record) (n : ℕ) (tasks rows places : List ℕ) : Type 0 where
   pub only : (index task turn : ℕ) → slice_get tasks index ≡ Some task → HasSlot rows index turn
       → slice_index places (slice_index rows index + turn) < length rs

@@ -1,4 +1,4 @@
--- What each verdict says of a trace, by how the trace is read.
+-- What each verdict says of a trace, by a reading of it.
 use Rattle.std.specs.Prelude.{ℕ, ◌≡◌, ◌<◌, List, Some, length}
 use Rattle.ompt_events.specs.declared.records.Record.{Record}
 use Rattle.ompt_events.specs.declared.cause.Cause.{Cause}
@@ -19,7 +19,7 @@ use Rattle.checker.specs.declared.verdict.Why.TheVariants.{Unfinished, Predecess
 abbrev pub ShowsNone : Reading → Type 0
 ShowsNone reading = (i : ℕ) (cause : Cause) → reading.shows i cause → ⊥
 
--- of the causes that records show this is the one with the least number, at the first record that shows it
+-- of the causes that records show, this is the one with the least number, at the first record that shows it
 pub record IsLeastShown (reading : Reading) (i : ℕ) (cause : Cause) : Type 0 where
   pub within : i < length reading.records
   pub shown : reading.shows i cause
@@ -28,7 +28,7 @@ pub record IsLeastShown (reading : Reading) (i : ℕ) (cause : Cause) : Type 0 w
 
 -- ---- what must be complete
 
--- what must be complete at i is, by what the record there has seen
+-- all that must be complete at i is complete, by what the record there has seen
 abbrev pub AreComplete : Reading → ℕ → Type 0
 AreComplete reading i = (task : ℕ) → IsRequiredBy reading i task → IsCompleteAt reading.records task i
 
@@ -50,7 +50,7 @@ pub record IsMissed (reading : Reading) (i task : ℕ) : Type 0 where
   pub linearization : IsLinearization reading.records order
   pub incomplete : IsCompleteIn reading.records order task i → ⊥
 
--- a wait ends at i that covers the task, which isn't complete there
+-- a wait that covers the task ends at i, and the task isn't complete there
 abbrev pub IsOpenBy : Reading → ℕ → ℕ → Type 0
 IsOpenBy reading i task = reading.covers i task × (IsCompleteAt reading.records task i → ⊥)
 
@@ -58,8 +58,8 @@ IsOpenBy reading i task = reading.covers i task × (IsCompleteAt reading.records
 abbrev pub IsLateBy : Reading → ℕ → ℕ → Type 0
 IsLateBy reading i task = IsPrecededBy reading i task × (IsCompleteAt reading.records task i → ⊥)
 
--- the first record in file order at which this is so of a task, and of these tasks the one that was created
--- first in file order
+-- the first record in file order with such a task, and of its tasks the one that was created first in file
+-- order
 pub record IsFirstSo (rs : List Record) (is_so : ℕ → ℕ → Type 0) (i task : ℕ) : Type 0 where
   pub so : is_so i task
   pub first : (k other : ℕ) → k < i → is_so k other → ⊥
@@ -85,7 +85,7 @@ pub record IsApproved (reading : Reading) (order : List ℕ) : Type 0 where
   pub always_complete : IsAlwaysComplete reading
 
 -- why the task must be complete at i: the wait that ends there covers it, or it is a predecessor of what
--- starts there
+-- starts or is complete there
 abbrev pub IsReason : Reading → ℕ → Why → Type 0
 IsReason reading i (Unfinished task) = reading.covers i task
 IsReason reading i (Predecessor task) = IsPrecededBy reading i task
@@ -101,12 +101,12 @@ pub record IsRejected (reading : Reading) (i : ℕ) (why : Why) : Type 0 where
   pub missed : IsFirstMissed reading i (task_of why)
   pub reason : IsReason reading i why
 
--- the verdict is that of the trace, read so
+-- the verdict is that of the trace by this reading
 abbrev pub IsVerdictBy : Reading → Verdict → Type 0
 IsVerdictBy reading (Yes order) = IsApproved reading order
 IsVerdictBy reading (No i why) = IsRejected reading i why
 IsVerdictBy reading (Malformed i cause) = IsLeastShown reading i cause
 
--- the verdict is that of the trace
+-- the verdict is that of the trace, by each task's own order
 abbrev pub IsVerdict : List Record → Verdict → Type 0
 IsVerdict rs = IsVerdictBy (by_task rs)

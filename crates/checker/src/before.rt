@@ -1,4 +1,4 @@
-//! What happens before a record, as one place for each thread.
+//! Which records happen before one record, as a bound for each thread.
 ghost use Rattle.std.specs.Prelude.{ℕ, ◌≡◌, ◌<◌, ◌≤◌, ◌^◌, ◌↔◌, Some, IfOk, IsTrue, length};
 ghost use Rattle.ompt_events.specs.Traces.{IsTrace};
 ghost use Rattle.checker.specs.Counter.{AreBounds, HaveAllThreads, IsBelow, AreEarlierInThread, MakesBelow, AreRaisedTo, AreAllBefore};
@@ -10,8 +10,8 @@ use crate::schedule::awaited_at;
 use std::alloc::{AllocError, Global};
 use task_tree::Run;
 
-/// What happens before the record at a place: by thread the place below which the thread's records do. It
-/// takes a few steps for each record, and memory for one number a thread.
+/// Returns by thread a bound: just those records of the thread that are below it happen before the record
+/// at the place. Takes a few steps for each record, and memory for one number a thread.
 pub(crate) fn find_before(
     alloc: Global,
     ordered: &Ordered,
@@ -29,7 +29,7 @@ pub(crate) fn find_before(
     Ok(found)
 }
 
-/// The bounds below which just the earlier records of the thread of the record at a place are.
+/// Returns bounds that have below them just the earlier records of the thread of the record at a place.
 fn bounds_in_thread(alloc: Global, run: &Run, at: usize) -> Result<Vec<u32>, AllocError>
     requires within { at < length run.now.records }
     requires is_trace { IsTrace run.now.records }
@@ -41,7 +41,7 @@ fn bounds_in_thread(alloc: Global, run: &Run, at: usize) -> Result<Vec<u32>, All
     Ok(bounds)
 }
 
-/// Raises the bounds to the records that make the entries below a ledger length.
+/// Raises the bounds so that the records that make the entries below a ledger length are below them.
 fn raise_to_makers(bounds: &mut [u32], makers: &Makers, seen: usize)
     requires all { HaveAllThreads makers.now.run.records bounds.old }
     requires reached { seen ≤ length makers.now.places }
@@ -58,8 +58,8 @@ fn raise_to_makers(bounds: &mut [u32], makers: &Makers, seen: usize)
     }
 }
 
-/// Raises the bounds to what each record below them awaits, until that is below them too. A record awaits one
-/// that stands before it in the order, so one pass from the end serves.
+/// Raises the bounds until what each record below them awaits is below them too. A record awaits one that
+/// is before it in the order, so one pass from the end is enough.
 fn raise_to_all_awaited(bounds: &mut [u32], ordered: &Ordered)
     requires { HaveAllThreads ordered.now.ledger.run.records bounds.old }
     ensures kept { (a : ℕ) → IsBelow ordered.now.ledger.run.records bounds.old a
@@ -79,7 +79,7 @@ fn raise_to_all_awaited(bounds: &mut [u32], ordered: &Ordered)
     }
 }
 
-/// Raises the bounds to what the record at a place awaits.
+/// Raises the bounds so that what the record at a place awaits is below them.
 fn raise_to_awaited(bounds: &mut [u32], makers: &Makers, at: usize)
     requires within { at < length makers.now.run.records }
     requires all { HaveAllThreads makers.now.run.records bounds.old }
@@ -91,7 +91,7 @@ fn raise_to_awaited(bounds: &mut [u32], makers: &Makers, at: usize)
     }
 }
 
-/// Raises the bound of the record's thread if need be, so that the record is below it.
+/// Raises the bound of the record's thread, if necessary, so that the record is below it.
 fn raise(bounds: &mut [u32], run: &Run, place: usize)
     requires within { place < length run.now.records }
     requires few { length run.now.records ≤ 2 ^ 22 }
@@ -102,7 +102,7 @@ fn raise(bounds: &mut [u32], run: &Run, place: usize)
     bounds[thread] = bounds[thread].max(place as u32 + 1);
 }
 
-/// Whether the record at a place is below the bound of its thread.
+/// Returns whether the record at a place is below the bound of its thread.
 pub(crate) fn is_below(bounds: &[u32], run: &Run, place: usize) -> bool
     requires within { place < length run.now.records }
     requires all { HaveAllThreads run.now.records bounds.now }

@@ -1,4 +1,4 @@
-//! The check as a whole.
+//! The entry point: the verdict on a trace.
 ghost use Rattle.std.specs.Prelude.{◌≡◌, IfOk, IfErr, IsOkUnless};
 ghost use Rattle.ompt_events.specs.declared.fault.Fault.TheVariants.{Memory};
 ghost use Rattle.checker.specs.Readings.{by_task};
@@ -12,9 +12,10 @@ use crate::verdict::{CheckFault, Verdict, Why};
 use ompt_events::{Fault, Trace};
 use std::alloc::Global;
 
-/// The verdict on the records of a trace, by each task's own order: malformed with the lowest-numbered cause
-/// that occurs, at the first record in file order that shows it; else no at the first record that ends a region
-/// which covers an unfinished task, or that starts a task before a predecessor is finished; else yes with the
+/// Returns the verdict on the records of a trace, by each task's own order. It is malformed with the
+/// lowest-numbered cause that occurs, at the first record in file order that shows it. Else it is a no at
+/// the first record that ends a wait which covers an unfinished task, or at which a task starts, or a
+/// taskwait with dependences is complete, before a predecessor is finished. Else it is a yes with the
 /// greedy order. Fails only when out of memory.
 pub fn check(alloc: Global, trace: &Trace) -> Result<Verdict, CheckFault>
     ensures verdict { IfOk result (IsVerdict trace.now.records) }
@@ -34,7 +35,7 @@ pub fn check(alloc: Global, trace: &Trace) -> Result<Verdict, CheckFault>
     }
 }
 
-/// The verdict on a trace without a cause.
+/// Returns the verdict on a trace without a cause.
 fn verdict_in(alloc: Global, clear: Clear) -> Result<Verdict, Fault>
     ensures verdict { IfOk result (IsVerdict clear.entry.run.records) }
     ensures memory_alone { IfErr result (λ fault. fault ≡ Memory) }
@@ -43,7 +44,8 @@ fn verdict_in(alloc: Global, clear: Clear) -> Result<Verdict, Fault>
     Ok(verdict_of(clear, found))
 }
 
-/// The verdict on such a trace: a no at its first violation, if there is one.
+/// Returns the verdict on a trace without a cause: a no at its first violation, if there is one, else a
+/// yes.
 pub(crate) fn verdict_of(clear: Clear, found: Option<(usize, Why)>) -> Verdict
     ensures { IsFirstOrNone (by_task clear.entry.run.records) found
         → IsVerdict clear.entry.run.records result }
@@ -54,7 +56,7 @@ pub(crate) fn verdict_of(clear: Clear, found: Option<(usize, Why)>) -> Verdict
     }
 }
 
-/// The first record at which a task that must be finished is not, and why it must be.
+/// Returns the first record at which a task that must be finished is not, and why it must be.
 pub(crate) fn violation_of(alloc: Global, clear: &Clear) -> Result<Option<(usize, Why)>, Fault>
     ensures found { IfOk result (IsFirstOrNone (by_task clear.now.run.records)) }
     ensures memory_alone { IfErr result (λ fault. fault ≡ Memory) }

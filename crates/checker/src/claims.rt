@@ -1,4 +1,4 @@
-//! Whether each finishing record claims the place of its task.
+//! Whether each finishing record claims the right place of its task in the tree.
 ghost use Rattle.std.specs.Prelude.{[], ◌∷◌, ℕ, ◌≡◌, ◌<◌, ◌↔◌, Some, IfErr, IsTrue, OnOk, length, slice_get};
 ghost use Rattle.ompt_events.specs.declared.cause.Cause.TheVariants.{ShareWrong};
 ghost use Rattle.ompt_events.specs.Causes.{IsFreeOf, IsRightClaim, HasWrongShare};
@@ -7,7 +7,7 @@ ghost use Rattle.task_tree.specs.Own.{FindsFirstPlace, IsOwnFault};
 use ompt_events::{Cause, Claim, Fault};
 use task_tree::{Own, Run};
 
-/// Excludes that a finishing record's claim is not right: refused is the first one in file order.
+/// Excludes ShareWrong. Fails with it at the first finishing record in file order whose claim is wrong.
 pub(crate) fn exclude_wrong_claims(own: &Own) -> Result<(), Fault>
     ensures free { OnOk result (IsFreeOf own.now.run.records ShareWrong) }
     ensures fault { IfErr result (IsOwnFault own.now ShareWrong) }
@@ -21,8 +21,8 @@ pub(crate) fn exclude_wrong_claims(own: &Own) -> Result<(), Fault>
     }
 }
 
-/// The first finishing record in file order whose claim is not right by the tasks' own order: its task stands at
-/// another path or below another root, or created another number of children.
+/// Returns the first finishing record in file order whose claim is wrong by the tasks' own order: its task
+/// has another path or another root, or created another number of children.
 fn find_wrong_claim(own: &Own) -> Option<usize>
     ensures { FindsFirstPlace own.now ShareWrong result }
 {
@@ -35,7 +35,7 @@ fn find_wrong_claim(own: &Own) -> Option<usize>
     None
 }
 
-/// Whether the record with a number finishes a task with a claim that is not right.
+/// Returns whether the record with this number finishes a task and its claim is wrong.
 fn claims_wrongly(run: &Run, number: usize) -> bool
     requires { number < length run.now.records }
     ensures { IsTrue result ↔ HasWrongShare run.now.records number }
@@ -49,7 +49,7 @@ fn claims_wrongly(run: &Run, number: usize) -> bool
     !is_right(run, finishing.task, claim)
 }
 
-/// Whether the claim is right for the task at this index.
+/// Returns whether the claim is right for the task at this index.
 fn is_right(run: &Run, index: usize, claim: &Claim) -> bool
     requires { index < length run.now.family.tasks }
     ensures { (task : ℕ) → slice_get run.now.family.tasks index ≡ Some task

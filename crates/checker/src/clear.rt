@@ -10,8 +10,8 @@ use crate::verdict::Order;
 use std::marker::Model;
 use wait_coverage::Known;
 
-/// A trace in which no cause occurs, with the greedy order of its records, and the ledger lengths from which on
-/// its tasks are finished.
+/// A trace in which no cause occurs, with the greedy order of its records, and the ledger lengths from
+/// which on its tasks are finished.
 #[derive(Drop)]
 pub(crate) struct Clear<'a> {
     pub(crate) sound: &'a Sound<'a>,
@@ -44,7 +44,7 @@ impl<'a> Model for Clear<'a> {
 }
 
 impl<'a> Clear<'a> {
-    /// The run and what is known of it.
+    /// Returns the run and what is known of it.
     pub(crate) fn sound(&self) -> &Sound<'a>
         ensures run { result.now.run ≡ self.now.run }
         ensures own { result.now.own ≡ self.now.own }
@@ -53,8 +53,8 @@ impl<'a> Clear<'a> {
         self.sound
     }
 
-    /// The ledger lengths from which on its tasks are finished, exactly those from which on the trace's ledger
-    /// holds their credit.
+    /// Returns the ledger lengths from which on its tasks are finished. They are exactly those from which
+    /// on the trace's ledger holds their credit.
     pub(crate) fn known(&self) -> &Known<'a>
         ensures own { own_of result.now.done.teams ≡ self.now.own }
         ensures done { AreDone result.now.done }

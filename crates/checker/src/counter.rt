@@ -18,11 +18,11 @@ use ompt_events::{Fault, Trace};
 use std::alloc::Global;
 use wait_coverage::is_open;
 
-/// An order of all records of a trace, allowed by them, in which the task is not complete at the
-/// place, although it must be: a wait ends there that covers it, or what starts or is complete there depends
-/// on it. It is the order in which the record at the place stands as early as it can: those that happen
-/// before it, each time the first in file order of which all that happens before it stands; then the record;
-/// then the others in the same manner. None where there is no such order, and where a cause occurs. It takes
+/// Returns an order of all records of a trace, allowed by them, in which the task is not complete at the
+/// place, although it must be: a wait ends there that covers it, or what starts or is complete there
+/// depends on it. In this order the record at the place is as early as possible: first those that happen
+/// before it, each time the first in file order whose predecessors are all placed; then the record; then
+/// the others in the same manner. Returns none where there is no such order, or where a cause occurs. Takes
 /// n log n steps in the records. Fails only when out of memory.
 pub fn counter_order(
     alloc: Global,
@@ -47,8 +47,8 @@ pub fn counter_order(
     }
 }
 
-/// The verdict that `check` gives, and for a no the order that `counter_order` gives for its record and task,
-/// in one pass through the phases.
+/// Returns the verdict that `check` returns, and for a no the order that `counter_order` returns for its
+/// record and task. Runs the phases once.
 pub fn check_with_counter(
     alloc: Global,
     trace: &Trace,
@@ -73,7 +73,8 @@ pub fn check_with_counter(
     }
 }
 
-/// An order that leaves the task incomplete at the place, in a trace without a cause; none where there is none.
+/// Returns an order that leaves the task incomplete at the place, in a trace without a cause, or none if
+/// there is none.
 fn counter_in(alloc: Global, clear: &Clear, at: usize, task: u64) -> Result<Option<Order>, Fault>
     ensures counter { IfOk result (IsCounterBy (by_task clear.now.run.records) at task) }
     ensures memory_alone { IfErr result (λ fault. fault ≡ Memory) }
@@ -87,7 +88,7 @@ fn counter_in(alloc: Global, clear: &Clear, at: usize, task: u64) -> Result<Opti
     Ok(Some(counter_of(alloc, clear, at)?))
 }
 
-/// The verdict on a trace without a cause, and the order of a no.
+/// Returns the verdict on a trace without a cause, and for a no the order that shows it.
 fn verdict_with_counter(alloc: Global, clear: Clear) -> Result<(Verdict, Option<Order>), Fault>
     ensures verdict { IfOk result (λ answer. IsVerdict clear.entry.run.records answer.0) }
     ensures counter { IfOk result (λ answer. IsShownBy (by_task clear.entry.run.records) answer.0 answer.1) }
@@ -102,7 +103,7 @@ fn verdict_with_counter(alloc: Global, clear: Clear) -> Result<(Verdict, Option<
     }
 }
 
-/// Whether the task must be complete at the place, and isn't by what the record there has seen.
+/// Returns whether the task must be complete at the place, and isn't by what the record there has seen.
 fn is_unfinished(alloc: Global, clear: &Clear, at: usize, task: u64) -> Result<bool, Fault>
     requires { at < length clear.now.run.records }
     ensures unfinished { IfOk result (λ found. IsTrue found
@@ -118,7 +119,7 @@ fn is_unfinished(alloc: Global, clear: &Clear, at: usize, task: u64) -> Result<b
     precedence.is_late(at, task)
 }
 
-/// The order in which the record at the place stands as early as it can.
+/// Returns the order in which the record at the place is as early as possible.
 fn counter_of(alloc: Global, clear: &Clear, at: usize) -> Result<Order, Fault>
     requires { at < length clear.now.run.records }
     ensures earliest { IfOk result (IsEarliestOrder clear.now.run.records at) }

@@ -13,8 +13,8 @@ use std::alloc::{AllocError, Global};
 use std::marker::Model;
 use wait_coverage::{ends_wait, find_open};
 
-/// What decides it: a trace without a cause, with the ledger lengths from which on its tasks are finished, and
-/// which tasks precede which.
+/// A trace without a cause, with the ledger lengths from which on its tasks are finished, and which tasks
+/// precede which.
 #[derive(Drop)]
 pub(crate) struct Deciding<'a, 'r> {
     clear: &'a Clear<'r>,
@@ -33,8 +33,8 @@ impl<'a, 'r> Model for Deciding<'a, 'r> {
 }
 
 impl<'a, 'r> Deciding<'a, 'r> {
-    /// What decides it in this trace. It takes a few steps for each record, n log n in the dependences, and memory
-    /// linear in the tasks. Fails only when out of memory.
+    /// Returns the tables for this trace. Takes a few steps for each record, n log n in the dependences,
+    /// and memory linear in the tasks. Fails only when out of memory.
     pub(crate) fn of(alloc: Global, clear: &'a Clear<'r>) -> Result<Deciding<'a, 'r>, Fault>
         ensures clear { IfOk result (λ deciding. deciding ≡ clear.now) }
         ensures memory_alone { IfErr result (λ fault. fault ≡ Memory) }
@@ -44,7 +44,7 @@ impl<'a, 'r> Deciding<'a, 'r> {
         Ok(Deciding { clear, precedence })
     }
 
-    /// The first record at which a task that must be finished is not, and why it must be.
+    /// Returns the first record at which a task that must be finished is not, and why it must be.
     pub(crate) fn first_violation(&self, alloc: Global) -> Result<Option<(usize, Why)>, Fault>
         ensures found { IfOk result (IsFirstOrNone (by_task self.now.run.records)) }
         ensures memory_alone { IfErr result (λ fault. fault ≡ Memory) }
@@ -57,7 +57,7 @@ impl<'a, 'r> Deciding<'a, 'r> {
         Ok(None)
     }
 
-    /// Why the record at the place is a violation, if it is one.
+    /// Returns why the record at the place is a violation, if it is one. Fails only when out of memory.
     pub(crate) fn violation_at(&self, alloc: Global, at: usize) -> Result<Option<Why>, Fault>
         requires { at < length self.now.run.records }
         ensures decided { IfOk result (IsDecided (by_task self.now.run.records) at) }
@@ -73,8 +73,8 @@ impl<'a, 'r> Deciding<'a, 'r> {
         }
     }
 
-    /// The places, in file order, at which a wait ends, or a task starts or is complete that may have
-    /// predecessors.
+    /// Returns the places, in file order, at which a wait ends, or at which a task that may have
+    /// predecessors starts or is complete. At every other place all that must be complete is complete.
     pub(crate) fn find_stops(&self, alloc: Global) -> Result<Vec<u32>, AllocError>
         ensures { IfOk result (λ stops. AreStops (by_task self.now.run.records)
             (length self.now.run.records) stops.items) }
@@ -88,7 +88,7 @@ impl<'a, 'r> Deciding<'a, 'r> {
         Ok(stops)
     }
 
-    /// Whether something may be unfinished at the place.
+    /// Returns false only if all that must be complete at the place is complete there.
     fn is_stop(&self, at: usize) -> bool
         requires { at < length self.now.run.records }
         ensures { result ≡ false → AreComplete (by_task self.now.run.records) at }

@@ -1,4 +1,4 @@
-//! The order of all records in which one stands as early as it can.
+//! The order of all records in which one record is as early as possible.
 ghost use Rattle.std.specs.Prelude.{◌≡◌, ◌<◌, IfOk, IfErr, length, filter};
 ghost use Rattle.ompt_events.specs.declared.fault.Fault.TheVariants.{Memory};
 ghost use Rattle.ompt_events.specs.Linearization.{IsLinearization};
@@ -11,9 +11,9 @@ use crate::verdict::Order;
 use ompt_events::Fault;
 use std::alloc::{AllocError, Global};
 
-/// The order in which the record at a place stands as early as it can: those that happen before it, each time
-/// the first in file order of which all that happens before it stands; then the record; then the others in
-/// the same manner. It takes n log n steps in the records.
+/// Returns the order in which the record at a place is as early as possible: first those that happen before
+/// it, each time the first in file order whose predecessors are all placed; then the record; then the
+/// others in the same manner. Takes n log n steps in the records.
 pub(crate) fn earliest_order(alloc: Global, ordered: &Ordered, at: usize) -> Result<Order, Fault>
     requires { at < length ordered.now.ledger.run.records }
     ensures earliest { IfOk result (IsEarliestOrder ordered.now.ledger.run.records at) }
@@ -27,7 +27,7 @@ pub(crate) fn earliest_order(alloc: Global, ordered: &Ordered, at: usize) -> Res
     Ok(Order::from_vec(find_order(alloc, makers, base)?))
 }
 
-/// The records below the bounds of their threads, in their order.
+/// Returns the records below the bounds of their threads, in their order.
 fn below(alloc: Global, ordered: &Ordered, bounds: &[u32]) -> Result<Vec<u32>, AllocError>
     requires { HaveAllThreads ordered.now.ledger.run.records bounds.now }
     ensures { IfOk result (λ places. places.items

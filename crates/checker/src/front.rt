@@ -1,4 +1,4 @@
-//! Which records may stand next, while records are put in order.
+//! Which records may be placed next in the order.
 ghost use Rattle.std.specs.Prelude.{ℕ, ◌≡◌, ◌<◌, ◌≤◌, ◌↔◌, List, Option, Some, IsTrue, OnOk, IfNone, IfSome, Contains, length, slice_index};
 ghost use Rattle.ompt_events.specs.declared.records.Record.{Record};
 ghost use Rattle.ompt_events.specs.Places.{thread_at};
@@ -14,8 +14,8 @@ use crate::suspensions::Suspensions;
 use std::alloc::AllocError;
 use task_tree::Run;
 
-/// How far the records are put in order: which stand, the first of each thread that does not, and the ledger
-/// length that is reached.
+/// How far the records are ordered: which are placed, the first one of each thread that is not, and the
+/// ledger length that is reached.
 #[derive(Clone, Copy)]
 pub(crate) struct Front<'a, 'r> {
     pub(crate) run: &'a Run<'r>,
@@ -26,7 +26,7 @@ pub(crate) struct Front<'a, 'r> {
 }
 
 impl Front<'_, '_> {
-    /// Puts each record that may stand next to the others.
+    /// Adds to the queue the record of each thread that may be placed next.
     pub(crate) fn offer_heads(&self, ready: &mut Queue) -> Result<(), AllocError>
         requires front { IsFront self.now.run.now.records self.now.run.now.family self.now.suspensions.now
             self.now.placed.now self.now.heads.now self.now.low }
@@ -40,8 +40,8 @@ impl Front<'_, '_> {
         Ok(())
     }
 
-    /// Puts the record to those that may stand next, if it may. Inlined into the merge: of the records that are
-    /// offered two in five may not.
+    /// Adds the record to the queue if it may be placed next. Inlined into the merge: of the records that
+    /// are offered two in five may not.
     #[inline(always)]
     pub(crate) fn offer(&self, ready: &mut Queue, place: usize) -> Result<(), AllocError>
         requires front { IsFront self.now.run.now.records self.now.run.now.family self.now.suspensions.now
@@ -56,7 +56,7 @@ impl Front<'_, '_> {
         Ok(())
     }
 
-    /// Does that for each record of one list.
+    /// Offers each record of one list.
     pub(crate) fn offer_list(
         &self,
         ready: &mut Queue,
@@ -81,7 +81,7 @@ impl Front<'_, '_> {
         Ok(())
     }
 
-    /// Does that for each record of the lists from one to another.
+    /// Offers each record of the lists from one key on and below another.
     pub(crate) fn offer_lists(
         &self,
         ready: &mut Queue,
@@ -105,8 +105,8 @@ impl Front<'_, '_> {
         Ok(())
     }
 
-    /// Whether the record at a place is the first of its thread that does not stand, the one that it awaits
-    /// stands, and the ledger length that it names is reached.
+    /// Returns whether the record at a place may be placed next: it is the first of its thread that is not
+    /// placed, the one that it awaits is placed, and the ledger length that it names is reached.
     fn may_follow(&self, place: usize) -> bool
         requires within { place < length self.now.run.now.records }
         requires front { IsFront self.now.run.now.records self.now.run.now.family self.now.suspensions.now
@@ -116,7 +116,7 @@ impl Front<'_, '_> {
         self.is_head(place) && self.is_ready(place)
     }
 
-    /// Whether the record at a place is the first of its thread that does not stand.
+    /// Returns whether the record at a place is the first of its thread that is not placed.
     fn is_head(&self, place: usize) -> bool
         requires within { place < length self.now.run.now.records }
         requires heads { (i thread : ℕ) → thread_at self.now.run.now.records i ≡ Some thread
@@ -127,7 +127,8 @@ impl Front<'_, '_> {
         self.heads[usize::from(self.run.thread(place))] as usize == place
     }
 
-    /// Whether the record that this one awaits stands, and the ledger length that it names is reached.
+    /// Returns whether the record that this one awaits is placed, and the ledger length that it names is
+    /// reached.
     fn is_ready(&self, place: usize) -> bool
         requires within { place < length self.now.run.now.records }
         requires known { AreSuspensions self.now.run.now.records self.now.run.now.family.tasks
@@ -137,7 +138,7 @@ impl Front<'_, '_> {
         self.run.seen(place) as usize <= self.low && self.is_let(place)
     }
 
-    /// Whether the record that this one awaits stands.
+    /// Returns whether the record that this one awaits, if any, is placed.
     fn is_let(&self, place: usize) -> bool
         requires within { place < length self.now.run.now.records }
         requires known { AreSuspensions self.now.run.now.records self.now.run.now.family.tasks
@@ -152,7 +153,7 @@ impl Front<'_, '_> {
     }
 }
 
-/// Takes the first record in file order that may stand next.
+/// Takes the first record in file order that may be placed next, and returns it.
 pub(crate) fn take_first(ready: &mut Queue, placed: &[bool]) -> Option<usize>
     ensures none { IfNone result ((records : List Record) → AreOffered records placed.now ready.old → (i : ℕ)
         → MayStandNext records placed.now i → ⊥) }
@@ -167,7 +168,7 @@ pub(crate) fn take_first(ready: &mut Queue, placed: &[bool]) -> Option<usize>
     None
 }
 
-/// Whether the record stands.
+/// Returns whether the record is placed.
 pub(crate) fn stands(placed: &[bool], place: usize) -> bool
     ensures { IsTrue result ↔ Stands placed.now place }
 {

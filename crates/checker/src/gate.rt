@@ -1,14 +1,14 @@
-//! What each worker of a check passes before it decides.
+//! The gate that each worker of a check passes before it decides.
 
-/// A gate that workers pass, each once, before they decide. Tests use one to see that workers run side by side;
-/// a program takes [`OpenGate`].
+/// A gate that workers pass, each once, before they decide. Tests use one to see that workers run side by
+/// side; a program takes [`OpenGate`].
 pub trait Gate {
     ghost use Rattle.std.specs.Prelude.{ℕ, ◌≡◌, false};
 
     /// Which workers it may refuse.
     ghost may_refuse: { Self → ℕ → Type 0 };
 
-    /// Lets the worker with this number pass, or refuses it. It may wait.
+    /// Returns whether the worker with this number passes. It may wait.
     fn pass(&self, worker: u32) -> bool
         ensures refused { result ≡ false → may_refuse self.now worker };
 }

@@ -1,4 +1,4 @@
-//! Whether the records of a file stand in an order that also shows that the ledger is right.
+//! Whether file order is already an order of the records that shows no wrong ledger entry or length.
 ghost use Rattle.std.specs.Prelude.{ℕ, ◌<◌, ◌≤◌, ◌≡◌, ◌+◌, ◌^◌, List, IsTrue, IfOk, OnOk, length, replicate};
 ghost use Rattle.ompt_events.specs.declared.records.Record.{Record};
 ghost use Rattle.ompt_events.specs.declared.cause.Cause.TheVariants.{EntryTwice, LengthAhead, LengthBack};
@@ -15,17 +15,17 @@ use crate::suspensions::{End, suspended_at};
 use std::alloc::{AllocError, Global};
 use task_tree::Run;
 
-/// The record at which a task was suspended last, and the turn that ended there.
+/// The record at which a task was last suspended, and the turn that ended there.
 #[derive(Clone, Copy)]
 struct Suspension {
     turn: u32,
     place: u32,
 }
 
-/// Whether file order is an order of the records in which each finishing record makes the next entry of the
-/// ledger, and no record names more entries than stand before it, or less than was known at a step before. One
-/// pass then stands for the searches for three causes and for an order; most files in the order of time are
-/// such. Takes memory only where turns are told, for one number a task.
+/// Returns true only if file order is an order of the records in which each finishing record makes the next
+/// entry of the ledger, and no record names more entries than are made before it, or less than was known at
+/// a step before. Then this one pass replaces the searches for three causes and for an order. Most files in
+/// the order of time are such. Takes memory only where turns are recorded: one entry for each task.
 pub(crate) fn is_in_order(alloc: Global, run: &Run) -> Result<bool, AllocError>
     requires { EachAwaitsOne run.now.records }
     ensures steps { IfOk result (λ yes. IsTrue yes → (a b : ℕ) → IsStep run.now.records a b → a < b) }
@@ -47,14 +47,14 @@ pub(crate) fn is_in_order(alloc: Global, run: &Run) -> Result<bool, AllocError>
             return Ok(false);
         }
         known[thread] = after;
-        // A record that makes an entry is the one that lets this rise.
+        // Only a record that makes an entry raises this.
         entries = entries.max(after);
     }
     Ok(true)
 }
 
-/// Whether a record that names this length, and after which that one is known, names no more entries than the
-/// records before it make, and makes the next one if it makes any.
+/// Returns whether a record with these lengths, the one that it names and the one known after it, names no
+/// more entries than the records before it make, and makes the next one if it makes any.
 fn fits_behind(seen: u64, after: u64, entries: u64) -> bool
     ensures { IsTrue result → (records : List Record) (at : ℕ) → seen ≡ seen_at records at
         → after ≡ known_after records at → FitsBehind records at entries }
@@ -65,8 +65,8 @@ fn fits_behind(seen: u64, after: u64, entries: u64) -> bool
     seen == entries
 }
 
-/// Whether what the record at a place awaits, if it awaits anything, stands before it and names no greater
-/// length. Notes the task that is suspended there. Inlined into the loop over all records.
+/// Returns true only if what the record at a place awaits, if anything, is before it in the file and names
+/// no greater length. Notes the task that is suspended there. Inlined into the loop over all records.
 #[inline(always)]
 fn follows_awaited(
     alloc: Global,
@@ -82,7 +82,7 @@ fn follows_awaited(
         → (c < at) × (seen_at run.now.records c ≤ seen_at run.now.records at)) }
     ensures lasts { OnOk result (AreLastSuspensions run.now.records run.now.family.tasks lasts.new.items) }
 {
-    // A record at which a task is suspended starts another, so that it awaits something.
+    // A record that suspends a task starts another one, so it awaits something.
     let Some(awaited) = awaited_by(run, at) else {
         return Ok(true);
     };
@@ -91,7 +91,8 @@ fn follows_awaited(
     Ok(follows)
 }
 
-/// Whether what the record at a place awaits stands before it and names no greater length.
+/// Returns true only if what the record at a place awaits is before it in the file and names no greater
+/// length.
 fn follows(run: &Run, lasts: &[Suspension], at: usize, awaited: Awaited) -> bool
     requires within { at < length run.now.records }
     requires facts { EachAwaitsOne run.now.records }
@@ -109,8 +110,9 @@ fn follows(run: &Run, lasts: &[Suspension], at: usize, awaited: Awaited) -> bool
     }
 }
 
-/// Whether the task that runs on at a place was suspended last in the turn before, at a record that names no
-/// greater length; or it is an initial or implicit one, which was suspended on the same thread.
+/// Returns whether the task that runs on at a place was last suspended in the turn before, at a record that
+/// names no greater length; also true for an initial or implicit task, which was suspended on the same
+/// thread.
 fn follows_end(run: &Run, lasts: &[Suspension], at: usize, begin: Begin) -> bool
     requires within { at < length run.now.records }
     requires facts { EachAwaitsOne run.now.records }
@@ -129,7 +131,8 @@ fn follows_end(run: &Run, lasts: &[Suspension], at: usize, begin: Begin) -> bool
     ended_before(run, lasts[begin.index], at, begin.turn)
 }
 
-/// Whether this is the suspension before the turn, and stands before the place and names no greater length.
+/// Returns whether this is the suspension before the turn, is before the place in the file, and names no
+/// greater length.
 fn ended_before(run: &Run, last: Suspension, at: usize, turn: u32) -> bool
     requires within { at < length run.now.records }
     requires later { 0 < turn }
@@ -141,7 +144,8 @@ fn ended_before(run: &Run, last: Suspension, at: usize, turn: u32) -> bool
     last.turn == turn - 1 && place < at && run.seen(place) <= run.seen(at)
 }
 
-/// Notes the task that is suspended at a place, where turns are told. Inlined for the test.
+/// Notes the task that is suspended at a place, where turns are recorded. Inlined, since for most files
+/// only the test runs.
 #[inline(always)]
 fn note_end(
     alloc: Global,
@@ -163,7 +167,8 @@ fn note_end(
     }
 }
 
-/// Keeps the task's suspension. The first one makes the table. Never inlined, as few files come here.
+/// Keeps the task's suspension, and makes the table at the first one. Never inlined, as few files come
+/// here.
 #[inline(never)]
 fn keep_end(
     alloc: Global,
@@ -186,7 +191,7 @@ fn keep_end(
     Ok(())
 }
 
-/// Makes the table, if it does not have the index yet.
+/// Makes the table, unless it has the index.
 fn make_room(
     alloc: Global,
     run: &Run,
@@ -204,7 +209,7 @@ fn make_room(
     Ok(())
 }
 
-/// No task was suspended.
+/// Returns a table in which no task was suspended.
 fn none_suspended(alloc: Global, run: &Run) -> Result<Vec<Suspension>, AllocError>
     ensures { IfOk result (λ lasts. lasts.items
         ≡ replicate (length run.now.family.tasks) (record { turn = 0; place = length run.now.records })) }

@@ -1,5 +1,5 @@
-//! What an unfinished task tells of orders, and what turns change of a verdict: laws over the definitions
-//! alone, proved for all records. The functions do nothing.
+//! What an unfinished task shows about orders, and what turns change in a verdict. These are laws about the
+//! definitions alone, proved for all records. The functions do nothing.
 ghost use Rattle.std.specs.Prelude.{◌↔◌, ℕ, List, Option};
 ghost use Rattle.ompt_events.specs.declared.records.Record.{Record};
 ghost use Rattle.ompt_events.specs.Traces.{IsTraceOf};
@@ -12,9 +12,9 @@ ghost use Rattle.checker.specs.Readings.{by_task, by_file, IsRequiredBy};
 ghost use Rattle.checker.specs.Verdicts.{ShowsNone, IsUnfinished, IsMissed, IsVerdict, IsVerdictBy};
 ghost use Rattle.checker.specs.Counter.{IsCounterBy};
 
-/// Unfinished means missed. Where no cause occurs and the records have an order, a task that must be complete
-/// at a record is unfinished by what the record has seen exactly where some order of all records, allowed by
-/// them, leaves it incomplete there.
+/// Unfinished means missed. Let no cause occur and the records have an order. Then a task that must be
+/// complete at a record is unfinished by what the record has seen if and only if some order of all records,
+/// allowed by them, leaves it incomplete there.
 pub fn unfinished_is_missed()
     ensures { (rs : List Record) (order : List ℕ) (i task : ℕ)
         → ShowsNone (by_task rs) → IsLinearization rs order
@@ -22,8 +22,8 @@ pub fn unfinished_is_missed()
 {}
 
 /// Where no task's turns fall along the file, the order of the file alone gives the same verdict as each
-/// task's own order, record for record, and the same counter orders. A trace of version 1 tells no turns, so
-/// this holds of every one.
+/// task's own order, record for record, and the same counter orders. A trace of version 1 records no turns,
+/// so this holds of each such trace.
 pub fn file_order_gives_the_verdict()
     ensures rising { (rs : List Record) → TurnsRise rs → (verdict : Verdict)
         → IsVerdict rs verdict ↔ IsVerdictBy (by_file rs) verdict }
@@ -35,8 +35,8 @@ pub fn file_order_gives_the_verdict()
         → IsCounterBy (by_task rs) i task found ↔ IsCounterBy (by_file rs) i task found }
 {}
 
-/// What a verdict calls required is what must be complete at a record by the definitions of waits and
-/// dependences.
+/// A task is required at a record, in the sense of a verdict, if and only if it must be complete there by
+/// the definitions of waits and dependences.
 pub fn required_is_owed_by_waits_and_dependences()
     ensures by_task { (rs : List Record) (i task : ℕ)
         → IsRequiredBy (by_task rs) i task ↔ violations.MustBeComplete rs i task }
@@ -44,7 +44,7 @@ pub fn required_is_owed_by_waits_and_dependences()
         → IsRequiredBy (by_file rs) i task ↔ violations.IsRequired rs i task }
 {}
 
-/// A trace of version 1 in which no task moves has, upgraded to version 2, the verdict that it has as it is, record
+/// Let no task of a trace of version 1 move. Upgraded to version 2, the trace has the same verdict, record
 /// for record and with the same order, and the same counter orders.
 pub fn an_upgrade_keeps_the_verdict()
     ensures verdict { (rs upgraded : List Record) → IsTraceOf 1 rs → MovesNowhere rs → IsUpgrade rs upgraded

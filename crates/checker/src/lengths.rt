@@ -1,4 +1,5 @@
-//! Whether the ledger lengths that records name rise along each thread and from what each record awaits.
+//! Whether the ledger lengths that records name never fall, along each thread and from what each record
+//! awaits.
 ghost use Rattle.std.specs.Prelude.{◌≡◌, ◌<◌, ◌↔◌, IsTrue, length};
 ghost use Rattle.ompt_events.specs.declared.cause.Cause.TheVariants.{LengthBack};
 ghost use Rattle.ompt_events.specs.Faults.{FindsFirst};
@@ -10,8 +11,8 @@ use crate::schedule::awaited_at;
 use crate::suspensions::Suspensions;
 use task_tree::Run;
 
-/// The first record that names a lesser length than was known at a step before: at an earlier record of its
-/// thread, or at the record that it awaits. Takes no memory from the heap.
+/// Returns the first record that names a lesser length than was known at a step before: at an earlier
+/// record of its thread, or at the record that it awaits. Takes no heap memory.
 pub(crate) fn find_back(makers: &Makers) -> Option<usize>
     ensures { FindsFirst makers.now.run.records LengthBack result }
 {
@@ -30,7 +31,7 @@ pub(crate) fn find_back(makers: &Makers) -> Option<usize>
     None
 }
 
-/// Whether the record at a place names a lesser length than the one that it awaits.
+/// Returns whether the record at a place names a lesser length than the one that it awaits.
 fn precedes_awaited(run: &Run, suspensions: &Suspensions, at: usize) -> bool
     requires within { at < length run.now.records }
     requires known { AreSuspensions run.now.records run.now.family.tasks suspensions.now }

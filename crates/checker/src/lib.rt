@@ -1,8 +1,8 @@
 //! The verdict on a trace: whether each wait ended only when it was allowed to, and each dependent task
 //! started in time.
 //!
-//! `check` answers yes, no or malformed, and its contract says what each answer means. Read `verdict`
-//! and `checking` first, then the phases in the order in which `checking` calls them.
+//! `check` returns yes, no or malformed, and its contract defines each. Read `verdict` and `checking`
+//! first, then `phases` and the phases in the order in which it calls them.
 #![tactic(auto)]
 
 mod before;

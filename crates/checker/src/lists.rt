@@ -1,5 +1,5 @@
-//! Places of records in lists: those of one thread, those that await one record, and those that name one
-//! ledger length.
+//! Places of records in linked lists: those of one thread, those that await one record, and those that name
+//! one ledger length.
 ghost use Rattle.std.specs.Prelude.{ℕ, ◌≡◌, ◌<◌, ◌≤◌, ◌^◌, ◌+◌, Option, Some, IfOk, IfSome, length};
 ghost use Rattle.ompt_events.specs.Places.{thread_at};
 ghost use Rattle.checker.specs.Lists.{AreLists, LeadsOn};
@@ -13,8 +13,8 @@ use crate::suspensions::Suspensions;
 use std::alloc::{AllocError, Global};
 use task_tree::Run;
 
-/// Places in lists, one list for each key: the first place of each list, and behind each place the next one of
-/// its list. The number of places stands for none.
+/// Places in linked lists, one list for each key: the first place of each list, and by place the next one
+/// of its list. The number of places means none.
 #[derive(Drop)]
 pub(crate) struct Lists {
     pub(crate) firsts: Vec<u32>,
@@ -22,7 +22,7 @@ pub(crate) struct Lists {
 }
 
 impl Lists {
-    /// An empty list for each of so many keys, and room for so many places.
+    /// Returns lists that are empty, for this many keys, with room for this many places.
     fn new(alloc: Global, keys: usize, places: usize) -> Result<Lists, AllocError>
         requires { places ≤ 2 ^ 22 }
         ensures lists { IfOk result (λ lists. (key : ℕ → Option ℕ)
@@ -37,7 +37,7 @@ impl Lists {
         })
     }
 
-    /// Puts the place ahead of the later ones in the list of its key.
+    /// Puts the place at the front of the list of its key, ahead of the later ones.
     fn put_first(&mut self, key: usize, place: usize)
         requires few { length self.old.nexts.items ≤ 2 ^ 22 }
         requires within { place < length self.old.nexts.items }
@@ -53,7 +53,7 @@ impl Lists {
     }
 }
 
-/// The records of each thread.
+/// Returns the lists of the records of each thread.
 pub(crate) fn lists_of_threads(alloc: Global, run: &Run) -> Result<Lists, AllocError>
     ensures lists { IfOk result (λ lists. AreLists (thread_at run.now.records) (length run.now.records) 0
         lists.firsts.items lists.nexts.items) }
@@ -70,7 +70,7 @@ pub(crate) fn lists_of_threads(alloc: Global, run: &Run) -> Result<Lists, AllocE
     Ok(lists)
 }
 
-/// The greatest thread number.
+/// Returns the greatest thread number.
 fn last_thread(run: &Run) -> u8
     ensures { (i thread : ℕ) → thread_at run.now.records i ≡ Some thread → thread ≤ result }
 {
@@ -81,7 +81,7 @@ fn last_thread(run: &Run) -> u8
     last
 }
 
-/// The records that await others, by key.
+/// Returns the lists of the records that await others, by key.
 pub(crate) fn lists_of_keys(
     alloc: Global,
     run: &Run,
@@ -107,8 +107,8 @@ pub(crate) fn lists_of_keys(
     Ok(lists)
 }
 
-/// The key under which the record at a place stands: the index of the task whose creation it awaits, or,
-/// behind those of all tasks, the slot of the turn that a task begins there.
+/// Returns the key of the list that has the record at a place: the index of the task whose creation it
+/// awaits, or, after the indices of all tasks, the slot of the turn that a task begins there.
 fn key_at(run: &Run, suspensions: &Suspensions, at: usize) -> Option<usize>
     requires within { at < length run.now.records }
     requires known { AreSuspensions run.now.records run.now.family.tasks suspensions.now }
@@ -123,8 +123,8 @@ fn key_at(run: &Run, suspensions: &Suspensions, at: usize) -> Option<usize>
     }
 }
 
-/// The key of the records that await the one at a place, if that creates a task, or if an explicit task is
-/// suspended there.
+/// Returns the key of the records that await the one at a place, if that creates a task, or if an explicit
+/// task is suspended there.
 pub(crate) fn key_behind(run: &Run, suspensions: &Suspensions, at: usize) -> Option<usize>
     requires within { at < length run.now.records }
     requires known { AreSuspensions run.now.records run.now.family.tasks suspensions.now }
@@ -141,7 +141,7 @@ pub(crate) fn key_behind(run: &Run, suspensions: &Suspensions, at: usize) -> Opt
     Some(tasks + slot)
 }
 
-/// The records that name each length of the ledger.
+/// Returns the lists of the records that name each length of the ledger.
 pub(crate) fn lists_of_lengths(alloc: Global, makers: &Makers) -> Result<Lists, AllocError>
     ensures lists { IfOk result (λ lists. AreLists (named_length makers.now.run.records)
         (length makers.now.run.records) 0 lists.firsts.items lists.nexts.items) }

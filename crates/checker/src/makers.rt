@@ -14,8 +14,8 @@ use std::collections::BTreeSet;
 use std::marker::Model;
 use task_tree::Run;
 
-/// The ledger of a run: by entry the record that makes it; and where the run's tasks are suspended. No entry is
-/// made twice, and no record names a greater length than the ledger ever has.
+/// The ledger of a run: by entry the record that makes it, and where the run's tasks are suspended. No
+/// entry is made twice, and no record names a greater length than the ledger ever has.
 #[derive(Drop)]
 pub(crate) struct Makers<'a> {
     run: Run<'a>,
@@ -42,8 +42,9 @@ impl<'a> Model for Makers<'a> {
 }
 
 impl<'a> Makers<'a> {
-    /// The ledger of the run. Refused is a finishing record that names the entry of an earlier one; or else a
-    /// record that names more than the ledger ever has.
+    /// Returns the ledger of the run. Fails with EntryTwice at the first finishing record that names the
+    /// entry of an earlier one, else with LengthAhead at the first record that names more than the ledger
+    /// ever has.
     pub(crate) fn in_run(alloc: Global, run: &Run<'a>) -> Result<Makers<'a>, Fault>
         requires { EachAwaitsOne run.now.records }
         ensures run { IfOk result (λ makers. makers.run ≡ run.now) }
@@ -59,7 +60,7 @@ impl<'a> Makers<'a> {
         })
     }
 
-    /// The run.
+    /// Returns the run.
     pub(crate) fn run(&self) -> &Run<'a>
         ensures value { result.now ≡ self.now.run }
         ensures is_ledger { IsLedger self.now }
@@ -67,14 +68,14 @@ impl<'a> Makers<'a> {
         &self.run
     }
 
-    /// By entry the place of the record that makes it.
+    /// Returns by entry the place of the record that makes it.
     pub(crate) fn places(&self) -> &[u32]
         ensures { result.now ≡ self.now.places }
     {
         self.places.as_slice()
     }
 
-    /// Where the tasks are suspended.
+    /// Returns where the tasks are suspended.
     pub(crate) fn suspensions(&self) -> &Suspensions
         ensures value { result.now ≡ self.now.suspensions }
         ensures is_ledger { IsLedger self.now }
@@ -86,14 +87,14 @@ impl<'a> Makers<'a> {
 /// The entries that are named so far.
 #[derive(Drop)]
 struct Named {
-    /// By entry the place of the record that makes it, or the number of records; as many as there are
-    /// finishing records.
+    /// By entry the place of the record that makes it, or the number of records. It has as many entries as
+    /// there are finishing records.
     makers: Vec<u32>,
-    /// Any other entries.
+    /// The named entries beyond those.
     beyond: BTreeSet<u32>,
 }
 
-/// How many entries the records make.
+/// Returns how many entries the records make.
 fn entry_count(run: &Run) -> usize
     ensures { result ≡ entries_in run.now.records }
 {
@@ -103,8 +104,8 @@ fn entry_count(run: &Run) -> usize
         .count()
 }
 
-/// By entry of the ledger the record that makes it. Searches for the first finishing record that names the
-/// entry of an earlier one.
+/// Returns by entry of the ledger the record that makes it. Fails with EntryTwice at the first finishing
+/// record that names the entry of an earlier one.
 fn find_makers(alloc: Global, run: &Run) -> Result<Vec<u32>, Fault>
     ensures makers { IfOk result (λ makers. AreEntryPlaces run.now.records (length run.now.records) makers.items) }
     ensures entries { IfOk result (λ makers. length makers.items ≡ entries_in run.now.records) }
@@ -127,7 +128,8 @@ fn find_makers(alloc: Global, run: &Run) -> Result<Vec<u32>, Fault>
     Ok(makers)
 }
 
-/// Whether the record at a place names the entry of an earlier one; if not, its own is named afterwards.
+/// Returns whether the record at a place names the entry of an earlier one. If not, marks its own entry as
+/// named.
 fn repeats_entry(run: &Run, named: &mut Named, at: usize) -> Result<bool, AllocError>
     requires within { at < length run.now.records }
     requires named { IsNaming run.now.records at named.old }
@@ -141,7 +143,7 @@ fn repeats_entry(run: &Run, named: &mut Named, at: usize) -> Result<bool, AllocE
     }
 }
 
-/// Whether the entry was named already; afterwards it is, by the record at a place.
+/// Returns whether the entry was named already, and marks it as named by the record at a place.
 fn name_entry(named: &mut Named, run: &Run, entry: u32, at: usize) -> Result<bool, AllocError>
     requires { at < length run.now.records }
     ensures known { IfOk result (λ known. known ≡ is_named (length run.now.records) named.old entry) }
@@ -159,7 +161,8 @@ fn name_entry(named: &mut Named, run: &Run, entry: u32, at: usize) -> Result<boo
     }
 }
 
-/// The first record that names an entry past the ledger's end, or a greater length than it ever has.
+/// Returns the first record that names an entry past the ledger's end, or a greater length than the ledger
+/// ever has.
 fn find_ahead(run: &Run, entries: usize) -> Option<usize>
     requires { entries ≡ entries_in run.now.records }
     ensures { FindsFirst run.now.records LengthAhead result }
@@ -172,7 +175,7 @@ fn find_ahead(run: &Run, entries: usize) -> Option<usize>
     None
 }
 
-/// Whether the record at a place is one.
+/// Returns whether the record at a place does so.
 fn is_ahead(run: &Run, entries: usize, at: usize) -> bool
     requires within { at < length run.now.records }
     requires entries { entries ≡ entries_in run.now.records }

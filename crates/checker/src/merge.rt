@@ -16,9 +16,9 @@ use ompt_events::{Cause, Fault, exclude};
 use std::alloc::{AllocError, Global};
 use task_tree::Run;
 
-/// The order that begins with these records and goes on greedily: again and again with the first record in
-/// file order of which all that happens before it stands already. Searches for the first record that has no
-/// place in it.
+/// Returns the greedy order that begins with these records: after them it repeatedly takes the first record
+/// in file order whose predecessors are all placed. Requires that each of these records may be placed after
+/// those before it. Fails with NoOrder at the first record that is not placed in the end.
 pub(crate) fn find_order(alloc: Global, makers: &Makers, base: Vec<u32>) -> Result<Vec<u32>, Fault>
     requires { AreInTurn makers.now.run.records base.items }
     ensures linearization { IfOk result (λ order. IsLinearization makers.now.run.records order.items) }
@@ -56,8 +56,8 @@ pub(crate) fn find_order(alloc: Global, makers: &Makers, base: Vec<u32>) -> Resu
     Ok(order)
 }
 
-/// Which records stand: a mark for each record, the first of each thread that doesn't stand, and behind each
-/// record the next one of its thread. The number of records stands for none.
+/// Which records are placed: a mark for each record, the first one of each thread that is not placed, and
+/// by record the next one of its thread. The number of records means none.
 #[derive(Drop)]
 struct Standing {
     placed: Vec<bool>,
@@ -66,7 +66,7 @@ struct Standing {
 }
 
 impl Standing {
-    /// These stand.
+    /// Returns the state in which just the records of the order are placed.
     fn of(alloc: Global, run: &Run, order: &[u32]) -> Result<Standing, AllocError>
         requires { AreInTurn run.now.records order.now }
         ensures { IfOk result (λ standing. ArePlaced run.now.records standing.placed.items standing.heads.items
@@ -79,7 +79,7 @@ impl Standing {
         Ok(standing)
     }
 
-    /// None stands.
+    /// Returns the state in which no record is placed.
     fn none(alloc: Global, run: &Run) -> Result<Standing, AllocError>
         ensures { IfOk result (λ standing. ArePlaced run.now.records standing.placed.items standing.heads.items
             standing.links.items []) }
@@ -92,7 +92,7 @@ impl Standing {
         })
     }
 
-    /// One more stands. Inlined into the merge.
+    /// Places one more record. Inlined into the merge.
     #[inline(always)]
     fn place(&mut self, run: &Run, place: usize)
         requires within { place < length run.now.records }
@@ -107,7 +107,7 @@ impl Standing {
         self.heads[usize::from(run.thread(place))] = self.links[place];
     }
 
-    /// The records that may stand next.
+    /// Returns the records that may be placed next.
     fn first_ready(&self, alloc: Global, makers: &Makers, low: usize) -> Result<Queue, AllocError>
         requires { IsFront makers.now.run.records makers.now.run.family makers.now.suspensions
             self.now.placed.items self.now.heads.items low }
@@ -126,14 +126,14 @@ impl Standing {
     }
 }
 
-/// No record stands.
+/// Returns a mark for each record: none is placed.
 fn none_placed(alloc: Global, len: usize) -> Result<Vec<bool>, AllocError>
     ensures { IfOk result (λ placed. placed.items ≡ replicate len false) }
 {
     vec![in alloc; false; len]
 }
 
-/// The first record that does not stand.
+/// Returns the first record that is not placed.
 fn first_unplaced(placed: &[bool]) -> Option<usize>
     ensures { MatchOption result ((i : ℕ) → i < length placed.now → Stands placed.now i)
         (IsFirstUnplaced placed.now) }
@@ -146,7 +146,7 @@ fn first_unplaced(placed: &[bool]) -> Option<usize>
     None
 }
 
-/// The first entry from one on whose record does not stand.
+/// Returns the first entry, from one on, whose record is not placed, or the number of entries.
 fn first_missing(placed: &[bool], makers: &[u32], from: usize) -> usize
     requires { from ≤ length makers.now }
     ensures from { from ≤ result }
@@ -163,7 +163,7 @@ fn first_missing(placed: &[bool], makers: &[u32], from: usize) -> usize
     makers.len()
 }
 
-/// Whether there is such a record, and it does not stand.
+/// Returns whether there is a record at the place, and it is not placed.
 fn is_unplaced(placed: &[bool], place: usize) -> bool
     ensures { IsTrue result ↔ IsUnplaced placed.now place }
 {

@@ -1,4 +1,4 @@
-//! A run without a cause, in its order.
+//! A run without a cause, with the order of its records.
 ghost use Rattle.std.specs.Prelude.{◌≡◌};
 ghost use Rattle.checker.specs.Counter.{IsOrdered};
 
@@ -25,7 +25,7 @@ impl<'a> Model for Ordered<'a> {
 }
 
 impl<'a> Ordered<'a> {
-    /// The run.
+    /// Returns the run.
     pub(crate) fn run(&self) -> &Run<'a>
         ensures value { result.now ≡ self.now.ledger.run }
         ensures is_ordered { IsOrdered self.now }
@@ -33,7 +33,7 @@ impl<'a> Ordered<'a> {
         self.makers.run()
     }
 
-    /// Its ledger.
+    /// Returns the ledger of the run.
     pub(crate) fn makers(&self) -> &Makers<'a>
         ensures value { result.now ≡ self.now.ledger }
         ensures is_ordered { IsOrdered self.now }
@@ -41,7 +41,7 @@ impl<'a> Ordered<'a> {
         self.makers
     }
 
-    /// The order of its records.
+    /// Returns the greedy order of the records.
     pub(crate) fn order(&self) -> &Order
         ensures { result.now ≡ self.now.order }
     {

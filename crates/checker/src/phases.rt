@@ -1,4 +1,5 @@
-//! The phases of a check, in the order of their causes.
+//! The phases of a check, in the order of their causes. A phase that excludes a cause fails with it, at the
+//! first record that shows it, if it occurs.
 ghost use Rattle.std.specs.Prelude.{◌≡◌, Ok, Err, IfOk, IfErr, OnOk};
 ghost use Rattle.ompt_events.specs.declared.fault.Fault.TheVariants.{Memory};
 ghost use Rattle.ompt_events.specs.declared.cause.Cause.TheVariants.{NotCurrent, TurnGap, TargetTask};
@@ -25,9 +26,10 @@ use task_tree::Families;
 use teams::Teams;
 use wait_coverage::{Known, find_known};
 
-/// What the function answers about a trace without a cause, or the fault of the first phase that finds a cause. Each
-/// phase needs that the causes before its own do not occur. The phases stand in several functions, since a fault
-/// lets go all that its function made, and a proof has to look at each way to do so.
+/// Returns what the function returns for a trace without a cause. Fails with the least cause that the trace
+/// shows, or when out of memory. Each phase requires that no cause before its own occurs. The phases are
+/// split over several functions, since an early return drops all that its function made, and a proof looks
+/// at each way to do so.
 pub(crate) fn ask<A: Drop, F: Fn(Clear) -> Result<A, Fault>>(
     alloc: Global,
     trace: &Trace,
@@ -43,7 +45,7 @@ pub(crate) fn ask<A: Drop, F: Fn(Clear) -> Result<A, Fault>>(
     ask_run(alloc, trace, &families, answer)
 }
 
-/// The same where the tree of tasks is known.
+/// Does the same once the tree of tasks is known.
 fn ask_run<A: Drop, F: Fn(Clear) -> Result<A, Fault>>(
     alloc: Global,
     trace: &Trace,
@@ -76,7 +78,7 @@ fn ask_run<A: Drop, F: Fn(Clear) -> Result<A, Fault>>(
     ask_sound(alloc, &sound, answer)
 }
 
-/// The same where only order and ledger may still show a cause.
+/// Does the same once only order, ledger and TargetTask may still show a cause.
 fn ask_sound<A: Drop, F: Fn(Clear) -> Result<A, Fault>>(
     alloc: Global,
     sound: &Sound,
@@ -100,7 +102,7 @@ fn ask_sound<A: Drop, F: Fn(Clear) -> Result<A, Fault>>(
 
 // ---- the phases one by one, which a check on several threads has too
 
-/// The families of the trace's tasks. Excludes SeqGap, CreatedTwice and Rootless.
+/// Returns the families of the trace's tasks. Excludes SeqGap, CreatedTwice and Rootless.
 pub(crate) fn families_of(alloc: Global, trace: &Trace) -> Result<Families, Fault>
     ensures families { IfOk result (AreFamiliesOf trace.now.records) }
     ensures clear { OnOk result (IsClear trace.now.records (before NotCurrent)) }
@@ -111,8 +113,8 @@ pub(crate) fn families_of(alloc: Global, trace: &Trace) -> Result<Families, Faul
     Ok(families)
 }
 
-/// The states of the run's tasks; the first turn gap is known. Excludes NotCurrent, Moved, TurnGap, StatusOrder and
-/// RegionOrder.
+/// Returns the states of the run's tasks. Takes the first turn gap. Excludes NotCurrent, Moved, TurnGap,
+/// StatusOrder and RegionOrder.
 pub(crate) fn states_of<'a>(
     alloc: Global,
     runs: &Runs<'a>,
@@ -128,7 +130,7 @@ pub(crate) fn states_of<'a>(
     Ok(states)
 }
 
-/// The edges between the run's tasks. Excludes NestedParallel, DepsPlace and ShareWrong.
+/// Returns the dependence edges between the run's tasks. Excludes NestedParallel, DepsPlace and ShareWrong.
 pub(crate) fn edges_of<'a>(alloc: Global, runs: &Runs<'a>) -> Result<Edges<'a>, Fault>
     ensures edges { IfOk result (AreEdgesOf runs.now.run runs.now.own) }
     ensures fault { IfErr result (IsShownFault runs.now.run.records edge_causes) }
@@ -142,7 +144,7 @@ pub(crate) fn edges_of<'a>(alloc: Global, runs: &Runs<'a>) -> Result<Edges<'a>, 
     Ok(edges)
 }
 
-/// The ledger lengths from which on the run's tasks are finished. Fails only when out of memory.
+/// Returns the ledger lengths from which on the run's tasks are finished. Fails only when out of memory.
 pub(crate) fn known_of<'a>(alloc: Global, sound: &Sound<'a>) -> Result<Known<'a>, Fault>
     ensures known { IfOk result (IsKnownOf sound.now.own) }
     ensures memory_alone { IfErr result (λ fault. fault ≡ Memory) }
@@ -151,8 +153,8 @@ pub(crate) fn known_of<'a>(alloc: Global, sound: &Sound<'a>) -> Result<Known<'a>
     Ok(known)
 }
 
-/// The greedy order of all records, where no cause occurs. Excludes EntryTwice, LengthAhead, LengthBack, NoOrder and
-/// TargetTask.
+/// Returns the greedy order of all records. Excludes EntryTwice, LengthAhead, LengthBack, NoOrder and
+/// TargetTask, so that no cause is left.
 pub(crate) fn clear_order(alloc: Global, sound: &Sound) -> Result<Order, Fault>
     ensures linearization { IfOk result (IsLinearization sound.now.run.records) }
     ensures greedy { IfOk result (IsGreedy sound.now.run.records) }
@@ -164,7 +166,7 @@ pub(crate) fn clear_order(alloc: Global, sound: &Sound) -> Result<Order, Fault>
     Ok(order)
 }
 
-/// The greedy order of all records. Excludes EntryTwice, LengthAhead, LengthBack and NoOrder.
+/// Returns the greedy order of all records. Excludes EntryTwice, LengthAhead, LengthBack and NoOrder.
 fn order_of(alloc: Global, sound: &Sound) -> Result<Order, Fault>
     ensures linearization { IfOk result (IsLinearization sound.now.run.records) }
     ensures greedy { IfOk result (IsGreedy sound.now.run.records) }
@@ -172,14 +174,14 @@ fn order_of(alloc: Global, sound: &Sound) -> Result<Order, Fault>
     ensures least { IfErr result (IsLeastFound sound.now.run.records) }
 {
     let run = sound.run();
-    // A file in the order of time costs one pass.
+    // One pass is enough for a file in the order of time.
     if is_in_order(alloc, run)? {
         return Ok(Order::in_file(run.len()));
     }
     order_by_merge(alloc, sound)
 }
 
-/// The same where file order doesn't show it. What is noted for the merge alone is let go at its end.
+/// Does the same if one pass does not show the order. The tables of the merge are dropped at its end.
 fn order_by_merge(alloc: Global, sound: &Sound) -> Result<Order, Fault>
     ensures linearization { IfOk result (IsLinearization sound.now.run.records) }
     ensures greedy { IfOk result (IsGreedy sound.now.run.records) }

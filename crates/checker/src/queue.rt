@@ -1,4 +1,4 @@
-//! Places of records, of which the least is taken first.
+//! A queue of places that gives the least first.
 ghost use Rattle.std.specs.Prelude.{ℕ, ◌≡◌, ◌≤◌, ◌∷◌, IfNone, IfSome, OnOk, Contains, IsPermutation, length};
 
 use std::alloc::{AllocError, Global};
@@ -6,7 +6,7 @@ use std::cmp::Reverse;
 use std::collections::BinaryHeap;
 use std::marker::Model;
 
-/// Places, of which the least is taken first. One may stand in it twice. Contracts see a list in no order.
+/// Places, of which the least is taken first. A place may be in it twice. Contracts see a list in no order.
 #[derive(Drop)]
 pub(crate) struct Queue {
     heap: BinaryHeap<Reverse<usize>>,
@@ -25,7 +25,7 @@ impl Model for Queue {
 }
 
 impl Queue {
-    /// No place. Takes no memory.
+    /// Returns an empty queue. Takes no memory.
     pub(crate) fn new(alloc: Global) -> Queue
         ensures { (i : ℕ) → Contains result i → ⊥ }
     {
@@ -34,7 +34,7 @@ impl Queue {
         }
     }
 
-    /// Puts the place in. Never inlined, so that the merge has one copy of the heap's code.
+    /// Adds the place. Never inlined, so that the merge has one copy of the heap's code.
     #[inline(never)]
     pub(crate) fn put(&mut self, place: usize) -> Result<(), AllocError>
         ensures { OnOk result (IsPermutation (place ∷ self.old) self.new) }
@@ -43,7 +43,7 @@ impl Queue {
         Ok(())
     }
 
-    /// Takes the least place out.
+    /// Takes the least place out, and returns it.
     pub(crate) fn take(&mut self) -> Option<usize>
         ensures none { IfNone result (length self.old ≡ 0) }
         ensures taken { IfSome result (λ place. IsPermutation self.old (place ∷ self.new)) }

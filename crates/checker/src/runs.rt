@@ -24,7 +24,7 @@ impl<'a> Model for Runs<'a> {
 }
 
 impl<'a> Runs<'a> {
-    /// The run of the file.
+    /// Returns the run of the file.
     pub(crate) fn run(&self) -> &'a Run<'a>
         ensures value { result.now ≡ self.now.run }
         ensures is_own { IsOwnOf self.now.run.records self.now.own }
@@ -32,7 +32,7 @@ impl<'a> Runs<'a> {
         self.run
     }
 
-    /// The run in the tasks' own order.
+    /// Returns the run in the tasks' own order.
     pub(crate) fn own(&self) -> &'a Own<'a>
         ensures value { result.now ≡ self.now.own }
         ensures is_own { IsOwnOf self.now.run.records self.now.own }

@@ -10,7 +10,7 @@ ghost use Rattle.checker.specs.Suspensions.{AreSuspensions};
 use crate::suspensions::Suspensions;
 use task_tree::Run;
 
-/// The task at an index begins a turn: it runs next.
+/// The task at the index runs next and begins this turn.
 #[derive(Clone, Copy)]
 pub(crate) struct Begin {
     pub(crate) index: usize,
@@ -26,9 +26,9 @@ pub(crate) enum Awaited {
     Turn(Begin),
 }
 
-/// The place of the record that the one at a place awaits: the creation of the task that it starts, discards
-/// or fulfils, or the record at which the explicit task that runs on there was suspended. Inlined into the
-/// loops over all records.
+/// Returns the place of the record that the one at a place awaits: the creation of the task that it starts,
+/// discards or fulfils, or the record at which the explicit task that runs on there was suspended. Inlined
+/// into the loops over all records.
 #[inline(always)]
 pub(crate) fn awaited_at(run: &Run, suspensions: &Suspensions, at: usize) -> Option<usize>
     requires within { at < length run.now.records }
@@ -41,7 +41,7 @@ pub(crate) fn awaited_at(run: &Run, suspensions: &Suspensions, at: usize) -> Opt
     }
 }
 
-/// What the record at a place awaits. Inlined with `awaited_at`.
+/// Returns what the record at a place awaits. Inlined with `awaited_at`.
 #[inline(always)]
 pub(crate) fn awaited_by(run: &Run, at: usize) -> Option<Awaited>
     requires { at < length run.now.records }
@@ -61,7 +61,7 @@ pub(crate) fn awaited_by(run: &Run, at: usize) -> Option<Awaited>
     }
 }
 
-/// The task that starts there: it runs next, in its turn 0.
+/// Returns the task that starts at the place: it runs next, in its turn 0.
 pub(crate) fn first_started(run: &Run, at: usize) -> Option<usize>
     requires { at < length run.now.records }
     ensures { IsIndexOf run.now starts_first at result }
@@ -74,7 +74,7 @@ pub(crate) fn first_started(run: &Run, at: usize) -> Option<usize>
     }
 }
 
-/// The turn that a task begins there. Inlined with `awaited_by`.
+/// Returns the turn that a task begins at the place. Inlined with `awaited_by`.
 #[inline(always)]
 pub(crate) fn begun_at(run: &Run, at: usize) -> Option<Begin>
     requires { at < length run.now.records }

@@ -1,4 +1,4 @@
-//! The phases of a check on two threads: what needs nothing of one another is made side by side.
+//! The phases of a check on two threads: phases that do not need each other's results run side by side.
 ghost use denote.Param.Send.{IsSync};
 ghost use Rattle.std.specs.Prelude.{◌≡◌, Ok, Err, IfOk, IfErr, OnOk};
 ghost use Rattle.ompt_events.specs.declared.fault.Fault.TheVariants.{Memory};
@@ -24,9 +24,9 @@ use task_tree::Families;
 use teams::Teams;
 use wait_coverage::Known;
 
-/// What `ask` answers. With two workers or more the states of tasks are made beside the edges between them, and the
-/// lengths from which on tasks are finished beside the order of the records; a fault is told in the order of the
-/// causes all the same. With one worker no thread is started.
+/// Returns what `ask` returns. With two workers or more the states of tasks are made beside the edges
+/// between them, and the lengths from which on tasks are finished beside the order of the records. The
+/// fault is still that of the least cause. With one worker no thread is started.
 pub(crate) fn ask_on<R: Threads, A: Drop, F: Fn(Clear) -> Result<A, Fault>>(
     rt: &R,
     alloc: Global,
@@ -47,7 +47,7 @@ pub(crate) fn ask_on<R: Threads, A: Drop, F: Fn(Clear) -> Result<A, Fault>>(
     ask_run_on(rt, alloc, trace, &families, answer)
 }
 
-/// The same on two threads, where the tree of tasks is known.
+/// Does the same on two threads once the tree of tasks is known.
 fn ask_run_on<R: Threads, A: Drop, F: Fn(Clear) -> Result<A, Fault>>(
     rt: &R,
     alloc: Global,
@@ -82,7 +82,7 @@ fn ask_run_on<R: Threads, A: Drop, F: Fn(Clear) -> Result<A, Fault>>(
     ask_sound_on(rt, alloc, &sound, answer)
 }
 
-/// The same where only order and ledger may still show a cause.
+/// Does the same once only order, ledger and TargetTask may still show a cause.
 fn ask_sound_on<R: Threads, A: Drop, F: Fn(Clear) -> Result<A, Fault>>(
     rt: &R,
     alloc: Global,
@@ -106,7 +106,7 @@ fn ask_sound_on<R: Threads, A: Drop, F: Fn(Clear) -> Result<A, Fault>>(
     })
 }
 
-/// What `states_of` and `edges_of` give of the run, made side by side.
+/// Returns what `states_of` and `edges_of` return, made side by side.
 fn states_and_edges<'a, R: Threads>(
     rt: &R,
     alloc: Global,
@@ -134,7 +134,7 @@ fn states_and_edges<'a, R: Threads>(
     (states, edges)
 }
 
-/// What `clear_order` and `known_of` give, made side by side.
+/// Returns what `clear_order` and `known_of` return, made side by side.
 fn order_and_known<'a, R: Threads>(
     rt: &R,
     alloc: Global,
@@ -163,7 +163,8 @@ fn order_and_known<'a, R: Threads>(
     (order, known)
 }
 
-/// What the two functions give, called side by side, the first one in a thread of its own. Their values may borrow.
+/// Returns the results of the two functions, called side by side, the first one in a thread of its own. The
+/// results may borrow.
 fn both<R: Threads, F: Fn() -> A + Sync, G: Fn() -> B, A: Send, B>(rt: &R, f: &F, g: &G) -> (A, B)
     requires first { F.pre f.now }
     requires second { G.pre g.now }

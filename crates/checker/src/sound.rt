@@ -1,4 +1,4 @@
-//! What the phases of a check have in hand once no cause occurs that ordering does not show.
+//! What the phases of a check have once only order, ledger and TargetTask may still show a cause.
 ghost use Rattle.std.specs.Prelude.{◌≡◌};
 ghost use Rattle.teams.specs.Teams.{own_of};
 ghost use Rattle.checker.specs.Search.{IsSoundView};
@@ -9,8 +9,8 @@ use std::marker::Model;
 use task_tree::{Own, Run};
 use teams::Teams;
 
-/// A trace that shows none of the causes before `EntryTwice`, with the run of the file, and the teams and the
-/// edges of the run in the tasks' own order.
+/// A trace that shows none of the causes before `EntryTwice`, with the run of the file, and the teams and
+/// the edges of the run in the tasks' own order.
 #[derive(Drop)]
 pub(crate) struct Sound<'a> {
     pub(crate) trace: &'a Trace,
@@ -34,7 +34,7 @@ impl<'a> Model for Sound<'a> {
 }
 
 impl<'a> Sound<'a> {
-    /// The run of the file.
+    /// Returns the run of the file.
     pub(crate) fn run(&self) -> &'a Run<'a>
         ensures value { result.now ≡ self.now.run }
         ensures is_sound { IsSoundView self.now }
@@ -42,7 +42,7 @@ impl<'a> Sound<'a> {
         self.run
     }
 
-    /// The run in the tasks' own order.
+    /// Returns the run in the tasks' own order.
     pub(crate) fn own(&self) -> &'a Own<'a>
         ensures value { result.now ≡ self.now.own }
         ensures is_sound { IsSoundView self.now }
@@ -51,7 +51,7 @@ impl<'a> Sound<'a> {
         teams.own()
     }
 
-    /// The teams of the run in the tasks' own order.
+    /// Returns the teams of the run in the tasks' own order.
     pub(crate) fn teams(&self) -> &'a Teams<'a>
         ensures value { own_of result.now ≡ self.now.own }
         ensures is_sound { IsSoundView self.now }
@@ -59,7 +59,7 @@ impl<'a> Sound<'a> {
         self.teams
     }
 
-    /// The edges between the tasks of that run.
+    /// Returns the edges between the tasks of that run.
     pub(crate) fn edges(&self) -> &'a Edges<'a>
         ensures value { result.now.run ≡ self.now.own.run }
         ensures is_sound { IsSoundView self.now }

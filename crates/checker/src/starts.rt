@@ -1,5 +1,5 @@
-//! The unfinished predecessor of what starts or is complete at a place that was created first, and whether a given
-//! task is one.
+//! Of the unfinished predecessors of what starts or is complete at a place, the one created first; and
+//! whether a given task is one of them.
 ghost use Rattle.std.specs.Prelude.{ℕ, ◌≡◌, ◌<◌, ◌+◌, ◌↔◌, List, IfOk, IfErr, IsTrue, MatchOption, Some, false, length, replicate, slice_get, slice_index, Contains};
 ghost use Rattle.ompt_events.specs.declared.fault.Fault.TheVariants.{Memory};
 ghost use Rattle.ompt_events.specs.declared.cause.Cause.TheVariants.{EntryTwice, LengthAhead};
@@ -18,20 +18,20 @@ use std::alloc::{AllocError, Global};
 use std::marker::Model;
 use task_tree::{Own, Run};
 
-/// What decides whether tasks start in time.
+/// The tables that decide whether tasks start in time.
 #[derive(Drop)]
 pub(crate) struct Precedence<'a, 'r> {
-    /// The run of the file, which tells what starts where.
+    /// The run of the file: what starts where.
     file: &'a Run<'r>,
-    /// The run in the tasks' own order, which tells what precedes what.
+    /// The run in the tasks' own order: what precedes what.
     own: &'a Own<'r>,
     edges: &'a Edges<'r>,
     /// By index of the task in its own order the ledger length from which on it is finished.
     lengths: &'a [u64],
     /// The greatest of the lengths of its predecessors.
     latest: Vec<u64>,
-    /// By index of the task in the file the place at which it starts, or the number of records where it does not;
-    /// none where no task has a predecessor that an entry finishes.
+    /// By index of the task in the file the place at which it starts, or the number of records where it
+    /// does not; none where no task has a predecessor that an entry finishes.
     starts: Option<Vec<u32>>,
 }
 
@@ -63,11 +63,11 @@ impl<'a, 'r> Model for Precedence<'a, 'r> {
 struct Dependent {
     /// Its index in the run in the tasks' own order.
     index: usize,
-    /// A predecessor is complete there exactly where the entries below this ledger length finish it.
+    /// A predecessor is complete there if and only if the entries below this ledger length finish it.
     bound: u32,
 }
 
-/// A predecessor that is not finished, and where in the file it is created.
+/// An unfinished predecessor, and the place in the file at which it is created.
 #[derive(Clone, Copy)]
 struct Late {
     place: usize,
@@ -75,9 +75,9 @@ struct Late {
 }
 
 impl<'a, 'r> Precedence<'a, 'r> {
-    /// What decides it, by the edges of the run, and by the ledger length from which on each task is finished, by
-    /// its index in its own order. It takes a few steps for each record, n log n in the dependences, and memory
-    /// linear in the tasks. Fails only when out of memory.
+    /// Returns the tables, from the edges of the run and the ledger length from which on each task is
+    /// finished, by its index in its own order. Takes a few steps for each record, n log n in the
+    /// dependences, and memory linear in the tasks. Fails only when out of memory.
     pub(crate) fn of(
         alloc: Global,
         sound: &'a Sound<'r>,
@@ -102,7 +102,7 @@ impl<'a, 'r> Precedence<'a, 'r> {
         })
     }
 
-    /// Whether a task starts or is complete at the place that may have unfinished predecessors there.
+    /// Returns false only if each predecessor of what starts or is complete at the place is complete there.
     pub(crate) fn has_dependent(&self, at: usize) -> bool
         requires { at < length self.now.file.records }
         ensures { result ≡ false → AreReady self.now.file.records at }
@@ -113,10 +113,10 @@ impl<'a, 'r> Precedence<'a, 'r> {
         }
     }
 
-    /// Of the predecessors of the explicit task that starts at the place, or of the taskwait with dependences that
-    /// is complete there, that are not finished there the one created first in file order (OpenMP 5.2, 15.9.5 and
-    /// 15.5). It takes a few steps where there is none, and else n log n in the dependences of the task's
-    /// siblings; only memory can be refused.
+    /// Returns an unfinished predecessor of the explicit task that starts at the place, or of the taskwait
+    /// with dependences that is complete there: the one created first in file order (OpenMP 5.2, 15.9.5 and
+    /// 15.5). Takes a few steps where there is none, and else n log n in the dependences of the task's
+    /// siblings. Fails only when out of memory.
     pub(crate) fn late_at(&self, at: usize) -> Result<Option<u64>, Fault>
         requires { at < length self.now.file.records }
         ensures found { IfOk result (λ found. MatchOption found (AreReady self.now.file.records at)
@@ -129,9 +129,9 @@ impl<'a, 'r> Precedence<'a, 'r> {
         }
     }
 
-    /// Whether the task is a predecessor of what starts or is complete at the place, and is not finished
-    /// there (OpenMP 5.2, 15.9.5 and 15.5). It takes n log n steps in the dependences of one task's siblings;
-    /// only memory can be refused.
+    /// Returns whether the task is a predecessor of what starts or is complete at the place, and is not
+    /// finished there (OpenMP 5.2, 15.9.5 and 15.5). Takes n log n steps in the dependences of one task's
+    /// siblings. Fails only when out of memory.
     pub(crate) fn is_late(&self, at: usize, task: u64) -> Result<bool, Fault>
         requires { at < length self.now.file.records }
         ensures late { IfOk result (λ late. IsTrue late ↔ IsLate self.now.file.records at task) }
@@ -144,7 +144,8 @@ impl<'a, 'r> Precedence<'a, 'r> {
     }
 }
 
-/// The places at which the tasks start, where some task has a predecessor that an entry finishes.
+/// Returns the places at which the tasks start, or none where no task has a predecessor that an entry
+/// finishes.
 fn needed_starts(alloc: Global, run: &Run, latest: &[u64]) -> Result<Option<Vec<u32>>, AllocError>
     ensures { IfOk result (λ starts. MatchOption starts (AreNoLengths latest.now)
         (λ starts. AreStarts run.now.records run.now.family.tasks starts.items)) }
@@ -155,7 +156,7 @@ fn needed_starts(alloc: Global, run: &Run, latest: &[u64]) -> Result<Option<Vec<
     Ok(Some(find_starts(alloc, run)?))
 }
 
-/// By index of the task the place at which it starts, or the number of records.
+/// Returns by index of the task the place at which it starts, or the number of records.
 fn find_starts(alloc: Global, run: &Run) -> Result<Vec<u32>, AllocError>
     ensures { IfOk result (λ starts. AreStarts run.now.records run.now.family.tasks starts.items) }
 {
@@ -166,7 +167,7 @@ fn find_starts(alloc: Global, run: &Run) -> Result<Vec<u32>, AllocError>
     Ok(starts)
 }
 
-/// No task starts.
+/// Returns the table in which no task starts.
 fn no_starts(alloc: Global, run: &Run) -> Result<Vec<u32>, AllocError>
     ensures { IfOk result (λ starts. starts.items
         ≡ replicate (length run.now.family.tasks) (length run.now.records)) }
@@ -174,7 +175,7 @@ fn no_starts(alloc: Global, run: &Run) -> Result<Vec<u32>, AllocError>
     vec![in alloc; run.len() as u32; run.task_count()]
 }
 
-/// Notes the task of which the record at the place is the first to begin turn 0.
+/// Notes the start at the place, if this record is the first to begin turn 0 of its task.
 fn note_start(run: &Run, starts: &mut Vec<u32>, at: usize)
     requires within { at < length run.now.records }
     requires starts { AreStartsBelow run.now.records at run.now.family.tasks starts.old.items }
@@ -187,7 +188,7 @@ fn note_start(run: &Run, starts: &mut Vec<u32>, at: usize)
     }
 }
 
-/// Whether all lengths are 0.
+/// Returns true only if all lengths are 0.
 fn are_all_zero(latest: &[u64]) -> bool
     ensures { IsTrue result → AreNoLengths latest.now }
 {
@@ -199,7 +200,7 @@ fn are_all_zero(latest: &[u64]) -> bool
     true
 }
 
-/// The index of the explicit task that starts at the place.
+/// Returns the index of the explicit task that starts at the place.
 fn start_at(run: &Run, starts: &[u32], at: usize) -> Option<usize>
     requires within { at < length run.now.records }
     requires starts { AreStarts run.now.records run.now.family.tasks starts.now }
@@ -214,7 +215,7 @@ fn start_at(run: &Run, starts: &[u32], at: usize) -> Option<usize>
     }
 }
 
-/// Whether the task is one of these.
+/// Returns whether the task is one of these.
 fn is_among(tasks: &[u64], task: u64) -> bool
     ensures { IsTrue result ↔ Contains tasks.now task }
 {
@@ -223,8 +224,8 @@ fn is_among(tasks: &[u64], task: u64) -> bool
 
 // What must be complete at a place.
 impl Precedence<'_, '_> {
-    /// The task whose predecessors must be complete at the place: an explicit one that starts there, or a
-    /// taskwait that is complete there.
+    /// Returns the task whose predecessors must be complete at the place: an explicit one that starts
+    /// there, or a taskwait that is complete there.
     fn dependent_at(&self, starts: &[u32], at: usize) -> Option<Dependent>
         requires within { at < length self.now.file.records }
         requires starts { AreStarts self.now.file.records self.now.file.family.tasks starts.now }
@@ -246,7 +247,7 @@ impl Precedence<'_, '_> {
         }
     }
 
-    /// Of the tasks that must be complete at the place as predecessors the first created one that isn't.
+    /// Returns, of the predecessors that must be complete at the place and aren't, the one created first.
     fn late_by(&self, starts: &[u32], at: usize) -> Result<Option<u64>, Fault>
         requires within { at < length self.now.file.records }
         requires starts { AreStarts self.now.file.records self.now.file.family.tasks starts.now }
@@ -260,7 +261,7 @@ impl Precedence<'_, '_> {
         }
     }
 
-    /// Whether the task is one of them, and isn't complete there.
+    /// Returns whether the task is one of those predecessors, and isn't complete there.
     fn is_late_by(&self, starts: &[u32], at: usize, task: u64) -> Result<bool, Fault>
         requires within { at < length self.now.file.records }
         requires starts { AreStarts self.now.file.records self.now.file.family.tasks starts.now }
@@ -273,8 +274,8 @@ impl Precedence<'_, '_> {
         }
     }
 
-    /// The ledger length that decides what is complete where the record at the place starts an explicit task:
-    /// what it finishes itself counts.
+    /// Returns the ledger length that decides what is complete where the record at the place starts an
+    /// explicit task. A task that the record itself finishes counts.
     fn start_bound(&self, at: usize) -> u32
         requires { at < length self.now.file.records }
         ensures { (index : ℕ) → StartsAt self.now.file.records self.now.file.family.tasks at index
@@ -286,8 +287,8 @@ impl Precedence<'_, '_> {
 
 // The predecessors of one task, by its index in its own order.
 impl Precedence<'_, '_> {
-    /// Whether the task is a predecessor of the one at the index, and the entries below the length don't
-    /// finish it.
+    /// Returns whether the task is a predecessor of the one at the index, and the entries below the length
+    /// don't finish it.
     fn is_late_of(&self, index: usize, bound: u32, task: u64) -> Result<bool, Fault>
         requires { index < length self.now.own.run.family.tasks }
         ensures late { IfOk result (λ late. (dependent : ℕ)
@@ -303,8 +304,8 @@ impl Precedence<'_, '_> {
         }
     }
 
-    /// Of the predecessors of the task at the index the first created one that the entries below the length
-    /// don't finish.
+    /// Returns, of the predecessors of the task at the index that the entries below the length don't
+    /// finish, the one created first in file order.
     fn late_of(&self, index: usize, bound: u32) -> Result<Option<u64>, Fault>
         requires { index < length self.now.own.run.family.tasks }
         ensures found { IfOk result (λ found. (task : ℕ)
@@ -313,7 +314,7 @@ impl Precedence<'_, '_> {
             (IsFirstBehind self.now.file.records self.now.own.run.records task bound)) }
         ensures memory_alone { IfErr result (λ fault. fault ≡ Memory) }
     {
-        // Most predecessors are finished in time: only where one is not are they looked at.
+        // Most predecessors are finished in time. They are searched only where one is not.
         if self.latest[index] <= u64::from(bound) {
             return Ok(None);
         }
@@ -321,8 +322,8 @@ impl Precedence<'_, '_> {
         Ok(self.first_behind(&predecessors, bound))
     }
 
-    /// Of a task's predecessors that the entries below the length don't finish the one that is created first in
-    /// file order.
+    /// Returns, of a task's predecessors that the entries below the length don't finish, the one created
+    /// first in file order.
     fn first_behind(&self, predecessors: &[u64], bound: u32) -> Option<u64>
         ensures { (task : ℕ) → ArePredecessors self.now.own.run.records task predecessors.now
             → MatchOption result (AreDoneBefore self.now.own.run.records task bound)
@@ -338,15 +339,15 @@ impl Precedence<'_, '_> {
         }
     }
 
-    /// Of a late predecessor, if one is known, and this one, unless the entries below the length finish it, the
-    /// one that is created first in file order.
+    /// Returns the one that is created first in file order: of a late predecessor, if one is known, and
+    /// this task, unless the entries below the length finish it.
     fn earlier_of(&self, first: Option<Late>, task: u64, bound: u32) -> Option<Late>
         ensures { (predecessors : List ℕ) (n dependent : ℕ) → slice_get predecessors n ≡ Some task
             → ArePredecessors self.now.own.run.records dependent predecessors
             → IsFirstOf self.now.file.records self.now.own.run.records predecessors bound n first
             → IsFirstOf self.now.file.records self.now.own.run.records predecessors bound (n + 1) result }
     {
-        // Tells that these are the tasks' lengths. Compiled, it is nothing.
+        // Makes the invariant known: these are the tasks' lengths. It compiles to nothing.
         let _lengths = self.lengths;
         match self.behind_at(task, bound) {
             Some(place) => Some(earlier(first, Late { place, task })),
@@ -354,8 +355,8 @@ impl Precedence<'_, '_> {
         }
     }
 
-    /// Where in the file the task is created, unless the entries below the length finish it. It must be one that
-    /// another task creates.
+    /// Returns the place in the file at which the task is created, or none if the entries below the length
+    /// finish it. The contract speaks of explicit tasks only.
     fn behind_at(&self, task: u64, bound: u32) -> Option<usize>
         ensures { (index : ℕ) → slice_get self.now.own.run.family.tasks index ≡ Some task
             → IsExplicit self.now.own.run.records task
@@ -372,7 +373,8 @@ impl Precedence<'_, '_> {
     }
 }
 
-/// Of a late predecessor, if one is known, and another the one that is created first in file order.
+/// Returns the one that is created first in file order: of a late predecessor, if one is known, and
+/// another.
 fn earlier(first: Option<Late>, other: Late) -> Late
     ensures { IsEarlierOf other result first }
 {

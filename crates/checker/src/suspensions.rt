@@ -13,7 +13,7 @@ use std::alloc::{AllocError, Global};
 use task_tree::Run;
 
 /// The records at which the explicit tasks are suspended, in a table: by index of the task a row with one
-/// slot for each of its turns, up to the last that begins. Where no record tells a turn the table is empty.
+/// slot for each of its turns, up to the last that begins. Where no record has a turn the table is empty.
 /// Where the turns of a task have no gap, the rows have no more slots than records start tasks.
 #[derive(Drop)]
 pub(crate) struct Suspensions {
@@ -23,7 +23,7 @@ pub(crate) struct Suspensions {
     places: Vec<u32>,
 }
 
-/// The task at an index is suspended, which ends a turn.
+/// The task at the index is suspended, which ends this turn.
 #[derive(Clone, Copy)]
 pub(crate) struct End {
     pub(crate) index: usize,
@@ -31,7 +31,7 @@ pub(crate) struct End {
 }
 
 impl Suspensions {
-    /// Those of the run.
+    /// Returns the suspensions of the run.
     pub(crate) fn of(alloc: Global, run: &Run) -> Result<Suspensions, AllocError>
         requires { EachAwaitsOne run.now.records }
         ensures { IfOk result (AreSuspensions run.now.records run.now.family.tasks) }
@@ -47,26 +47,27 @@ impl Suspensions {
         Ok(Suspensions { rows, places })
     }
 
-    /// How many slots there are.
+    /// Returns how many slots there are.
     pub(crate) fn slot_count(&self) -> usize
         ensures { result ≡ length self.now.places.items }
     {
         self.places.len()
     }
 
-    /// The slot of the turn that the task begins there.
+    /// Returns the slot of the turn that the task begins there.
     pub(crate) fn slot_of(&self, begin: Begin) -> usize
         requires has { HasSlot self.now.rows.items begin.index begin.turn }
         requires within { slice_index self.now.rows.items begin.index + begin.turn
             < length self.now.places.items }
         ensures { result ≡ slice_index self.now.rows.items begin.index + begin.turn }
     {
-        // Tells that a slot is a number in range. Compiled, it is nothing.
+        // Makes the invariant known: a slot is a number in range. It compiles to nothing.
         let _count = self.places.len();
         self.rows[begin.index] + begin.turn as usize
     }
 
-    /// The place at which the task was suspended that runs on at a place, if it is explicit.
+    /// Returns the place at which the explicit task that runs on at a place was suspended. Returns none for
+    /// other tasks.
     pub(crate) fn end_before(&self, run: &Run, at: usize, begin: Begin) -> Option<usize>
         requires known { AreSuspensions run.now.records run.now.family.tasks self.now }
         requires begins { IsStartOf run.now.records run.now.family.tasks at begin.index begin.turn }
@@ -77,7 +78,7 @@ impl Suspensions {
         other_place(place, run.len(), at)
     }
 
-    /// The slot of the turn behind the one in which an explicit task is suspended at a place.
+    /// Returns the slot of the turn after the one in which an explicit task is suspended at a place.
     pub(crate) fn slot_behind(&self, run: &Run, at: usize) -> Option<usize>
         requires within { at < length run.now.records }
         requires is_run { IsRun run.now }
@@ -92,7 +93,7 @@ impl Suspensions {
     }
 }
 
-/// The place, if it is one of so many and not that of the record which asks: that may suspend the task itself
+/// Returns the place, unless it is past the end or that of the record itself. A record may suspend the task
 /// with which it goes on, and does not await itself.
 fn other_place(place: usize, count: usize, at: usize) -> Option<usize>
     ensures { MatchOption result (place < count → place ≢ at → ⊥)
@@ -105,7 +106,7 @@ fn other_place(place: usize, count: usize, at: usize) -> Option<usize>
     }
 }
 
-/// The turn that ends there because a task is suspended.
+/// Returns the turn that ends at the place because a task is suspended.
 pub(crate) fn suspended_at(run: &Run, at: usize) -> Option<End>
     requires { at < length run.now.records }
     ensures { MatchOption result (says_at suspended_turn run.now.records at ≡ None)
@@ -116,7 +117,7 @@ pub(crate) fn suspended_at(run: &Run, at: usize) -> Option<End>
     Some(End { index, turn })
 }
 
-/// Whether the first record that starts a task tells turns. If it does not, no record does.
+/// Returns whether the first record that starts a task has turns. If it has none, no record has.
 fn tells_turns(records: &[Record]) -> bool
     requires { EachAwaitsOne records.now }
     ensures { result ≡ false → BeginsNoLater records.now }
@@ -129,7 +130,7 @@ fn tells_turns(records: &[Record]) -> bool
     false
 }
 
-/// By index of the task one more than the greatest turn that it begins, and 0 where it begins none.
+/// Returns by index of the task one more than the greatest turn that it begins, and 0 where it begins none.
 fn row_lengths(alloc: Global, run: &Run) -> Result<Vec<u64>, AllocError>
     ensures all { IfOk result (λ lengths. length lengths.items ≡ length run.now.family.tasks) }
     ensures few { IfOk result (λ lengths. length lengths.items ≤ 2 ^ 22) }
@@ -160,7 +161,7 @@ fn note_begin(run: &Run, lengths: &mut Vec<u64>, at: usize)
     }
 }
 
-/// By index of the task the first slot of its row, and last the end of all rows.
+/// Returns by index of the task the first slot of its row, and last the end of all rows.
 fn rows_of(alloc: Global, run: &Run) -> Result<Vec<usize>, AllocError>
     ensures some { IfOk result (λ rows. 0 < length rows.items) }
     ensures rows { IfOk result (λ rows. AreRowsInOrder rows.items) }
@@ -177,7 +178,7 @@ fn rows_of(alloc: Global, run: &Run) -> Result<Vec<usize>, AllocError>
     Ok(rows)
 }
 
-/// By slot the place at which the turn before ends.
+/// Returns by slot the place at which the turn before ends.
 fn find_ends(alloc: Global, run: &Run, rows: &[usize]) -> Result<Vec<u32>, AllocError>
     requires some { 0 < length rows.now }
     requires rows { AreRowsInOrder rows.now }
@@ -192,14 +193,14 @@ fn find_ends(alloc: Global, run: &Run, rows: &[usize]) -> Result<Vec<u32>, Alloc
     Ok(places)
 }
 
-/// So many empty slots.
+/// Returns this many empty slots.
 fn no_ends(alloc: Global, run: &Run, slots: usize) -> Result<Vec<u32>, AllocError>
     ensures { IfOk result (λ places. places.items ≡ replicate slots (length run.now.records)) }
 {
     vec![in alloc; run.len() as u32; slots]
 }
 
-/// Fills the slot behind the turn that ends at a place.
+/// Fills the slot of the turn after the one that ends at a place.
 fn note_end(run: &Run, rows: &[usize], places: &mut Vec<u32>, at: usize)
     requires at { at < length run.now.records }
     requires is_run { IsRun run.now }
@@ -214,7 +215,7 @@ fn note_end(run: &Run, rows: &[usize], places: &mut Vec<u32>, at: usize)
     }
 }
 
-/// The slot of the turn behind the one in which an explicit task is suspended at a place.
+/// Returns the slot of the turn after the one in which an explicit task is suspended at a place.
 fn slot_behind(run: &Run, rows: &[usize], at: usize) -> Option<usize>
     requires within { at < length run.now.records }
     requires is_run { IsRun run.now }
@@ -229,7 +230,7 @@ fn slot_behind(run: &Run, rows: &[usize], at: usize) -> Option<usize>
     }
 }
 
-/// The slot of a turn in the row of the task at an index, if it has one.
+/// Returns the slot of a turn in the row of the task at an index, if it has one.
 fn slot_in(rows: &[usize], index: usize, turn: usize) -> Option<usize>
     ensures { MatchOption result (HasSlot rows.now index turn → ⊥)
         (λ slot. HasSlot rows.now index turn × (slot ≡ slice_index rows.now index + turn)) }

@@ -1,4 +1,4 @@
-//! What a check answers.
+//! The types that a check returns.
 ghost use Rattle.std.specs.Prelude.{◌≡◌, length, slice_get};
 ghost use Rattle.std.specs.List.{range_with_len};
 
@@ -15,9 +15,9 @@ pub struct Order {
 /// Places of records, the earliest first.
 #[derive(Debug, Drop)]
 enum Places {
-    /// So many records as they stand in the file.
+    /// All of this many records, in file order.
     InFile(usize),
-    /// These.
+    /// The records at these places.
     Listed(Vec<u32>),
 }
 
@@ -31,7 +31,7 @@ impl Model for Order {
 }
 
 impl Order {
-    /// So many records as they stand in the file. Takes no memory.
+    /// Returns the order of this many records as the file has them. Takes no memory.
     pub fn in_file(records: usize) -> Order
         ensures { result ≡ range_with_len 0 records }
     {
@@ -40,7 +40,7 @@ impl Order {
         }
     }
 
-    /// The order of these places. Takes no memory.
+    /// Returns the order of these places. Takes no memory.
     pub fn from_vec(places: Vec<u32>) -> Order
         ensures { result ≡ places.items }
     {
@@ -49,7 +49,7 @@ impl Order {
         }
     }
 
-    /// How many records.
+    /// Returns how many records it has.
     pub fn len(&self) -> usize
         ensures { result ≡ length self.now }
     {
@@ -59,7 +59,7 @@ impl Order {
         }
     }
 
-    /// The place of the record that has so many before it in the order, from 0; none past the end.
+    /// Returns the place of the record with this position in the order, from 0. Returns none past the end.
     pub fn place_at(&self, before: usize) -> Option<usize>
         ensures { result ≡ slice_get self.now before }
     {
@@ -87,7 +87,7 @@ impl Order {
 pub enum Why {
     /// The wait that ends there covers this task, and the task is not finished.
     Unfinished(u64),
-    /// This task is a predecessor of the one that starts there, or of the taskwait that is complete there,
+    /// This task is a predecessor of the task that starts there, or of the taskwait that is complete there,
     /// and it is not finished.
     Predecessor(u64),
 }
@@ -100,11 +100,12 @@ pub enum Verdict {
     Yes { order: Order },
     /// The first record at which a task that must be finished is not.
     No { at: usize, why: Why },
-    /// No run within the model gives the records, for this cause; `at` is the first record that shows it.
+    /// No run within the model can produce these records, for this cause; `at` is the first record that
+    /// shows it.
     Malformed { at: usize, cause: Cause },
 }
 
-/// Why there is no answer.
+/// Why there is no verdict.
 #[derive(Clone, Copy, Debug, PartialEq, Eq, Error)]
 pub enum CheckFault {
     /// Out of memory.
@@ -113,10 +114,10 @@ pub enum CheckFault {
     /// No workers, or more than [`MAX_WORKERS`].
     #[error("the number of workers is not 1 to 256")]
     Workers,
-    /// The gate does not let this worker pass.
+    /// The gate refuses this worker.
     #[error("worker {0} may not pass the gate")]
     Gate(u32),
-    /// A thread could not be started.
+    /// A thread could not be started. No call of this crate fails so.
     #[error("no thread")]
     Thread,
 }

@@ -1,4 +1,4 @@
-//! What each record lets stand once it stands itself.
+//! Which records may be placed once one more is.
 ghost use Rattle.std.specs.Prelude.{ℕ, ◌≡◌, ◌<◌, ◌≤◌, Some, IfOk, OnOk, Contains, length};
 ghost use Rattle.ompt_events.specs.Causes.{entries_in};
 ghost use Rattle.checker.specs.Schedule.{Awaits};
@@ -10,26 +10,26 @@ use crate::makers::Makers;
 use crate::queue::Queue;
 use std::alloc::{AllocError, Global};
 
-/// The records that await each other one, and those that name each ledger length.
+/// Lists of the records that await each record, and of those that name each ledger length.
 #[derive(Drop)]
 pub(crate) struct Waiting {
     by_key: Lists,
     by_length: Lists,
 }
 
-/// A record that was put in order just now.
+/// The record that was placed last.
 #[derive(Clone, Copy)]
 pub(crate) struct Placed {
     /// Its place.
     pub(crate) place: usize,
     /// The place of the next record of its thread, or the number of records.
     pub(crate) next: usize,
-    /// The ledger length that was reached before it stood.
+    /// The ledger length that was reached before it was placed.
     pub(crate) was_low: usize,
 }
 
 impl Waiting {
-    /// Those of all records.
+    /// Returns the lists of all records.
     pub(crate) fn of(alloc: Global, makers: &Makers) -> Result<Waiting, AllocError>
         ensures { IfOk result (AreWaiting makers.now.run.records makers.now.run.family.tasks
             makers.now.suspensions) }
@@ -40,9 +40,8 @@ impl Waiting {
         })
     }
 
-    /// Puts to the records that may stand next those that the record at a place lets, which stands since then:
-    /// the next one of its thread, those that await it, and those that name a length that it let the ledger
-    /// reach.
+    /// Adds to the queue what may be placed next since the given record is placed: the next one of its
+    /// thread, the records that await it, and those that name a ledger length that is reached since then.
     pub(crate) fn release(
         &self,
         front: &Front,
@@ -71,7 +70,7 @@ impl Waiting {
         Ok(())
     }
 
-    /// Does that for those that await the record at a place.
+    /// Adds those that await the record at a place.
     fn offer_awaiting(
         &self,
         front: &Front,

@@ -1,5 +1,5 @@
-//! The check on several threads: workers that share out what is decided of a trace without a cause. The phases before
-//! stand in `side_by_side`.
+//! The check on several threads: workers share out the records of a trace without a cause. The phases
+//! before are in `side_by_side`.
 ghost use Rattle.std.specs.Prelude.{ℕ, ◌≡◌, ◌≢◌, ◌≤◌, ◌<◌, ◌^◌, ◌↔◌, Err, Some, IfOk, IfErr, length, slice_get};
 ghost use denote.Param.Send.{IsSync};
 ghost use Rattle.ompt_events.specs.declared.fault.Fault.TheVariants.{Memory};
@@ -21,14 +21,14 @@ use std::thread::{Threads, map_indices};
 /// The most workers of a check.
 pub const MAX_WORKERS: u32 = 256;
 
-/// The verdict of `check`, with the ends of waits and the starts of tasks decided by so many workers, 1 to
-/// [`MAX_WORKERS`], side by side. Each worker passes the gate once, before it decides; where the trace is malformed no
-/// worker starts. With two workers or more some phases before are made side by side too, two at a time: the states of
-/// tasks beside nesting, dependences and claims; and the order of the records beside the ledger lengths from which on
-/// tasks are finished. Such a thread is no worker, and passes no gate. A worker or a phase for which no thread can be
-/// made works on the caller's. Fails when out of memory, for another number of workers, which is looked at first, and
-/// where the gate refuses a worker: of those that it refuses the one with the least number is named, unless memory
-/// runs out.
+/// Returns the verdict of `check`, with the ends of waits and the starts of tasks decided by this many
+/// workers, 1 to [`MAX_WORKERS`], side by side. Each worker passes the gate once, before it decides; for a
+/// malformed trace no worker starts. With two workers or more some phases before run side by side too, two
+/// at a time: the states of tasks beside nesting, dependences and claims; and the order of the records
+/// beside the ledger lengths from which on tasks are finished. Such a thread is no worker, and passes no
+/// gate. A worker or a phase for which no thread can be made runs on the caller's. Fails for another number
+/// of workers, which is checked first; when out of memory; and if the gate refuses a worker. It names the
+/// refused worker with the least number, unless memory runs out.
 pub fn check_on<R: Threads + Sync, G: Gate + Sync>(
     rt: &R,
     alloc: Global,
@@ -65,7 +65,7 @@ pub fn check_on<R: Threads + Sync, G: Gate + Sync>(
     }
 }
 
-/// The verdict on a trace without a cause, or the worker that the gate refuses.
+/// Returns the verdict on a trace without a cause, or the worker that the gate refuses.
 fn verdict_on<R: Threads + Sync, G: Gate + Sync>(
     rt: &R,
     alloc: Global,
@@ -85,8 +85,8 @@ fn verdict_on<R: Threads + Sync, G: Gate + Sync>(
     }
 }
 
-/// The first record at which a task that must be finished is not, and why it must be; or the worker that the gate
-/// refuses.
+/// Returns the first record at which a task that must be finished is not, and why it must be; or the worker
+/// that the gate refuses.
 fn violation_on<R: Threads + Sync, G: Gate + Sync>(
     rt: &R,
     alloc: Global,
@@ -110,7 +110,7 @@ fn violation_on<R: Threads + Sync, G: Gate + Sync>(
     decide_all(rt, alloc, &work, gate)
 }
 
-/// What several workers decide, who share it out.
+/// The work that several workers share out.
 #[derive(Drop)]
 struct Work<'a, 'r> {
     deciding: &'a Deciding<'a, 'r>,
@@ -152,7 +152,8 @@ enum WorkerFault {
     Memory,
 }
 
-/// What all workers find together, each in a thread of its own.
+/// Returns the least finding of all workers, each in a thread of its own; or the worker that the gate
+/// refuses.
 fn decide_all<R: Threads + Sync, G: Gate + Sync>(
     rt: &R,
     alloc: Global,
@@ -181,7 +182,7 @@ fn decide_all<R: Threads + Sync, G: Gate + Sync>(
     }
 }
 
-/// What the worker with this number finds, if the gate lets it pass.
+/// Returns what the worker with this number finds. Fails if the gate refuses it, or when out of memory.
 fn decide_share<G: Gate>(
     alloc: Global,
     work: &Work,
@@ -201,8 +202,9 @@ fn decide_share<G: Gate>(
 }
 
 impl Work<'_, '_> {
-    /// The first stop of the worker with this number that is a violation. Its stops are those whose index leaves its
-    /// number when it is divided by the number of workers, so a trace that repeats itself is shared out evenly.
+    /// Returns the first stop of the worker with this number that is a violation. Its stops are those whose
+    /// index modulo the number of workers is its own number, so that a trace which repeats itself is shared
+    /// out evenly.
     fn find_in_share(&self, alloc: Global, worker: usize) -> Result<Option<Finding>, Fault>
         requires { worker < self.now.workers }
         ensures found { IfOk result
@@ -221,7 +223,8 @@ impl Work<'_, '_> {
     }
 }
 
-/// The finding that comes first in the order of the stops; or the first worker that decided nothing, and why.
+/// Returns the finding that is first in the order of the stops. Fails with the first worker that decided
+/// nothing, and why.
 fn least_of(
     findings: &[Result<Option<Finding>, WorkerFault>],
 ) -> Result<Option<Finding>, (usize, WorkerFault)>
@@ -240,7 +243,7 @@ fn least_of(
     Ok(least)
 }
 
-/// Of a finding, if there is one, and another the one that comes first.
+/// Returns the one that is first in the order of the stops: of a finding, if there is one, and another.
 fn lesser(least: Option<Finding>, other: Finding) -> Finding
     ensures { IsLesserOf least other result }
 {

@@ -1,4 +1,4 @@
--- When a call is refused, and why.
+-- When a call fails, and why.
 use Rattle.std.specs.Prelude.{ℕ, ◌&&◌, Bool, not, Option, Some, None, if◌then◌else◌}
 use Rattle.std.specs.Option.{option_map_or}
 use Rattle.ompt_events.specs.Flags as flag
@@ -8,13 +8,13 @@ use Rattle.credit_ledger.specs.declared.fault.LedgerFault.TheVariants as ledger
 use Rattle.recorder.specs.declared.fault.CallFault.{CallFault}
 use Rattle.recorder.specs.declared.fault.CallFault.TheVariants.{Memory, Full, WrongState, TooDeep, Overlap}
 
--- the fault that the caller is told where the ledger refuses
+-- the fault of a call whose entry the ledger refuses
 abbrev pub ledger_refusal : LedgerFault → CallFault
 ledger_refusal ledger.Memory = Memory
 ledger_refusal (ledger.Overlap index) = Overlap
 ledger_refusal ledger.Full = Full
 
--- why a call is refused before it needs memory, if it is: it may not come here, the path of its task is too
+-- why a call fails before it needs memory, if it does: it may not come here, the path of its task is too
 -- long, or there is no room for a record, a dependence, a child or a turn
 abbrev pub refusal : Bool → Bool → Bool → Option CallFault
 refusal may deep full =
@@ -23,7 +23,7 @@ refusal may deep full =
     else if full then Some Full
     else None
 
--- the fault of a call that is refused: where there is no such reason, it is memory
+-- the fault of a call that fails: if there is no such reason, out of memory
 abbrev pub call_fault : Option CallFault → CallFault
 call_fault found = option_map_or (λ fault. fault) found Memory
 

@@ -1,5 +1,5 @@
--- What a recorder does: the value of a task, where a thread stands, what it has recorded, and the calls.
--- Read Tasks and Standing first, then Logs and Recorders; Calls says when a call is refused.
+-- What a recorder does: the value of a task, the state of a thread, what it has recorded, and the calls.
+-- Read Tasks and Standing first, then Logs, Recorders and Schedules; Calls defines when a call fails.
 pub mod Tasks
 pub mod Standing
 pub mod Logs

@@ -9,19 +9,19 @@ use Rattle.ompt_events.specs.Traces.{IsSoundIn, IsInRange}
 use Rattle.recorder.specs.declared.standing.Standing.{Standing}
 use Rattle.recorder.specs.Standing.{standing_at_start, next_standing, allows}
 
--- what clauses see of a thread's records: the thread's number, the records, the ledger length that the
--- thread knew last, and for how many more records there is room
+-- the view of a thread's records: the thread's number, the records, the ledger length that the thread knew
+-- last, and for how many more records there is room
 pub record LogView : Type 0 where
   pub thread : ℕ
   pub records : List Record
   pub known : ℕ
   pub spare : ℕ
 
--- where the thread stands after its records
+-- the state of the thread after its records
 abbrev pub standing_of : List Record → Standing
 standing_of own = fold (λ s (r : Record). next_standing s r.body) standing_at_start own
 
--- the ledger length that is known after a record that names `seen`: one more where it makes the entry with
+-- the ledger length that is known after a record that names `seen`: one more if it makes the entry with
 -- that index
 abbrev pub known_from : ℕ → Body → ℕ
 known_from seen body = if is_some (finish body) then seen + 1 else seen
@@ -49,7 +49,7 @@ pub record AreRecorded (thread : ℕ) (own : List Record) (known : ℕ) : Type 0
   pub orderly : AreOrderly thread own
   pub known_rises : known_of own ≤ known
 
--- the log is as it was, but for its room
+-- the log is as it was, except for its room
 pub record IsSameLog (old new : LogView) : Type 0 where
   pub thread : new.thread ≡ old.thread
   pub records : new.records ≡ old.records

@@ -18,8 +18,8 @@ use Rattle.recorder.specs.Standing.{allows}
 use Rattle.recorder.specs.Logs.{standing_of, known_from}
 use Rattle.recorder.specs.Calls.{call_fault, refusal, ledger_refusal}
 
--- what clauses see of a recorder: the thread's number, its records, the ledger length that it knew last,
--- which ledger it is of, and what its seat has seen of that
+-- the view of a recorder: the thread's number, its records, the ledger length that it knew last, its
+-- ledger, and what its seat has seen of that
 pub record RecorderView : Type 0 where
   pub thread : ℕ
   pub records : List Record
@@ -27,7 +27,7 @@ pub record RecorderView : Type 0 where
   pub ledger : TableId
   pub seat : View
 
--- what clauses see of a note: the ledger, and what its seat has seen
+-- the view of a note: the ledger, and what its seat has seen
 pub record NoteView : Type 0 where
   pub ledger : TableId
   pub seat : View
@@ -36,20 +36,21 @@ pub record NoteView : Type 0 where
 abbrev pub entries_of : View → List Entry
 entries_of seat = entries_after seat.seen
 
--- each finishing record made the entry that stands where it says
+-- the entry that each finishing record made is at the index that it names
 abbrev pub HaveEntries : List Record → List Entry → Type 0
 HaveEntries own entries =
     (i : ℕ) (r : Record) (entry : Entry) → slice_get own i ≡ Some r → entry_of r ≡ Some entry
     → slice_get entries r.seen ≡ Some entry
 
--- the thread's seat has seen what its records say of the ledger
+-- the thread's seat has seen all that its records name of the ledger
 pub record IsBacked (own : List Record) (known : ℕ) (seat : View) : Type 0 where
   pub seen : known ≤ length (entries_of seat)
   pub entered : HaveEntries own (entries_of seat)
 
 -- ---- one more record
 
--- the recorder with a record that names `seen`, after a call on the ledger, if there was one
+-- the recorder with one more record, which names `seen`; the seat is that after the call on the ledger, if
+-- there was one
 abbrev pub recorded : RecorderView → ℕ → View → Body → RecorderView
 recorded r seen seat body = record {
   thread = r.thread;
@@ -59,7 +60,7 @@ recorded r seen seat body = record {
   seat = seat;
 }
 
--- a record of a call that asks no ledger names what the recorder knew last
+-- a record of a call that does not use the ledger names the length that the recorder knew last
 abbrev pub recorded_alone : RecorderView → Body → RecorderView
 recorded_alone r body = recorded r r.known r.seat body
 
@@ -76,7 +77,7 @@ IsConcluded old entry index body new =
 abbrev pub entry_by : ℕ → Body → Option Entry
 entry_by thread body = option_and_then (λ f. option_map (claimed_entry thread f) (claim body)) (finish body)
 
--- the ledger refused the entry: it was looked at, and the recorder learns nothing from that
+-- the ledger refused the entry: the seat has looked at the ledger, and the recorder is otherwise unchanged
 pub record IsRefusedByLedger (old : RecorderView) (entry : Entry) (new : RecorderView)
     (fault : CallFault) : Type 0 where
   pub seen : ℕ
@@ -84,15 +85,15 @@ pub record IsRefusedByLedger (old : RecorderView) (entry : Entry) (new : Recorde
   pub unchanged : new ≡ record old { seat = new.seat }
   pub fault_is : fault ≡ ledger_refusal (ledger.entry_fault (entries_of new.seat) entry)
 
--- a call that finishes a task is refused: before the ledger is asked, so that nothing is changed, or by the
--- ledger
+-- a call that finishes a task fails: before it uses the ledger, so that nothing is changed, or because the
+-- ledger refuses the entry
 pub data IsFinishRefused (old : RecorderView) (found : Option CallFault) (entry : Option Entry)
     (new : RecorderView) (fault : CallFault) : Type 0 where
   before : new ≡ old → fault ≡ call_fault found → IsFinishRefused old found entry new fault
   by_ledger : (e : Entry) → found ≡ None → entry ≡ Some e → IsRefusedByLedger old e new fault
       → IsFinishRefused old found entry new fault
 
--- ---- when a call is refused
+-- ---- when a call fails
 
 abbrev pub is_log_full : RecorderView → Bool
 is_log_full r = nat_le max_records (length r.records)
@@ -101,7 +102,7 @@ is_log_full r = nat_le max_records (length r.records)
 abbrev pub allowed : RecorderView → Body → Bool
 allowed r body = allows (standing_of r.records) body
 
--- why a call that would add a record with this body is refused before it needs memory; what its tasks allow,
--- how deep they are and whether they have room for more is given
+-- why a call that would add a record with this body fails before it needs memory; its arguments are whether
+-- the tasks allow it, are too deep, and have no room for more
 unfoldable pub refusal_at : RecorderView → Bool → Bool → Bool → Body → Option CallFault
 refusal_at r may deep full body = refusal (may && allowed r body) deep (full || is_log_full r)

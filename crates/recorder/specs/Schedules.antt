@@ -29,7 +29,7 @@ use Rattle.recorder.specs.Tasks.{turn_begun_next}
 use Rattle.recorder.specs.Tasks.{after_stop, entry_of_part}
 use Rattle.recorder.specs.Recorders.{RecorderView, IsObserved, IsConcluded, refusal_at}
 
--- a task stops or is fulfilled with a status, and another one runs next, if there is one
+-- a task that stops or is fulfilled with a status, and the task that runs next, if there is one
 pub record ScheduleView : Type 0 where
   pub prior : TaskView
   pub status : Status
@@ -42,7 +42,7 @@ turns_of prior next = record {
   next = option_map_or (λ turn. turn) (turn_begun_next next) 0;
 }
 
--- its record, with what is claimed of a task that it finishes
+-- its record, with the claim of a task that it finishes
 abbrev pub schedule_body : ScheduleView → Option Claim → Body
 schedule_body s share =
     TaskSchedule s.status (option_map (turns_of s.prior) s.next) s.prior.id
@@ -65,7 +65,7 @@ is_by_parent r prior TaskwaitComplete =
     option_map_or (λ parent. is_task parent (standing_of r.records).current) (parent_of prior.origin) false
 is_by_parent r prior _ = true
 
--- there is a next task exactly where the status demands one
+-- there is a next task if and only if the status demands one
 abbrev pub has_its_next : ScheduleView → Bool
 has_its_next s = if demands_next s.status then is_some s.next else is_none s.next
 
@@ -75,11 +75,11 @@ may_schedule r s =
     is_some (state_moved s.prior (states.Stopped s.status))
     && has_its_next s && is_by_parent r s.prior s.status && option_map_or (may_start r) s.next true
 
--- the next task has no further turn
+-- there is a next task that has no further turn
 abbrev pub is_last_turn : ScheduleView → Bool
 is_last_turn s = option_map_or (λ n. is_none (turn_begun_next n)) s.next false
 
--- why it is refused before it needs memory
+-- why it fails before it needs memory
 abbrev pub schedule_refusal : RecorderView → ScheduleView → Option CallFault
 schedule_refusal r s = refusal_at r (may_schedule r s) false (is_last_turn s) (schedule_body s None)
 
@@ -107,7 +107,7 @@ comes_back EarlyFulfill = true
 comes_back Detach = true
 comes_back _ = false
 
--- what comes back of the prior task
+-- what is left of the prior task
 abbrev pub left_of : TaskView → Status → Option TaskView
 left_of prior status = if comes_back status then Some (after_stop prior status) else None
 
@@ -120,11 +120,11 @@ is_pause Yield = true
 is_pause Switch = true
 is_pause _ = false
 
--- why a call that only suspends a task is refused before it needs memory
+-- why a call that only suspends a task fails before it needs memory
 abbrev pub switch_refusal : RecorderView → ScheduleView → Option CallFault
 switch_refusal r s = if is_pause s.status then schedule_refusal r s else Some WrongState
 
--- what a call leaves behind a reference to the next task, where it is given one
+-- if the call is given a reference to the next task, the condition holds for the value that it leaves there
 abbrev pub LeavesNext : Unit {0} ⊎ ((MutBor TaskView × Unit {0}) ⊎ ⊥) → (TaskView → Type 0) → Type 0
 LeavesNext (inl absent) P = ⊤
 LeavesNext (inr (inl given)) P = P given.0.now

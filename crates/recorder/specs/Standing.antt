@@ -1,4 +1,4 @@
--- Where a thread stands while it records, and which records may come next there. A parallel region is not
+-- The state of a thread while it records, and which records may come next there. A parallel region is not
 -- begun inside another one, so at most two roots of a thread are open.
 use Rattle.std.specs.Prelude.{ℕ, ◌==◌, ◌&&◌, Bool, true, false, not, Option, Some, None, option_map, is_some}
 use Rattle.std.specs.Prelude.{if◌then◌else◌}
@@ -20,7 +20,7 @@ use Rattle.recorder.specs.declared.standing.Standing.{Standing}
 abbrev pub standing_at_start : Standing
 standing_at_start = record { initial = None; member = None; current = None; awaited = None }
 
--- the innermost open root: the member of a team stands above the initial task
+-- the innermost open root: the member of a team is above the initial task
 abbrev pub innermost : Standing → Option ℕ
 innermost s = if is_some s.member then s.member else s.initial
 
@@ -37,8 +37,8 @@ without_root s =
     let below : Option ℕ = if is_some s.member then s.initial else None in
     record { initial = below; member = None; current = below; awaited = None }
 
--- where the thread stands after a record: its roots and its task go by the rules of a thread's walk (OpenMP
--- 5.2, 12.9), and a creation with dependences awaits them
+-- the state of the thread after a record: its roots and its task follow the rules of a thread's walk
+-- (OpenMP 5.2, 12.9), and a creation with dependences awaits them
 abbrev pub next_standing : Standing → Body → Standing
 next_standing s (ImplicitTask Begin actual index given parallel task) = with_root s given.0 task
 next_standing s (ImplicitTask End actual index given parallel task) = without_root s
@@ -58,7 +58,7 @@ is_same (Some a) None = false
 abbrev pub is_in_place : Standing → Body → Bool
 is_in_place s body = is_same s.awaited (option_map (λ (d : ℕ × List Dep). d.0) (dependences body))
 
--- the record is of the task that the thread runs (cause NotCurrent)
+-- the record, if it must be of the running task, is of the task that the thread runs (cause NotCurrent)
 abbrev pub runs_its_task : Standing → Body → Bool
 runs_its_task s body = option_map_or (λ task. is_task task s.current) (running body) true
 
@@ -66,8 +66,8 @@ runs_its_task s body = option_map_or (λ task. is_task task s.current) (running 
 abbrev pub ends_innermost : Standing → Body → Bool
 ends_innermost s body = option_map_or (λ task. is_task task (innermost s)) (ended_root body) true
 
--- a parallel region begins by the thread's initial task, a member of a team begins where none is open, and
--- an initial task where no root is (cause NestedParallel)
+-- a parallel region is begun by the thread's initial task, a member of a team begins only if none is open,
+-- and an initial task only if no root is (cause NestedParallel)
 abbrev pub is_outside : Standing → Body → Bool
 is_outside s body =
     option_map_or (λ (f : ℕ × ℕ). is_task f.0 s.initial) (forked body) true

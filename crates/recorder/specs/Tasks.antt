@@ -32,9 +32,8 @@ use Rattle.recorder.specs.declared.task.Origin.{Origin}
 use Rattle.recorder.specs.declared.task.Origin.TheVariants.{Root, Explicit}
 use Rattle.recorder.specs.declared.task.TeamPlace.{TeamPlace}
 
--- what clauses see of a task's value: the task, where it comes from, its flags, the turn that it began
--- last, its state, where it stands in the tree and how many children it created, and its open regions, the
--- innermost last
+-- the view of a task's value: the task, where it comes from, its flags, the turn that it began last, its
+-- state, its root, path and number of children, and its open regions, the innermost last
 pub record TaskView : Type 0 where
   pub id : ℕ
   pub origin : Origin
@@ -62,7 +61,7 @@ is_initial_task t = is_some (place_of t.origin) && has_flag t.flags.0 flag.initi
 abbrev pub is_root_on : ℕ → TaskView → Bool
 is_root_on thread t = option_map_or (λ (p : TeamPlace). p.home == thread) (place_of t.origin) false
 
--- what may happen to the task: a taskwait with dependences was created with the flag `taskwait`
+-- which moves the task can make: a taskwait with dependences was created with the flag `taskwait`
 abbrev pub nature_by : Origin → ℕ → states.Nature
 nature_by (Root place) bits = states.Root
 nature_by (Explicit parent) bits = if has_flag bits flag.taskwait then states.Wait else states.Plain
@@ -72,29 +71,29 @@ nature t = nature_by t.origin t.flags.0
 
 -- ---- its state
 
--- the state after the task stops with a status, runs next, or is discarded, where its state and its nature
--- allow it
+-- the state after the task stops with a status, runs next, or is discarded, if its state and its nature
+-- allow that
 abbrev pub state_moved : TaskView → states.Move → Option State
 state_moved t move = state_after (nature t) (Some t.state) (0, move)
 
 -- ---- its turns
 
--- the turn in which the task is; 0 where it has begun none
+-- the turn in which the task is; 0 if it has begun none
 abbrev pub current_turn : TaskView → ℕ
 current_turn t = option_map_or (λ turn. turn) t.turn 0
 
--- the turn that it begins next, where it is a number of 32 bits
+-- the turn that it begins next, if it is a number of 32 bits
 abbrev pub turn_begun_next : TaskView → Option ℕ
 turn_begun_next t =
     option_map_or (λ turn. if nat_lt (turn + 1) (2 ^ 32) then Some (turn + 1) else None) t.turn (Some 0)
 
 -- ---- its regions
 
--- the kind of the innermost region that is open
+-- the kind of the innermost open region
 abbrev pub innermost_region : TaskView → Option SyncKind
 innermost_region t = slice_get t.regions (length t.regions - 1)
 
--- the innermost region that is open is of this kind
+-- the innermost open region is of this kind
 abbrev pub is_innermost_region : TaskView → SyncKind → Bool
 is_innermost_region t kind = option_map_or (λ found. (kinds.ghosts).eq found kind) (innermost_region t) false
 
@@ -105,8 +104,8 @@ with_region t kind = record t { regions = t.regions ++ kind ∷ [] }
 abbrev pub without_region : TaskView → TaskView
 without_region t = record t { regions = take (length t.regions - 1) t.regions }
 
--- a region of this kind is called a barrier, and the task is explicit, which may have none (OpenMP 5.2,
--- 15.3)
+-- a region of this kind is called a barrier, and the task is explicit; such a task may have none (OpenMP
+-- 5.2, 15.3)
 abbrev pub is_barred : TaskView → SyncKind → Bool
 is_barred t kind = is_called_barrier kind && is_some (parent_of t.origin)
 
@@ -120,7 +119,7 @@ is_deep t = nat_le 1024 (length t.claim.path)
 abbrev pub is_crowded : TaskView → Bool
 is_crowded t = nat_le (2 ^ 32) (t.claim.kept + 1)
 
--- ---- what events make of it
+-- ---- what events do to it
 
 -- a root that begins
 abbrev pub root_of : ℕ → TeamPlace → TaskFlags → TaskView
@@ -167,7 +166,7 @@ started_in t (Some state) (Some turn) = running_in t state turn
 started_in t None turn = t
 started_in t (Some state) None = t
 
--- the task after it ran next, if it may, which begins its next turn
+-- the task after it ran next, if it may: it begins its next turn
 abbrev pub after_start : TaskView → TaskView
 after_start t = started_in t (state_moved t states.Started) (turn_begun_next t)
 
@@ -182,14 +181,14 @@ abbrev pub is_detached : State → Bool
 is_detached Detached = true
 is_detached _ = false
 
--- who has the task's share: the task, once its body has ended its event, and at last nobody
+-- who has the task's share: the task; its event, once a detached task's body has ended; and at last nobody
 abbrev pub holder_in : State → Holder
 holder_in Detached = credits.Awaited
 holder_in Done = credits.Entered
 holder_in _ = credits.Running
 
--- the share that the task has left: of its start share it gave a half to each child, and a detached task
--- gave back the half of its body
+-- the share that the task has left: of its start share it gave half of the rest to each child, and a
+-- detached task gave back the half of its body
 abbrev pub share_of : TaskView → List Half
 share_of t =
     let left : List Half = finish_share t.claim.path t.claim.kept in
@@ -198,7 +197,7 @@ share_of t =
 abbrev pub credit_of : TaskView → Credit
 credit_of t = record { root = t.claim.root; task = t.id; holder = holder_in t.state; share = share_of t }
 
--- what the ledger gets, on this thread, where a part of the task is finished
+-- the entry that the ledger gets, on this thread, when a part of the task is finished
 abbrev pub entry_of_part : ℕ → Part → TaskView → Entry
 entry_of_part thread part t = claimed_entry thread (t.id, part) t.claim
 
@@ -207,8 +206,8 @@ abbrev pub entered_credit_of : Entry → Credit
 entered_credit_of entry =
     record { root = entry.root; task = entry.task; holder = credits.Entered; share = tree_share entry }
 
--- what an event does to the task's credit where it finishes a part of the task: all of it is entered, or a
--- half of it with the body and the rest with the event
+-- what an event that finishes a part of the task does to the task's credit: all of it is entered, or a half
+-- of it with the body and the rest with the event
 abbrev pub MovesCredit : Part → Credit → Credit → Credit → Type 0
 MovesCredit Whole before entered after = entered_credit before ≡ entered ∷ []
 MovesCredit BodyPart before entered after = detached_halves before ≡ entered ∷ after ∷ []

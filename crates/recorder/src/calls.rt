@@ -1,4 +1,7 @@
-//! The calls that ask no ledger: none of them waits for another thread.
+//! The calls that do not use the ledger: none of them waits for another thread.
+//!
+//! Each call appends one record, or fails and changes nothing. It fails with `WrongState` if it may not
+//! come here, with `Full` if the thread has 2^22 records, and with `Memory` when out of memory.
 ghost use Rattle.std.specs.Prelude.{◌≡◌, ◌∷◌, [], None, Some, true, false, length, nat_lt, IfOk, IfErr, OnOk, OnErr, IsErr, IsSome, IfSome};
 ghost use Rattle.ompt_events.specs.declared.records.Body.TheVariants.{ThreadBegin, ThreadEnd, ParallelBegin, ParallelEnd, ImplicitTask, TaskCreate, Dependences, Cancel};
 ghost use Rattle.ompt_events.specs.declared.names.Endpoint.TheVariants.{Begin};
@@ -18,7 +21,7 @@ use bitflags::Flags;
 use ompt_events::{Body, CancelFlags, Dep, Deps, Endpoint, MAX_DEPENDENCES, TaskFlags, ThreadKind};
 
 impl Recorder {
-    /// A thread begins (OpenMP 5.2, 19.5.2.1).
+    /// Records that a thread begins (OpenMP 5.2, 19.5.2.1).
     pub fn ompt_callback_thread_begin(&mut self, kind: ThreadKind) -> Result<(), CallFault>
         ensures made { OnOk result (self.new ≡ recorded_alone self.old (ThreadBegin kind)) }
         ensures unchanged { OnErr result (self.new ≡ self.old) }
@@ -29,7 +32,7 @@ impl Recorder {
         self.record(true, Body::ThreadBegin { kind })
     }
 
-    /// A thread ends (19.5.2.2).
+    /// Records that a thread ends (19.5.2.2).
     pub fn ompt_callback_thread_end(&mut self) -> Result<(), CallFault>
         ensures made { OnOk result (self.new ≡ recorded_alone self.old ThreadEnd) }
         ensures unchanged { OnErr result (self.new ≡ self.old) }
@@ -40,8 +43,8 @@ impl Recorder {
         self.record(true, Body::ThreadEnd)
     }
 
-    /// The task begins a parallel region, for which it asks for so many threads (19.5.2.3). It is the
-    /// thread's initial task, and runs.
+    /// Records that the task begins a parallel region, for which it requests this many threads (19.5.2.3).
+    /// The task must be the thread's initial task, and run.
     pub fn ompt_callback_parallel_begin(
         &mut self,
         task: &TaskData,
@@ -65,7 +68,7 @@ impl Recorder {
         self.record(task.is_initial(), body)
     }
 
-    /// The task, which runs, ends a parallel region (19.5.2.4).
+    /// Records that the task, which must run, ends a parallel region (19.5.2.4).
     pub fn ompt_callback_parallel_end(
         &mut self,
         task: &TaskData,
@@ -85,9 +88,9 @@ impl Recorder {
         self.record(true, body)
     }
 
-    /// An initial or implicit task begins, and runs (19.5.2.11). With the flag `initial` it is an initial
-    /// task, a team of one. Without that flag it is the member `index` of the team of `parallel`, which has
-    /// `actual` members.
+    /// Records that an initial or implicit task begins, and runs (19.5.2.11), and returns its value. With
+    /// the flag `initial` it is an initial task, a team of one. Without that flag it is the member `index`
+    /// of the team of `parallel`, which has `actual` members.
     pub fn ompt_callback_implicit_task_begin(
         &mut self,
         parallel: u64,
@@ -125,8 +128,9 @@ impl Recorder {
         Ok(TaskData::root(self.allocator(), id, place, flags))
     }
 
-    /// An initial or implicit task ends (19.5.2.11): it runs, and is the innermost open one of its thread.
-    /// The record has the flags and the place in the team with which it began.
+    /// Records that an initial or implicit task ends (19.5.2.11). It must be the innermost open one of its
+    /// thread, and run. The record has the flags and the place in the team with which it began. If the call
+    /// fails, it returns the task.
     pub fn ompt_callback_implicit_task_end(
         &mut self,
         task: TaskData,
@@ -147,8 +151,10 @@ impl Recorder {
         }
     }
 
-    /// The task, which runs, creates an explicit task (19.5.2.7). With `deps` the child's dependences must
-    /// be the next record. The creator keeps one half of its credit, and the child starts with the other.
+    /// Records that the task, which must run, creates an explicit task (19.5.2.7), and returns the child's
+    /// value. With `deps` the child's dependences must be the next record. The creator keeps one half of
+    /// its credit, and the child starts with the other. Also fails with `TooDeep` if the task's path has
+    /// 1,024 numbers, and with `Full` if it has 2^32 - 1 children.
     pub fn ompt_callback_task_create(
         &mut self,
         task: &mut TaskData,
@@ -186,8 +192,8 @@ impl Recorder {
         Ok(child)
     }
 
-    /// The dependences of the task that was created last (19.5.2.8), at most 64. After a refusal they are
-    /// still awaited.
+    /// Records the dependences of the task that was created last (19.5.2.8). Fails with `Full` for more
+    /// than 64. If the call fails, it returns them, and they are still awaited.
     pub fn ompt_callback_dependences(
         &mut self,
         task: &TaskData,
@@ -215,8 +221,8 @@ impl Recorder {
         }
     }
 
-    /// The task, which runs, cancels a region or sees it cancelled (19.5.2.18). A discarded task is recorded
-    /// by [`Recorder::ompt_callback_cancel_discarded`].
+    /// Records that the task, which must run, cancels a region or sees one cancelled (19.5.2.18). A
+    /// discarded task is recorded by [`Recorder::ompt_callback_cancel_discarded`].
     pub fn ompt_callback_cancel(
         &mut self,
         task: &TaskData,
@@ -241,7 +247,8 @@ impl Recorder {
 }
 
 impl Recorder {
-    /// Adds a record of a call that asks no ledger, if the call may come here.
+    /// Adds a record of a call that does not use the ledger. `may` is whether the call's tasks and flags
+    /// allow it.
     fn record(&mut self, may: bool, body: Body) -> Result<(), CallFault>
         requires sound { may ≡ true → IsSoundIn 2 body }
         requires unfinished { may ≡ true → finish body ≡ None }
@@ -259,14 +266,14 @@ impl Recorder {
     }
 }
 
-/// Whether each bit of a cancellation's flags has a name, and none says that a task is discarded.
+/// Returns whether each bit of a cancellation's flags has a name, and none is that of a discarded task.
 fn may_cancel(flags: CancelFlags) -> bool
     ensures { result ≡ may_cancel flags.0 }
 {
     flags.are_named() && !flags.contains(CancelFlags::DISCARDED_TASK)
 }
 
-/// The dependences that the record lists.
+/// Returns the dependences that the record lists.
 fn list_of(body: Body) -> Vec<Dep>
     requires { IsSome (dependences body) }
     ensures { IfSome (dependences body) (λ d. result.items ≡ d.1) }

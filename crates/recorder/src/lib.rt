@@ -1,9 +1,9 @@
 //! The recorder of one thread: the callbacks of OpenMP's tool interface (OMPT, OpenMP 5.2, 19.5.2) as calls
 //! that append records.
 //!
-//! A `TaskData` is the tool's own value of one task; a `Recorder` is what one thread records into. Read
+//! A `TaskData` is the tool's own value of one task; a `Recorder` has the records of one thread. Read
 //! `task` and `standing` first, then `log`, `recording` and the calls (`calls`, `regions`, `schedule`). The
-//! definitions stand in `specs/`, in the order that `specs/Lib.antt` gives.
+//! definitions are in `specs/`; `specs/Lib.antt` gives their order.
 #![tactic(auto)]
 
 mod calls;

@@ -1,4 +1,4 @@
-//! What one thread has recorded.
+//! The records of one thread.
 ghost use Rattle.std.specs.Prelude.{◌≡◌, ◌≤◌, ◌<◌, ◌+◌, ◌^◌, ◌++◌, ◌∷◌, [], true, length, nat_le, OnOk, IsOkUnless};
 ghost use Rattle.ompt_events.specs.Limits.{max_records};
 ghost use Rattle.ompt_events.specs.Traces.{IsSoundIn};
@@ -13,8 +13,8 @@ use std::alloc::Global;
 use std::marker::Model;
 use thread_buffers::Buffer;
 
-/// The records of one thread, where it stands after them, and the ledger length that it knew last. Room for
-/// a record is made before anything else happens, so that adding the record cannot fail.
+/// The records of one thread, the state of the thread after them, and the ledger length that it knew last.
+/// Room for a record is made before anything else happens, so that adding the record cannot fail.
 #[derive(Drop)]
 pub(crate) struct Log {
     buffer: Buffer,
@@ -40,7 +40,7 @@ impl Model for Log {
 }
 
 impl Log {
-    /// Nothing recorded yet. Takes no memory.
+    /// Returns a log without records. Takes no memory.
     pub(crate) fn new(alloc: Global, thread: u8) -> Log
         ensures thread { result.thread ≡ thread }
         ensures records { result.records ≡ [] }
@@ -53,35 +53,35 @@ impl Log {
         }
     }
 
-    /// The number of the thread.
+    /// Returns the number of the thread.
     pub(crate) fn thread(&self) -> u8
         ensures { result ≡ self.now.thread }
     {
         self.buffer.thread()
     }
 
-    /// Where the thread stands.
+    /// Returns the state of the thread after its records.
     pub(crate) fn standing(&self) -> Standing
         ensures { result ≡ standing_of self.now.records }
     {
         self.standing
     }
 
-    /// The ledger length that the thread knew last.
+    /// Returns the ledger length that the thread knew last.
     pub(crate) fn known(&self) -> u32
         ensures { result ≡ self.now.known }
     {
         self.known
     }
 
-    /// Whether it has as many records as a trace may have.
+    /// Returns whether it has as many records as a trace may have.
     pub(crate) fn is_full(&self) -> bool
         ensures { result ≡ nat_le max_records (length self.now.records) }
     {
         self.buffer.len() >= MAX_RECORDS
     }
 
-    /// Makes room for one more record. `Memory` is the only refusal.
+    /// Makes room for one more record. Fails only when out of memory.
     pub(crate) fn reserve(&mut self) -> Result<(), CallFault>
         requires { length self.old.records < max_records }
         ensures room { OnOk result (1 ≤ self.new.spare) }
@@ -94,7 +94,7 @@ impl Log {
         }
     }
 
-    /// Adds a record that names this ledger length, into room that was made for it.
+    /// Adds a record that names this ledger length. Requires room for it.
     pub(crate) fn push(&mut self, seen: u32, body: Body)
         requires room { 1 ≤ self.old.spare }
         requires few { length self.old.records < max_records }
@@ -123,7 +123,7 @@ impl Log {
         self.buffer.push_reserved(event);
     }
 
-    /// Learns a ledger length, which is no less than the one that it knew.
+    /// Sets the ledger length that the thread knows. Requires that it is no less than before.
     pub(crate) fn learn(&mut self, known: u32)
         requires { self.old.known ≤ known }
         ensures thread { self.new.thread ≡ self.old.thread }
@@ -133,7 +133,7 @@ impl Log {
         self.known = known;
     }
 
-    /// Takes the records out; nothing more is recorded.
+    /// Returns the records, and ends the log.
     pub(crate) fn into_buffer(self) -> Buffer
         ensures thread { result.thread ≡ self.thread }
         ensures records { result.records ≡ self.records }
@@ -143,7 +143,8 @@ impl Log {
     }
 }
 
-/// The ledger length that is known after a record: one more than it names where it makes an entry itself.
+/// Returns the ledger length that is known after a record: one more than it names if it makes an entry
+/// itself.
 fn known_from(event: &Record) -> u32
     requires { known_from event.now.seen event.now.body < 2 ^ 32 }
     ensures { result ≡ known_from event.now.seen event.now.body }

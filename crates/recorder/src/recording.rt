@@ -22,9 +22,9 @@ use std::marker::Model;
 use std::sync::Wait;
 use thread_buffers::Buffer;
 
-/// What one thread records into. Its calls are those of a tool that a runtime calls back (OpenMP 5.2,
-/// 19.5.2): each that is accepted appends one record. Schedules, discards and the ends of regions ask the
-/// ledger that all threads share, and so does a note that is met; no other call does.
+/// The recorder of one thread. Its calls are the callbacks of an OMPT tool (OpenMP 5.2, 19.5.2): each that
+/// succeeds appends one record. Schedules, discards, the ends of regions and [`Recorder::meet`] look at the
+/// ledger that all threads share or add to it, and may wait for their turn there; no other call waits.
 #[derive(Drop)]
 pub struct Recorder {
     alloc: Global,
@@ -50,9 +50,9 @@ impl Model for Recorder {
         IsBacked recorder.log.records recorder.log.known (view_of recorder.seat) };
 }
 
-/// What one recorder has seen of the ledger, for another one. Whoever hands a task to another thread hands a
-/// note with it, and that thread meets the note first: what the task did here then comes before what it does
-/// there.
+/// What one recorder has seen of the ledger, for another one. When a task goes to another thread, pass a
+/// note with it, and let that thread meet the note first. Then what the task did here comes before what it
+/// does there.
 #[derive(Drop)]
 pub struct Note {
     seat: Seat,
@@ -68,8 +68,8 @@ impl Model for Note {
 }
 
 impl Recorder {
-    /// A recorder of the thread with this number that has recorded nothing. Each recorder of a ledger wants
-    /// a seat and a number of its own. Takes no memory.
+    /// Returns a recorder without records, for the thread with this number. Each recorder of a ledger needs
+    /// its own seat and its own number. Takes no memory.
     pub fn new(alloc: Global, thread: u8, seat: Seat) -> Recorder
         ensures thread { result.thread ≡ thread }
         ensures records { result.records ≡ [] }
@@ -84,42 +84,43 @@ impl Recorder {
         }
     }
 
-    /// The number of the thread.
+    /// Returns the number of the thread.
     pub fn thread(&self) -> u8
         ensures { result ≡ self.now.thread }
     {
         self.log.thread()
     }
 
-    /// The task that the thread runs, by its records.
+    /// Returns the task that the thread runs, by its records.
     pub fn current(&self) -> Option<u64>
         ensures { result ≡ (standing_of self.now.records).current }
     {
         self.log.standing().current
     }
 
-    /// The innermost initial or implicit task that is open on the thread.
+    /// Returns the innermost initial or implicit task that is open on the thread.
     pub fn innermost_root(&self) -> Option<u64>
         ensures { result ≡ innermost (standing_of self.now.records) }
     {
         self.log.standing().innermost()
     }
 
-    /// The task that was created last, while its dependences are awaited: they must be the next record.
+    /// Returns the task that was created last, while its dependences are awaited: they must be the next
+    /// record.
     pub fn awaits(&self) -> Option<u64>
         ensures { result ≡ (standing_of self.now.records).awaited }
     {
         self.log.standing().awaited
     }
 
-    /// The length of the ledger that the recorder knew last.
+    /// Returns the length of the ledger that the recorder knew last.
     pub fn known(&self) -> u32
         ensures { result ≡ self.now.known }
     {
         self.log.known()
     }
 
-    /// A note of what this recorder has seen, for another one to meet. Takes no memory.
+    /// Returns a note of what this recorder has seen, for another one to meet. Takes no memory.
     pub fn note(&mut self, ledger: &SharedLedger) -> Note
         requires { self.old.ledger ≡ ledger_id ledger.now }
         ensures recorder { self.new
@@ -133,7 +134,7 @@ impl Recorder {
         }
     }
 
-    /// Learns what another recorder had seen when it gave the note. It looks at the ledger, and may wait for
+    /// Learns what another recorder had seen when it gave the note. Looks at the ledger, and may wait for
     /// its turn there.
     pub fn meet<R: Wait>(&mut self, ledger: &SharedLedger, wait: &R, note: Note)
         requires ledger { self.old.ledger ≡ ledger_id ledger.now }
@@ -148,7 +149,7 @@ impl Recorder {
         self.log.learn(known);
     }
 
-    /// Takes the records and the seat out; nothing more is recorded.
+    /// Returns the records and the seat, and ends the recorder.
     pub fn into_parts(self) -> (Buffer, Seat)
         ensures thread { result.0.thread ≡ self.thread }
         ensures records { result.0.records ≡ self.records }
@@ -162,15 +163,16 @@ impl Recorder {
     }
 }
 
-// How a record comes to be.
+// How records are made.
 impl Recorder {
-    /// What the recorder's memory comes from.
+    /// Returns the allocator of the recorder.
     pub(crate) fn allocator(&self) -> Global {
         self.alloc
     }
 
-    /// Why a call that would add a record with this body is refused before it needs memory, if it is. The
-    /// caller says what its tasks allow, and whether they are too deep or have no room for more.
+    /// Fails if a call that would add a record with this body is refused for a reason other than memory.
+    /// The caller passes whether its tasks allow the call, whether they are too deep, and whether they have
+    /// no room for more.
     #[tactic(auto, unfolding(crate::specs::Recorders::refusal_at))]
     pub(crate) fn test(
         &self,
@@ -199,7 +201,7 @@ impl Recorder {
         Ok(())
     }
 
-    /// Adds a record of a call that asks no ledger. Where memory runs out, the body comes back.
+    /// Adds a record of a call that does not use the ledger. When out of memory, returns the body.
     pub(crate) fn append(&mut self, body: Body) -> Result<(), Body>
         requires few { length self.old.records < max_records }
         requires allowed { allowed self.old body ≡ true }
@@ -217,7 +219,8 @@ impl Recorder {
         Ok(())
     }
 
-    /// Looks at the ledger, and adds a record that names its length.
+    /// Looks at the ledger, adds a record that names its length, and returns that length. Fails only when
+    /// out of memory.
     pub(crate) fn observe<R: Wait>(
         &mut self,
         ledger: &SharedLedger,
@@ -240,7 +243,8 @@ impl Recorder {
         Ok(seen)
     }
 
-    /// Puts an entry into the ledger, and adds the record that makes it.
+    /// Puts an entry into the ledger, adds the record that makes it, and returns the entry's index. Fails
+    /// when out of memory, or if the ledger refuses the entry.
     pub(crate) fn conclude<R: Wait>(
         &mut self,
         ledger: &SharedLedger,
@@ -265,7 +269,7 @@ impl Recorder {
     }
 }
 
-/// Puts an entry into the ledger, and answers its index.
+/// Puts an entry into the ledger, and returns its index. Fails if the ledger refuses it.
 fn enter<R: Wait>(
     ledger: &SharedLedger,
     wait: &R,

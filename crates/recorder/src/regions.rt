@@ -15,7 +15,8 @@ use ompt_events::{Body, Endpoint, SyncKind};
 use std::sync::Wait;
 
 impl Recorder {
-    /// The task, which runs, begins a synchronisation region. An explicit task has no barriers (15.3).
+    /// Records that the task, which must run, begins a synchronisation region. An explicit task has no
+    /// barriers (15.3).
     pub fn ompt_callback_sync_region_begin(
         &mut self,
         task: &mut TaskData,
@@ -45,9 +46,9 @@ impl Recorder {
         Ok(())
     }
 
-    /// The task, which runs, ends its innermost open region, which is of this kind. The call looks at the
-    /// ledger, and may wait for its turn there; it answers the length that the record names. Where the
-    /// region is a wait, the tasks that it waits for must be among the entries below that length.
+    /// Records that the task, which must run, ends its innermost open region, which must be of this kind.
+    /// Looks at the ledger, and may wait for its turn there. Returns the length that the record names. If
+    /// the region is a wait, the tasks that it waits for must have their entries below that length.
     pub fn ompt_callback_sync_region_end<R: Wait>(
         &mut self,
         ledger: &SharedLedger,
@@ -78,9 +79,9 @@ impl Recorder {
         Ok(seen)
     }
 
-    /// The task, which runs, begins and ends a region in one call. Its other regions stay as they are. The
-    /// call looks at the ledger, and may wait for its turn there; it answers the length that the record
-    /// names.
+    /// Records that the task, which must run, begins and ends a region in one call. Its other regions stay
+    /// as they are. Looks at the ledger, and may wait for its turn there. Returns the length that the
+    /// record names.
     pub fn ompt_callback_sync_region_both<R: Wait>(
         &mut self,
         ledger: &SharedLedger,
@@ -107,7 +108,7 @@ impl Recorder {
     }
 }
 
-/// What the record of the region says.
+/// Returns the body of the region's record.
 fn region_body(task: &TaskData, kind: SyncKind, endpoint: Endpoint, parallel: Option<u64>) -> Body
     ensures { result ≡ SyncRegion kind endpoint parallel task.now.id }
 {

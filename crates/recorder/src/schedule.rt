@@ -23,7 +23,7 @@ use ompt_events::{Body, CancelFlags, Claim, Part, Status, Turns};
 use std::marker::Model;
 use std::sync::Wait;
 
-/// A task stops or is fulfilled with a status, and another one runs next, if there is one.
+/// A task that stops or is fulfilled with a status, and the task that runs next, if there is one.
 #[derive(Drop)]
 struct Schedule<'a> {
     prior: &'a TaskData,
@@ -45,7 +45,7 @@ impl<'a> Model for Schedule<'a> {
 }
 
 impl<'a> Schedule<'a> {
-    /// What its record says, with what is claimed of a task that it finishes.
+    /// Returns the body of its record, with the claim of a task that it finishes.
     fn body(&self, claim: Option<Claim>) -> Body
         ensures { result ≡ schedule_body self.now claim }
     {
@@ -58,7 +58,7 @@ impl<'a> Schedule<'a> {
         }
     }
 
-    /// The task that runs next.
+    /// Returns the id of the task that runs next.
     fn next_id(&self) -> Option<u64>
         ensures { result ≡ option_map (λ n. n.id) self.now.next }
     {
@@ -68,7 +68,7 @@ impl<'a> Schedule<'a> {
         }
     }
 
-    /// The turn that ends, and the turn that begins.
+    /// Returns the turn that ends, and the turn that begins.
     fn turns(&self) -> Option<Turns>
         ensures { result ≡ option_map (turns_of self.now.prior) self.now.next }
     {
@@ -81,7 +81,7 @@ impl<'a> Schedule<'a> {
         }
     }
 
-    /// Whether the next task has no further turn.
+    /// Returns whether there is a next task that has no further turn.
     fn is_last_turn(&self) -> bool
         ensures { result ≡ is_last_turn self.now }
     {
@@ -91,7 +91,7 @@ impl<'a> Schedule<'a> {
         }
     }
 
-    /// Whether there is a next task exactly where the status demands one.
+    /// Returns whether there is a next task if and only if the status demands one.
     fn has_its_next(&self) -> bool
         ensures { result ≡ has_its_next self.now }
     {
@@ -104,7 +104,7 @@ impl<'a> Schedule<'a> {
 }
 
 impl Recorder {
-    /// Whether the task may run next here.
+    /// Returns whether the task may run next here.
     fn may_start(&self, next: &TaskData) -> bool
         ensures { result ≡ may_start self.now next.now }
     {
@@ -113,7 +113,7 @@ impl Recorder {
         next.state_started().is_some() && is_here
     }
 
-    /// Whether the status is not that of a complete taskwait, or the taskwait's parent runs.
+    /// Returns whether the taskwait's parent runs, if the status is that of a complete taskwait; else true.
     fn is_by_parent(&self, prior: &TaskData, status: Status) -> bool
         ensures { result ≡ is_by_parent self.now prior.now status }
     {
@@ -126,7 +126,7 @@ impl Recorder {
         }
     }
 
-    /// Whether the tasks allow the schedule.
+    /// Returns whether the tasks allow the schedule.
     fn may_schedule(&self, schedule: &Schedule) -> bool
         ensures { result ≡ may_schedule self.now schedule.now }
     {
@@ -142,8 +142,8 @@ impl Recorder {
 }
 
 impl Recorder {
-    /// The prior task stops as the schedule says: the record names the ledger's length, or where a part of
-    /// the task is finished the index of the entry that it makes.
+    /// Records that the prior task stops as the schedule says. The record names the ledger's length, or, if
+    /// a part of the task is finished, the index of the entry that it makes.
     fn stop<R: Wait>(
         &mut self,
         ledger: &SharedLedger,
@@ -170,7 +170,7 @@ impl Recorder {
         }
     }
 
-    /// The prior task stops, and a part of it is finished.
+    /// Records that the prior task stops, and that a part of it is finished.
     fn finish<R: Wait>(
         &mut self,
         ledger: &SharedLedger,
@@ -195,7 +195,7 @@ impl Recorder {
         Ok(())
     }
 
-    /// The prior task stops for the next one.
+    /// Records that the prior task stops for the next one.
     fn stop_for<R: Wait>(
         &mut self,
         ledger: &SharedLedger,
@@ -224,7 +224,7 @@ impl Recorder {
         self.stop(ledger, wait, &schedule)
     }
 
-    /// The prior task stops, and the next one runs.
+    /// Records that the prior task stops, and the next one runs. Returns what is left of the prior task.
     fn switch<R: Wait>(
         &mut self,
         ledger: &SharedLedger,
@@ -258,7 +258,7 @@ impl Recorder {
         }
     }
 
-    /// The task is fulfilled, or is complete as a taskwait.
+    /// Records that the task is fulfilled, or is complete as a taskwait. Returns what is left of it.
     fn fulfil<R: Wait>(
         &mut self,
         ledger: &SharedLedger,
@@ -289,12 +289,12 @@ impl Recorder {
         }
     }
 
-    /// The task `prior` stops running or is fulfilled with this status, and `next`, if it is given, runs
-    /// from here on (19.5.2.10). `next` is given for `complete`, `yield`, `cancel`, `detach` and `switch`,
-    /// and for no other status. A status that finishes a part of the task puts its credit into the ledger;
-    /// any other looks at the ledger; both may wait for their turn there. The prior task comes back where
-    /// its value is used again: suspended, as the event that a detached task waits for, or after an early
-    /// fulfilment. If the call is refused, it comes back as it was.
+    /// Records that the task `prior` stops running or is fulfilled with this status, and that `next`, if it
+    /// is given, runs from here on (19.5.2.10). `next` is given for `complete`, `yield`, `cancel`, `detach`
+    /// and `switch`, and for no other status. A status that finishes a part of the task puts its credit
+    /// into the ledger; any other looks at the ledger. Both may wait for their turn there. Returns the
+    /// prior task if its value is used again: suspended, as the event that a detached task waits for, or
+    /// after an early fulfilment. If the call fails, it returns the prior task as it was.
     pub fn ompt_callback_task_schedule<R: Wait>(
         &mut self,
         ledger: &SharedLedger,
@@ -330,9 +330,9 @@ impl Recorder {
         }
     }
 
-    /// One task is suspended and another one runs, by `yield` or `switch` (19.5.2.10): the same as
-    /// [`Recorder::ompt_callback_task_schedule`] with such a status, but both tasks are only borrowed. Any
-    /// other status is refused as `WrongState`.
+    /// Records that one task is suspended and another one runs, by `yield` or `switch` (19.5.2.10). Does
+    /// the same as [`Recorder::ompt_callback_task_schedule`] with such a status, but only borrows both
+    /// tasks. Fails with `WrongState` for any other status.
     pub fn switch_to<R: Wait>(
         &mut self,
         ledger: &SharedLedger,
@@ -364,10 +364,10 @@ impl Recorder {
         Ok(())
     }
 
-    /// A task that has not begun is discarded, since its taskgroup was cancelled (11.5 and 19.5.2.18): the
-    /// flag `discarded_task` is added to these. The call puts the task's credit into the ledger, and may
-    /// wait for its turn there; it answers the index of the entry. If the call is refused, the task comes
-    /// back.
+    /// Records that the task, which has not begun, is discarded, since its taskgroup was cancelled (11.5
+    /// and 19.5.2.18). Adds the flag `discarded_task` to the flags, puts the task's credit into the ledger,
+    /// and may wait for its turn there. Returns the index of the entry. If the call fails, it returns the
+    /// task.
     pub fn ompt_callback_cancel_discarded<R: Wait>(
         &mut self,
         ledger: &SharedLedger,
@@ -393,7 +393,7 @@ impl Recorder {
         }
     }
 
-    /// The task is discarded.
+    /// Records that the task is discarded.
     fn discard<R: Wait>(
         &mut self,
         ledger: &SharedLedger,
@@ -421,7 +421,7 @@ impl Recorder {
     }
 }
 
-/// What the record of a discard says.
+/// Returns the body of the record of a discard.
 fn discard_body(task: &TaskData, flags: CancelFlags, claim: Option<Claim>) -> Body
     ensures { result ≡ Cancel flags task.now.id claim }
 {
@@ -432,7 +432,8 @@ fn discard_body(task: &TaskData, flags: CancelFlags, claim: Option<Claim>) -> Bo
     }
 }
 
-/// What comes back of a task that stopped or was fulfilled with this status.
+/// Returns what is left of a task that stopped or was fulfilled with this status: its value, if it is used
+/// again.
 fn left_of(mut prior: TaskData, status: Status) -> Option<TaskData>
     ensures { result ≡ left_of prior status }
 {
@@ -445,7 +446,7 @@ fn left_of(mut prior: TaskData, status: Status) -> Option<TaskData>
     }
 }
 
-/// Whether a status only suspends its task.
+/// Returns whether a status only suspends its task.
 fn is_pause(status: Status) -> bool
     ensures { result ≡ is_pause status }
 {

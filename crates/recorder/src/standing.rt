@@ -1,4 +1,4 @@
-//! Where a thread stands while it records.
+//! The state of a thread while it records.
 ghost use Rattle.std.specs.Prelude.{◌≡◌};
 ghost use Rattle.ompt_events.specs.States.{is_task};
 ghost use Rattle.recorder.specs.Standing.{standing_at_start, innermost, next_standing, with_root, without_root, is_same, is_in_place, runs_its_task, ends_innermost, is_outside, is_on_host, allows};
@@ -6,8 +6,9 @@ ghost use Rattle.recorder.specs.Standing.{standing_at_start, innermost, next_sta
 use bitflags::Flags;
 use ompt_events::{Body, Endpoint, TaskFlags};
 
-/// The open roots of a thread, the task that it runs, and the creation that awaits its dependences. Parallel
-/// regions are not nested, so at most two roots are open: an initial task, and above it a member of a team.
+/// The open roots of a thread (its initial and implicit tasks), the task that it runs, and the creation
+/// that awaits its dependences. Parallel regions are not nested, so at most two roots are open: an initial
+/// task, and above it a member of a team.
 #[derive(Clone, Copy, Debug)]
 pub struct Standing {
     /// The initial task that is open.
@@ -21,7 +22,7 @@ pub struct Standing {
 }
 
 impl Standing {
-    /// A thread that has recorded nothing.
+    /// Returns the state of a thread that has recorded nothing.
     pub(crate) fn at_start() -> Standing
         ensures { result ≡ standing_at_start }
     {
@@ -33,7 +34,7 @@ impl Standing {
         }
     }
 
-    /// The innermost open root.
+    /// Returns the innermost open root.
     pub fn innermost(self) -> Option<u64>
         ensures { result ≡ innermost self }
     {
@@ -43,7 +44,7 @@ impl Standing {
         }
     }
 
-    /// Where the thread stands after a record with this body.
+    /// Returns the state of the thread after a record with this body.
     pub(crate) fn after(self, body: &Body) -> Standing
         ensures { result ≡ next_standing self body.now }
     {
@@ -74,7 +75,7 @@ impl Standing {
         }
     }
 
-    /// Whether a record with this body may come next, as far as the thread's records show.
+    /// Returns whether a record with this body may come next, as far as the thread's records show.
     pub(crate) fn allows(self, body: &Body) -> bool
         ensures { result ≡ allows self body.now }
     {
@@ -87,7 +88,7 @@ impl Standing {
 }
 
 impl Standing {
-    /// A root begins and runs.
+    /// Returns the state after a root begins and runs.
     fn with_root(self, flags: TaskFlags, task: u64) -> Standing
         ensures { result ≡ with_root self flags.0 task }
     {
@@ -108,7 +109,7 @@ impl Standing {
         }
     }
 
-    /// The innermost root ends, and the one below it runs.
+    /// Returns the state after the innermost root ends, and the one below it runs.
     fn without_root(self) -> Standing
         ensures { result ≡ without_root self }
     {
@@ -124,7 +125,8 @@ impl Standing {
         }
     }
 
-    /// Dependences come right after the creation of their task, and nothing else comes there.
+    /// Returns whether the record lists the dependences that are awaited, or none are awaited and it lists
+    /// none.
     fn is_in_place(self, body: &Body) -> bool
         ensures { result ≡ is_in_place self body.now }
     {
@@ -135,7 +137,7 @@ impl Standing {
         is_same(self.awaited, listed)
     }
 
-    /// The record is of the task that the thread runs.
+    /// Returns whether the record, if it must be of the running task, is of the task that the thread runs.
     fn runs_its_task(self, body: &Body) -> bool
         ensures { result ≡ runs_its_task self body.now }
     {
@@ -145,7 +147,7 @@ impl Standing {
         }
     }
 
-    /// A root that ends is the innermost open one.
+    /// Returns whether a root that ends is the innermost open one.
     fn ends_innermost(self, body: &Body) -> bool
         ensures { result ≡ ends_innermost self body.now }
     {
@@ -155,7 +157,7 @@ impl Standing {
         }
     }
 
-    /// No parallel region, member or initial task begins inside a parallel region.
+    /// Returns whether no parallel region, member or initial task begins inside a parallel region.
     fn is_outside(self, body: &Body) -> bool
         ensures { result ≡ is_outside self body.now }
     {
@@ -169,7 +171,7 @@ impl Standing {
     }
 }
 
-/// Whether both are the same task, or there is none.
+/// Returns whether both are the same task, or both are none.
 fn is_same(one: Option<u64>, other: Option<u64>) -> bool
     ensures { result ≡ is_same one other }
 {
@@ -180,7 +182,7 @@ fn is_same(one: Option<u64>, other: Option<u64>) -> bool
     }
 }
 
-/// Whether it is this task.
+/// Returns whether a task was found and is this one.
 pub(crate) fn is_task(task: u64, found: Option<u64>) -> bool
     ensures { result ≡ is_task task found }
 {
@@ -190,7 +192,7 @@ pub(crate) fn is_task(task: u64, found: Option<u64>) -> bool
     }
 }
 
-/// No task is made that is to run on a device.
+/// Returns whether the record makes no task that is to run on a device.
 fn is_on_host(body: &Body) -> bool
     ensures { result ≡ is_on_host body.now }
 {

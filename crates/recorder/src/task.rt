@@ -16,7 +16,7 @@ use std::alloc::{AllocError, Global};
 use std::marker::Model;
 use task_states::{Move, Nature, after_move};
 
-/// Where a root stands: the thread on which it begins, the size of its team, and its number there.
+/// The place of a root: the thread on which it begins, the size of its team, and its number there.
 #[derive(Clone, Copy, Debug)]
 pub struct TeamPlace {
     pub home: u8,
@@ -33,8 +33,8 @@ pub enum Origin {
     Explicit(u64),
 }
 
-/// The tool's own value of one task: it is made where the task begins or is created, is handed to each call
-/// that speaks of the task, and is spent where the task ends. It isn't copied, so no two threads record one
+/// The tool's own value of one task. It is made where the task begins or is created, is passed to each call
+/// about the task, and is consumed where the task ends. It cannot be copied, so no two threads record one
 /// task at once.
 #[derive(Debug, Drop)]
 pub struct TaskData {
@@ -71,21 +71,21 @@ impl Model for TaskData {
 }
 
 impl TaskData {
-    /// The task's number.
+    /// Returns the task's id.
     pub fn id(&self) -> u64
         ensures { result ≡ self.now.id }
     {
         self.id
     }
 
-    /// The state that the task is in.
+    /// Returns the state of the task.
     pub fn state(&self) -> State
         ensures { result ≡ self.now.state }
     {
         self.state
     }
 
-    /// The task that created it; an initial or implicit task has none.
+    /// Returns the task that created it; an initial or implicit task has none.
     pub fn parent(&self) -> Option<u64>
         ensures { result ≡ parent_of self.now.origin }
     {
@@ -95,7 +95,7 @@ impl TaskData {
         }
     }
 
-    /// The kinds of its open regions, the innermost last.
+    /// Returns the kinds of its open regions, the innermost last.
     pub fn regions(&self) -> &[SyncKind]
         ensures { result.now ≡ self.now.regions }
     {
@@ -105,7 +105,7 @@ impl TaskData {
 
 // How a task is made, and how the calls change it.
 impl TaskData {
-    /// A root that begins. Takes no memory.
+    /// Returns a root that begins. Takes no memory.
     pub(crate) fn root(alloc: Global, id: u64, place: TeamPlace, flags: TaskFlags) -> TaskData
         requires { are_named task_flags flags.0 ≡ true }
         ensures { result ≡ root_of id place flags }
@@ -125,7 +125,7 @@ impl TaskData {
         }
     }
 
-    /// The child that the task creates next.
+    /// Returns the child that the task creates next.
     pub(crate) fn child(&self, id: u64, flags: TaskFlags) -> Result<TaskData, AllocError>
         requires shallow { length self.now.claim.path < 1024 }
         requires named { are_named task_flags flags.0 ≡ true }
@@ -147,7 +147,7 @@ impl TaskData {
         })
     }
 
-    /// The task has created one more child.
+    /// Counts one more child of the task.
     pub(crate) fn count_child(&mut self)
         requires { self.old.claim.kept + 1 < 2 ^ 32 }
         ensures { self.new ≡ with_child self.old }
@@ -155,7 +155,7 @@ impl TaskData {
         self.claim.kept += 1;
     }
 
-    /// The task stops or is fulfilled with this status, if it may.
+    /// Stops or fulfils the task with this status, if that is allowed.
     pub(crate) fn stop(&mut self, status: Status)
         ensures { self.new ≡ after_stop self.old status }
     {
@@ -164,7 +164,7 @@ impl TaskData {
         }
     }
 
-    /// The task runs in its next turn, if it may.
+    /// Starts the next turn of the task, if that is allowed.
     pub(crate) fn start(&mut self)
         ensures { self.new ≡ after_start self.old }
     {
@@ -176,7 +176,7 @@ impl TaskData {
         }
     }
 
-    /// A region of the task begins.
+    /// Begins a region of the task. Fails only when out of memory.
     pub(crate) fn begin_region(&mut self, kind: SyncKind) -> Result<(), AllocError>
         ensures begun { OnOk result (self.new ≡ with_region self.old kind) }
         ensures unchanged { OnErr result (self.new ≡ self.old) }
@@ -185,15 +185,15 @@ impl TaskData {
         Ok(())
     }
 
-    /// The innermost region of the task ends.
+    /// Ends the innermost region of the task.
     pub(crate) fn end_region(&mut self)
         ensures { self.new ≡ without_region self.old }
     {
         self.regions.pop();
     }
 
-    /// What the ledger gets where the part of the task is finished on the thread, and what its record
-    /// claims.
+    /// Returns the entry that the ledger gets when the part of the task is finished on the thread, and the
+    /// claim of its record.
     pub(crate) fn finish(&self, thread: u8, part: Part) -> Result<(Entry, Claim), AllocError>
         ensures entry { IfOk result (λ made. made.0 ≡ entry_of_part thread part self.now) }
         ensures claim { IfOk result (λ made. made.1 ≡ self.now.claim) }
@@ -217,9 +217,9 @@ impl TaskData {
     }
 }
 
-// What a call asks of a task.
+// What a call asks about a task.
 impl TaskData {
-    /// Where the task stands as a root, if it is one.
+    /// Returns the place of the task as a root, if it is one.
     pub(crate) fn place(&self) -> Option<TeamPlace>
         ensures { result ≡ place_of self.now.origin }
     {
@@ -229,7 +229,7 @@ impl TaskData {
         }
     }
 
-    /// Whether it is a root that began on the thread.
+    /// Returns whether it is a root that began on the thread.
     pub(crate) fn is_root_on(&self, thread: u8) -> bool
         ensures { result ≡ is_root_on thread self.now }
     {
@@ -239,8 +239,8 @@ impl TaskData {
         }
     }
 
-    /// The record with which it ends as a root, with the flags and the place in its team with which it
-    /// began.
+    /// Returns the body of the record with which it ends as a root, with the flags and the place in its
+    /// team with which it began.
     pub(crate) fn end_of_root(&self, parallel: u64) -> Body
         ensures body { result ≡ end_of_root self.now parallel }
         ensures sound { IsSoundIn 2 result }
@@ -259,42 +259,43 @@ impl TaskData {
         }
     }
 
-    /// Whether it is an initial task.
+    /// Returns whether it is an initial task.
     pub(crate) fn is_initial(&self) -> bool
         ensures { result ≡ is_initial_task self.now }
     {
         self.place().is_some() && self.flags.contains(TaskFlags::INITIAL)
     }
 
-    /// The state after the task stops or is fulfilled with this status, where it may.
+    /// Returns the state after the task stops or is fulfilled with this status, if that is allowed.
     pub(crate) fn state_stopped(&self, status: Status) -> Option<State>
         ensures { result ≡ state_moved self.now (states.Stopped status) }
     {
         self.state_moved(Move::Stopped(status))
     }
 
-    /// The state after the task runs next, where it may.
+    /// Returns the state after the task runs next, if that is allowed.
     pub(crate) fn state_started(&self) -> Option<State>
         ensures { result ≡ state_moved self.now states.Started }
     {
         self.state_moved(Move::Started)
     }
 
-    /// The state after the task is discarded, where it may be.
+    /// Returns the state after the task is discarded, if that is allowed.
     pub(crate) fn state_discarded(&self) -> Option<State>
         ensures { result ≡ state_moved self.now states.Discarded }
     {
         self.state_moved(Move::Discarded)
     }
 
-    /// The state after the move, where there is one.
+    /// Returns the state after the move, if that is allowed.
     fn state_moved(&self, step: Move) -> Option<State>
         ensures { result ≡ state_moved self.now (the_move step) }
     {
         after_move(self.nature(), self.state(), step)
     }
 
-    /// What may happen to the task.
+    /// Returns which moves the task can make: those of a root, of a taskwait with dependences, or of
+    /// another task.
     fn nature(&self) -> Nature
         ensures { the_nature result ≡ nature self.now }
     {
@@ -305,14 +306,14 @@ impl TaskData {
         }
     }
 
-    /// The turn in which the task is; 0 where it has begun none.
+    /// Returns the turn in which the task is, or 0 if it has begun none.
     pub(crate) fn turn(&self) -> u32
         ensures { result ≡ current_turn self.now }
     {
         self.turn.unwrap_or(0)
     }
 
-    /// The turn that the task begins next, where there is one more number for it.
+    /// Returns the turn that the task begins next, if it is a number of 32 bits.
     pub(crate) fn next_turn(&self) -> Option<u32>
         ensures { result ≡ turn_begun_next self.now }
     {
@@ -322,21 +323,21 @@ impl TaskData {
         }
     }
 
-    /// Whether its children would be too deep.
+    /// Returns whether its children would be too deep.
     pub(crate) fn is_deep(&self) -> bool
         ensures { result ≡ is_deep self.now }
     {
         self.claim.path.as_slice().len() >= MAX_DEPTH
     }
 
-    /// Whether it has as many children as a task may have.
+    /// Returns whether it has as many children as a task may have.
     pub(crate) fn is_crowded(&self) -> bool
         ensures { result ≡ is_crowded self.now }
     {
         self.claim.kept == u32::MAX
     }
 
-    /// Whether the innermost region that is open is of this kind.
+    /// Returns whether the innermost open region is of this kind.
     pub(crate) fn is_innermost_region(&self, kind: SyncKind) -> bool
         ensures { result ≡ is_innermost_region self.now kind }
     {
@@ -346,7 +347,8 @@ impl TaskData {
         }
     }
 
-    /// Whether the region is a barrier, and the task explicit, which may have none (OpenMP 5.2, 15.3).
+    /// Returns whether the region is a barrier and the task is explicit. An explicit task may have no
+    /// barrier (OpenMP 5.2, 15.3).
     pub(crate) fn is_barred(&self, kind: SyncKind) -> bool
         ensures { result ≡ is_barred self.now kind }
     {

@@ -23,7 +23,7 @@ thread_records rs thread = filter (λ (r : Record). r.thread == thread) rs
 abbrev pub steps_of : List Step → ℕ → List Step
 steps_of steps thread = filter (λ (s : Step). s.thread == thread) steps
 
--- the calls that records tell, and those that steps tell
+-- the calls of records, and those of steps
 abbrev pub recorded_calls : List Record → List Body
 recorded_calls rs = map (λ (r : Record). called r.body) rs
 

@@ -1,5 +1,5 @@
--- What runs of a script record. Calls says what of a record a script says too; Runs says which trace is one
--- of a run; Parts has words for private steps.
+-- What runs of a script record. Calls defines what records and steps have in common, Runs which trace is
+-- one of a run, Parts private steps.
 pub mod Calls
 pub mod Runs
 pub mod Parts

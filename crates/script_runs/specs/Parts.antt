@@ -1,4 +1,4 @@
--- Words for private steps.
+-- Definitions for private steps.
 use Rattle.std.specs.Prelude.{ℕ, ◌≡◌, ◌≤◌, ◌⊎◌, ◌++◌, ◌∷◌, [], List, Option, Some, map, option_map, All}
 use Rattle.std.specs.Prelude.{Contains, slice_get, take}
 use Rattle.std.specs.Global.{Vec}
@@ -32,7 +32,7 @@ HasRunTo steps places r = map Some (recorded_calls r.records) ≡ map (call_at s
 
 -- ---- the steps of a thread
 
--- in the row of each thread are the places of its steps among the first n
+-- the row of each thread has the places of its steps among the first n
 abbrev pub ArePlaces : List Step → ℕ → List (Vec ℕ) → Type 0
 ArePlaces steps n threads =
     (thread : ℕ) → map (call_at steps) (row_at threads thread) ≡ map Some (calls_of (take n steps) thread)
@@ -53,8 +53,8 @@ pub record HasRunFor (ledger : TableId) (steps : List Step) (thread : ℕ) (r : 
 abbrev pub IsAmong : List RecorderView → ℕ → Type 0
 IsAmong recorders thread = (r : RecorderView) × Contains recorders r × (r.thread ≡ thread)
 
--- each of the recorders has recorded the calls of its thread, and each thread from this one on has no call or
--- one of them
+-- each of the recorders has recorded the calls of its thread, and each thread from this one on has no call,
+-- or one of the recorders is of the thread
 pub record HaveRun (steps : List Step) (first : ℕ) (recorders : List RecorderView) : Type 0 where
   pub each : All (HasRecorded steps) recorders
   pub all : (thread : ℕ) → first ≤ thread → (calls_of steps thread ≡ []) ⊎ IsAmong recorders thread

@@ -12,8 +12,8 @@ use Rattle.script_runs.specs.Calls.{thread_records, recorded_calls, calls_of}
 use Rattle.script_runs.specs.declared.fault.RunFault.{RunFault}
 use Rattle.script_runs.specs.declared.fault.RunFault.TheVariants.{Memory, Thread, Call}
 
--- the trace is gathered from the recorders of a run of the script: the records of each thread are its steps,
--- in their order, and the finishing records pair off with the entries of the one ledger
+-- the trace is gathered from the recorders of a run of the script: the records of each thread are its
+-- steps, in their order, and the finishing records pair off with the entries of the one ledger
 pub record IsRunOf (steps : List Step) (trace : TraceView) : Type 0 where
   pub version : trace.version ≡ 2
   pub calls : (thread : ℕ) → recorded_calls (thread_records trace.records thread) ≡ calls_of steps thread
@@ -29,12 +29,12 @@ pub record IsRunOf (steps : List Step) (trace : TraceView) : Type 0 where
   pub on_host : IsFreeOf trace.records TargetTask
   pub rising : AreHandedOver trace.records → IsFreeOf trace.records LengthBack
 
--- the line of a fault; 0 where it is of no line
+-- the line of a fault; 0 if it has none
 abbrev pub line_of_fault : RunFault → ℕ
 line_of_fault (Call line fault) = line
 line_of_fault Memory = 0
 line_of_fault Thread = 0
 
--- a refused call stands on a line of the script: line 1 is the header
+-- the fault's line is at most the last line of the script; line 1 is the header
 abbrev pub IsOfLine : List Step → RunFault → Type 0
 IsOfLine steps fault = line_of_fault fault ≤ length steps + 1

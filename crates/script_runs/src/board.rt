@@ -1,4 +1,4 @@
-//! What the threads of a run share: how far each is, and the tasks that none of them has.
+//! What the threads of a run share: how far each is, and the tasks that no thread has at the moment.
 ghost use Rattle.std.specs.Prelude.{◌≡◌, ◌≤◌, ◌+◌, List, [], IfSome, length};
 ghost use Rattle.std.specs.Option.{option_map_or};
 ghost use Rattle.atomic_table.specs.Seated.{TableId};
@@ -12,7 +12,7 @@ use scripts::Step;
 use std::alloc::{AllocError, Global};
 use std::marker::{Brand, PhantomData};
 
-/// The ledger and the steps of a run. The run picks them.
+/// The ledger and the steps of a run, in ghost values. The run chooses them.
 pub trait Context {
     ghost ledger: { TableId };
 
@@ -41,25 +41,25 @@ pub(crate) struct RunNote<C: Context> {
     pub ghost of_the_run: { note.ledger ≡ C.ledger },
 }
 
-/// A task that no thread has, with a note where the next step that names it is one of another thread.
+/// A task that no thread has, with a note if the next step that names it belongs to another thread.
 #[derive(Drop)]
 pub(crate) struct Held<C: Context> {
     pub task: TaskData,
     pub note: Option<RunNote<C>>,
 }
 
-/// The tasks of a step that no thread has, in the order in which its call names them.
+/// The tasks of a step, while no thread has them, in the order in which its call names them.
 #[derive(Drop)]
 pub(crate) struct Pair<C: Context> {
     pub first: Option<Held<C>>,
     pub second: Option<Held<C>>,
 }
 
-/// Where a task waits for the next step that names it.
+/// The place where a task waits for the next step that names it.
 #[derive(Drop)]
 struct Slot<C: Context> {
     held: Option<Held<C>>,
-    /// How many of the steps that name it are done.
+    /// How many of the steps that name the task are done.
     done: u32,
 }
 
@@ -68,7 +68,7 @@ struct Slot<C: Context> {
 struct Progress {
     /// How many of its steps are done.
     done: u32,
-    /// The step that its next one is to be after, if there is one.
+    /// The step after which its next step comes, if one is named.
     after: Option<(u8, u32)>,
 }
 
@@ -85,7 +85,7 @@ pub(crate) struct Board<C: Context> {
 }
 
 impl<C: Context> Board<C> {
-    /// The board of a run in which no step is done.
+    /// Returns the board of a run in which no step is done.
     pub(crate) fn new(alloc: Global, tasks: usize, threads: usize) -> Result<Board<C>, AllocError> {
         let mut slots = Vec::with_capacity(alloc, tasks)?;
         for _ in 0..tasks {
@@ -105,14 +105,14 @@ impl<C: Context> Board<C> {
         })
     }
 
-    /// Why the run ends without a trace, if it does.
+    /// Returns why the run ends without a trace, if it does.
     pub(crate) fn fault(&self) -> Option<RunFault>
         ensures { IfSome result (IsOfLine C.steps) }
     {
         self.fault
     }
 
-    /// The run ends without a trace, unless it ends at an earlier line already.
+    /// Ends the run without a trace, unless it already ends at this line or an earlier one.
     pub(crate) fn stop(&mut self, fault: RunFault)
         requires { IsOfLine C.steps fault }
     {
@@ -121,7 +121,7 @@ impl<C: Context> Board<C> {
         }
     }
 
-    /// Whether a step on this line is taken no more.
+    /// Returns whether a step on this line is no longer taken.
     pub(crate) fn ends_before(&self, line: u32) -> bool {
         match self.fault {
             Some(fault) => fault.line() <= line,
@@ -129,19 +129,19 @@ impl<C: Context> Board<C> {
         }
     }
 
-    /// The thread is about to take this step.
+    /// Notes that the thread is about to take this step.
     pub(crate) fn expect(&mut self, step: &Step) {
         if let Some(progress) = self.threads.get_mut(usize::from(step.thread)) {
             progress.after = step.after;
         }
     }
 
-    /// Whether all is done that the step waits for.
+    /// Returns whether all that the step waits for is done.
     pub(crate) fn is_ready(&self, step: &Step, uses: Uses) -> bool {
         self.is_used_up(uses.first) && self.is_used_up(uses.second) && self.is_done(step.after)
     }
 
-    /// Whether all earlier steps that name the task are done.
+    /// Returns whether all earlier steps that name the task are done.
     fn is_used_up(&self, used: Option<Use>) -> bool {
         let Some(used) = used else {
             return true;
@@ -152,7 +152,7 @@ impl<C: Context> Board<C> {
         }
     }
 
-    /// Whether the step is done that is named by its thread and its number there.
+    /// Returns whether the step, given by its thread and its number there, is done.
     fn is_done(&self, after: Option<(u8, u32)>) -> bool {
         let Some((thread, number)) = after else {
             return true;
@@ -163,7 +163,7 @@ impl<C: Context> Board<C> {
         }
     }
 
-    /// Takes the tasks of a step.
+    /// Takes the tasks of a step, and returns them.
     pub(crate) fn take(&mut self, uses: Uses) -> Pair<C> {
         Pair {
             first: self.take_one(uses.first),
@@ -171,7 +171,7 @@ impl<C: Context> Board<C> {
         }
     }
 
-    /// Takes a task, if it is there: a step makes one of its tasks.
+    /// Takes a task, if it is there, and returns it. It is not there if the step makes it.
     fn take_one(&mut self, used: Option<Use>) -> Option<Held<C>> {
         match self.slots.get_mut(used?.task) {
             Some(slot) => slot.held.take(),
@@ -179,7 +179,7 @@ impl<C: Context> Board<C> {
         }
     }
 
-    /// The step of the thread is done, and leaves these of its tasks.
+    /// Notes that the step of the thread is done, and puts back these of its tasks.
     pub(crate) fn finish(&mut self, thread: u8, uses: Uses, left: Pair<C>) {
         self.put(uses.first, left.first);
         self.put(uses.second, left.second);
@@ -188,7 +188,7 @@ impl<C: Context> Board<C> {
         }
     }
 
-    /// One more step that names the task is done, and leaves it, unless the task is over.
+    /// Notes that one more step that names the task is done, and puts the task back unless it has ended.
     fn put(&mut self, used: Option<Use>, held: Option<Held<C>>) {
         let Some(used) = used else {
             return;
@@ -199,7 +199,7 @@ impl<C: Context> Board<C> {
         }
     }
 
-    /// Whether the next step of a thread is to be after the last step that this one has done.
+    /// Returns whether the next step of a thread comes after the last step that this other one has done.
     pub(crate) fn awaits(&self, thread: usize, other: u8) -> bool {
         let (Some(waiting), Some(done)) = (
             self.threads.get(thread),

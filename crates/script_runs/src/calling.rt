@@ -20,14 +20,14 @@ pub(crate) struct Values {
 }
 
 impl Values {
-    /// Takes the first value, which is of this task.
+    /// Takes the first value, and returns it. Fails with WrongState if it is not that of this task.
     fn take_first(&mut self, task: u64) -> Result<TaskData, CallFault>
         ensures { IfOk result (λ value. value.id ≡ task) }
     {
         of_task(self.first.take(), task)
     }
 
-    /// Takes the second value, which is of this task.
+    /// Takes the second value, and returns it. Fails with WrongState if it is not that of this task.
     fn take_second(&mut self, task: u64) -> Result<TaskData, CallFault>
         ensures { IfOk result (λ value. value.id ≡ task) }
     {
@@ -35,7 +35,8 @@ impl Values {
     }
 }
 
-/// The value, which is of this task. A step of a script that waited for its turn has the values of its tasks.
+/// Returns the value. Fails with WrongState if it is not that of this task. A step that waited for its turn
+/// has the values of its tasks.
 fn of_task(value: Option<TaskData>, task: u64) -> Result<TaskData, CallFault>
     ensures { IfOk result (λ value. value.id ≡ task) }
 {
@@ -45,8 +46,8 @@ fn of_task(value: Option<TaskData>, task: u64) -> Result<TaskData, CallFault>
     }
 }
 
-/// Makes the call of a step. It takes the values of the tasks that the call names, and leaves those that are
-/// used again.
+/// Makes the call of a step. Takes the values of the tasks that the call names, and leaves those that are
+/// used again. Fails with the recorder's fault.
 pub(crate) fn call<R: Wait>(
     recorder: &mut Recorder,
     ledger: &SharedLedger,
@@ -69,7 +70,7 @@ pub(crate) fn call<R: Wait>(
     }
 }
 
-/// Makes a call that asks no ledger.
+/// Makes a call that does not use the ledger.
 fn call_alone(recorder: &mut Recorder, body: &Body, values: &mut Values) -> Result<(), CallFault>
     ensures ledger { recorder.new.ledger ≡ recorder.old.ledger }
     ensures called { OnOk result (IsCalled recorder.old body.now recorder.new) }
@@ -98,7 +99,7 @@ fn call_alone(recorder: &mut Recorder, body: &Body, values: &mut Values) -> Resu
     }
 }
 
-/// An initial or implicit task begins or ends.
+/// Makes the call of an initial or implicit task that begins or ends.
 fn implicit_task(recorder: &mut Recorder, body: &Body, values: &mut Values) -> Result<(), CallFault>
     ensures ledger { recorder.new.ledger ≡ recorder.old.ledger }
     ensures called { OnOk result (IsCalled recorder.old body.now recorder.new) }
@@ -134,7 +135,7 @@ fn implicit_task(recorder: &mut Recorder, body: &Body, values: &mut Values) -> R
     }
 }
 
-/// A task creates another one.
+/// Makes the call of a task that creates another one.
 fn create(recorder: &mut Recorder, body: &Body, values: &mut Values) -> Result<(), CallFault>
     ensures ledger { recorder.new.ledger ≡ recorder.old.ledger }
     ensures called { OnOk result (IsCalled recorder.old body.now recorder.new) }
@@ -155,7 +156,7 @@ fn create(recorder: &mut Recorder, body: &Body, values: &mut Values) -> Result<(
     Ok(())
 }
 
-/// The dependences of the task that was created last.
+/// Makes the call with the dependences of the task that was created last.
 fn list_dependences(
     recorder: &mut Recorder,
     task: u64,
@@ -176,7 +177,7 @@ fn list_dependences(
     }
 }
 
-/// A copy of the dependences.
+/// Returns a copy of the dependences.
 fn copied(alloc: Global, list: &[Dep]) -> Result<Vec<Dep>, CallFault>
     ensures { IfOk result (λ copy. copy.items ≡ list.now) }
 {
@@ -187,7 +188,7 @@ fn copied(alloc: Global, list: &[Dep]) -> Result<Vec<Dep>, CallFault>
     }
 }
 
-/// A task stops, and another one runs next.
+/// Makes the call of a task that stops where another one runs next.
 fn switch<R: Wait>(
     recorder: &mut Recorder,
     ledger: &SharedLedger,
@@ -223,7 +224,7 @@ fn switch<R: Wait>(
     }
 }
 
-/// A task is fulfilled, or complete as a taskwait.
+/// Makes the call of a task that is fulfilled, or complete as a taskwait.
 fn fulfil<R: Wait>(
     recorder: &mut Recorder,
     ledger: &SharedLedger,
@@ -254,7 +255,7 @@ fn fulfil<R: Wait>(
     }
 }
 
-/// A task begins or ends a region, or both in one call.
+/// Makes the call of a task that begins or ends a region, or both in one call.
 fn region<R: Wait>(
     recorder: &mut Recorder,
     ledger: &SharedLedger,
@@ -291,7 +292,7 @@ fn region<R: Wait>(
     Ok(())
 }
 
-/// A task cancels a region or sees it cancelled, or is itself discarded.
+/// Makes the call of a task that cancels a region, sees one cancelled, or is itself discarded.
 fn cancel<R: Wait>(
     recorder: &mut Recorder,
     ledger: &SharedLedger,

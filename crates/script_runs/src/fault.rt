@@ -17,13 +17,14 @@ pub enum RunFault {
     /// A thread could not be started. Number 2.
     #[error("no thread")]
     Thread,
-    /// The call on this line was refused. Number 3.
+    /// The recorder refused the call on this line; or, on the last line, the trace could not be gathered.
+    /// Number 3.
     #[error("line {line}: {fault}")]
     Call { line: u32, fault: CallFault },
 }
 
 impl RunFault {
-    /// The fault of a call on this line.
+    /// Returns the fault of a call on this line.
     pub(crate) fn of_call(line: u32, fault: CallFault) -> RunFault
         ensures { (steps : List Step) → line ≤ length steps + 1 → IsOfLine steps result }
     {
@@ -33,7 +34,7 @@ impl RunFault {
         }
     }
 
-    /// The line from which on no step is taken any more.
+    /// Returns the first line on which no step is taken any more. It is 0 for a fault of no line.
     pub(crate) fn line(self) -> u32
         ensures { result ≡ line_of_fault self }
     {

@@ -8,7 +8,7 @@ use scripts::Step;
 use std::alloc::{AllocError, Global};
 use task_states::reach;
 
-/// The places of the steps of each thread, by its number, up to the greatest thread that has one.
+/// Returns the places of the steps of each thread, by its number, up to the greatest thread that has one.
 pub(crate) fn places_by_thread(alloc: Global, steps: &[Step]) -> Result<Vec<Vec<u32>>, AllocError>
     requires { length steps.now ≤ max_records }
     ensures places { IfOk result (λ threads. ArePlaces steps.now (length steps.now) threads.items) }
@@ -21,7 +21,7 @@ pub(crate) fn places_by_thread(alloc: Global, steps: &[Step]) -> Result<Vec<Vec<
     Ok(threads)
 }
 
-/// Notes that a step of the thread stands at this place.
+/// Notes that the step at this place is one of the thread.
 fn note_place(
     alloc: Global,
     threads: &mut Vec<Vec<u32>>,

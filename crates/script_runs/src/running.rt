@@ -18,10 +18,10 @@ use std::sync::Wait;
 use std::thread::{Promise, PromisedHandle, Scope, Threads, scope, scope_env};
 use task_states::row;
 
-/// Makes the calls of a script, each thread of the script on a thread of its own, and returns the trace that
-/// their recorders gather. A step waits until the step named by its `after` is done, and until all earlier
-/// steps are done that name one of its tasks. The first refused call, in the order of the script, ends the run.
-/// The script comes back where the run has no trace.
+/// Makes the calls of a script, each thread of the script on a thread of its own, and returns the trace
+/// that their recorders gather. A step waits until the step named by its `after` is done, and until all
+/// earlier steps that name one of its tasks are done. The first refused call, in the order of the script,
+/// ends the run. If the run has no trace, it returns the script with the fault.
 pub fn run<R: Threads + Wait + Sync>(
     rt: &R,
     alloc: Global,
@@ -45,7 +45,7 @@ pub fn run<R: Threads + Wait + Sync>(
     }
 }
 
-/// The recorders of the script's threads, after each made its calls.
+/// Returns the recorders of the script's threads, after each made its calls.
 fn recorded<C: Context + Send + Sync, R: Threads + Wait + Sync>(
     rt: &R,
     alloc: Global,
@@ -73,7 +73,7 @@ fn recorded<C: Context + Send + Sync, R: Threads + Wait + Sync>(
     }
 }
 
-/// The recorders of the script's threads, or none where the run ends without a trace.
+/// Returns the recorders of the script's threads, or none if the run ends without a trace.
 fn in_scope<C: Context + Send + Sync, R: Threads + Wait + Sync>(
     rt: &R,
     shared: &Shared<C>,
@@ -95,8 +95,8 @@ fn in_scope<C: Context + Send + Sync, R: Threads + Wait + Sync>(
     )
 }
 
-/// The promise of a thread: if it comes to its end, its recorder is of this thread, and has recorded the calls
-/// of its steps.
+/// What a thread ensures: if it takes all its steps, its recorder is of this thread, and has recorded the
+/// calls of its steps.
 #[derive(Clone, Copy)]
 struct ByThread<C: Context> {
     thread: u8,
@@ -107,7 +107,7 @@ impl<C: Context> Promise<Option<Recorder>> for ByThread<C> {
     ghost kept_by = { λ promise result. IfSome result (HasRunFor C.ledger C.steps promise.thread) };
 }
 
-/// Runs the threads from this one on, and returns their recorders, or none where the run ends without a trace.
+/// Runs the threads from this one on, and returns their recorders, or none if the run ends without a trace.
 fn run_from<'s, E, C: Context + Send + Sync, R: Threads + Wait + Sync>(
     scope: &Scope<'s, E>,
     rt: &'s R,
@@ -140,7 +140,8 @@ fn run_from<'s, E, C: Context + Send + Sync, R: Threads + Wait + Sync>(
     Some(recorders)
 }
 
-/// Starts a thread of the script. Where none can be started the run ends without a trace.
+/// Starts a thread of the script, and returns its handle. If no thread can be started, ends the run without
+/// a trace.
 fn start<'s, E, C: Context + Send + Sync, R: Threads + Wait + Sync>(
     scope: &Scope<'s, E>,
     rt: &'s R,
@@ -164,7 +165,7 @@ fn start<'s, E, C: Context + Send + Sync, R: Threads + Wait + Sync>(
     }
 }
 
-/// Takes the steps of a thread. Returns its recorder, or none where the run ends before its last step.
+/// Takes the steps of a thread. Returns its recorder, or none if the run ends before its last step.
 fn run_thread<C: Context, R: Wait>(
     rt: &R,
     shared: &Shared<C>,

@@ -27,7 +27,7 @@ pub(crate) struct Shared<C: Context> {
     pub threads: Vec<Vec<u32>>,
     pub uses: UseTable,
     pub board: Mutex<Board<C>>,
-    /// By number of the thread: told of when the thread may go on.
+    /// By number of the thread, the condition on which it waits until it may go on.
     pub changes: Vec<Condvar>,
     pub ghost of_the_ledger: { ledger_id ledger ≡ C.ledger },
     pub ghost of_the_script: { script ≡ C.steps },
@@ -36,7 +36,8 @@ pub(crate) struct Shared<C: Context> {
 }
 
 impl<C: Context> Shared<C> {
-    /// What the threads of a run share before it begins. The script comes back where there is no memory for it.
+    /// Returns what the threads of a run share before it begins. Fails only when out of memory, and returns
+    /// the script.
     pub(crate) fn new(
         alloc: Global,
         ledger: SharedLedger,
@@ -63,8 +64,9 @@ impl<C: Context> Shared<C> {
         }
     }
 
-    /// Takes the step at this place, once all is done that it waits for; says whether it did. The run ends
-    /// without a trace where the recorder refuses the call, and with it ends the wait of every thread.
+    /// Takes the step at this place, once all that it waits for is done. Returns whether it did. If the
+    /// recorder refuses the call, the run ends without a trace, and threads that wait to take a later step
+    /// stop waiting.
     pub(crate) fn take_step<R: Wait>(&self, rt: &R, recorder: &mut Recorder, at: usize) -> bool
         requires { recorder.old.ledger ≡ C.ledger }
         ensures ledger { recorder.new.ledger ≡ recorder.old.ledger }
@@ -91,7 +93,7 @@ impl<C: Context> Shared<C> {
         }
     }
 
-    /// The run ends without a trace, and no thread waits any longer.
+    /// Ends the run without a trace, and wakes all threads.
     pub(crate) fn stop<R: Wait>(&self, rt: &R, fault: RunFault)
         requires { IsOfLine C.steps fault }
     {
@@ -101,15 +103,15 @@ impl<C: Context> Shared<C> {
         }
     }
 
-    /// Why the run ends without a trace. A run that does has a fault.
+    /// Returns why the run ends without a trace. A run that does has a fault.
     pub(crate) fn fault<R: Wait>(&self, rt: &R) -> RunFault
         ensures { IsOfLine C.steps result }
     {
         self.board.lock(rt).fault().unwrap_or(RunFault::Memory)
     }
 
-    /// Waits until all is done that the step waits for, and takes its tasks. None where the run ends before
-    /// the step.
+    /// Waits until all that the step waits for is done, takes its tasks, and returns them. Returns none if
+    /// the run ends before the step.
     fn await_tasks<R: Wait>(&self, rt: &R, step: &Step, uses: Uses) -> Option<Pair<C>> {
         let mut board = self.board.lock(rt);
         board.expect(step);
@@ -125,7 +127,7 @@ impl<C: Context> Shared<C> {
         Some(board.take(uses))
     }
 
-    /// The values of the tasks, after their notes were met.
+    /// Returns the values of the tasks, after their notes are met.
     fn met<R: Wait>(&self, rt: &R, recorder: &mut Recorder, pair: Pair<C>) -> Values
         requires { recorder.old.ledger ≡ C.ledger }
         ensures ledger { recorder.new.ledger ≡ recorder.old.ledger }
@@ -140,7 +142,7 @@ impl<C: Context> Shared<C> {
         }
     }
 
-    /// The value of a task, after its note was met.
+    /// Returns the value of a task, after its note is met.
     fn meet<R: Wait>(
         &self,
         rt: &R,
@@ -159,8 +161,8 @@ impl<C: Context> Shared<C> {
         Some(task)
     }
 
-    /// The tasks that a step leaves, each with a note where the next step that names it is one of another
-    /// thread.
+    /// Returns the tasks that a step leaves, each with a note if the next step that names it belongs to
+    /// another thread.
     fn left(&self, recorder: &mut Recorder, uses: Uses, values: Values) -> Pair<C>
         requires { recorder.old.ledger ≡ C.ledger }
         ensures ledger { recorder.new.ledger ≡ recorder.old.ledger }
@@ -174,7 +176,8 @@ impl<C: Context> Shared<C> {
         }
     }
 
-    /// A task, with a note where the next step that names it is one of another thread.
+    /// Returns the task, with a note if the next step that names it belongs to another thread. Returns none
+    /// if no step names it any more.
     fn hold(
         &self,
         recorder: &mut Recorder,
@@ -197,7 +200,7 @@ impl<C: Context> Shared<C> {
         Some(Held { task, note })
     }
 
-    /// The step is done, and leaves these of its tasks: the threads that wait for it may go on.
+    /// Notes that the step is done, puts back these of its tasks, and wakes the threads that wait for it.
     fn finish<R: Wait>(&self, rt: &R, step: &Step, uses: Uses, left: Pair<C>) {
         self.board.lock(rt).finish(step.thread, uses, left);
         self.tell_next(uses.first);
@@ -207,7 +210,7 @@ impl<C: Context> Shared<C> {
         }
     }
 
-    /// The threads may go on whose next step is to be after the last one that this thread has done.
+    /// Wakes the threads whose next step comes after the last one that this thread has done.
     fn tell_waiting<R: Wait>(&self, rt: &R, done: u8) {
         let board = self.board.lock(rt);
         for thread in 0..self.changes.len() {
@@ -217,7 +220,7 @@ impl<C: Context> Shared<C> {
         }
     }
 
-    /// The next step that names the task may go on.
+    /// Wakes the thread of the next step that names the task.
     fn tell_next(&self, used: Option<Use>) {
         if let Some(
             Use {
@@ -232,8 +235,8 @@ impl<C: Context> Shared<C> {
     }
 }
 
-/// The places of the steps of each thread, the uses of the steps, the board at the start, and for each thread a
-/// condition to wait for.
+/// Returns the places of the steps of each thread, the uses of the steps, the board at the start, and for
+/// each thread a condition to wait on.
 fn tables<C: Context>(
     alloc: Global,
     steps: &[Step],
@@ -249,7 +252,7 @@ fn tables<C: Context>(
     Ok((threads, uses, board, changes))
 }
 
-/// So many conditions to wait for.
+/// Returns this many conditions to wait on.
 fn conditions(alloc: Global, count: usize) -> Result<Vec<Condvar>, AllocError> {
     let mut conditions = Vec::with_capacity(alloc, count)?;
     for _ in 0..count {

@@ -1,4 +1,4 @@
-//! What each step of a script has to do with the tasks that it names, and which steps are awaited.
+//! Which steps of a script use each task, and which steps are awaited.
 ghost use Rattle.std.specs.Prelude.{◌≤◌, length};
 ghost use Rattle.ompt_events.specs.Limits.{max_records};
 
@@ -6,7 +6,7 @@ use scripts::Step;
 use std::alloc::{AllocError, Global};
 use task_states::row;
 
-/// What a step has to do with a task that it names.
+/// The use of a task by a step that names it.
 #[derive(Clone, Copy)]
 pub(crate) struct Use {
     /// The number of the task, in the order of their ids.
@@ -17,7 +17,7 @@ pub(crate) struct Use {
     pub next: Option<u8>,
 }
 
-/// What a step has to do with its tasks, in the order in which its call names them.
+/// The uses of tasks by one step, in the order in which its call names them.
 #[derive(Clone, Copy)]
 pub(crate) struct Uses {
     pub first: Option<Use>,
@@ -53,7 +53,7 @@ pub(crate) struct UseTable {
 }
 
 impl UseTable {
-    /// The uses of the steps, of which each thread has those at these places.
+    /// Returns the uses by all steps. The second table has the places of each thread's steps.
     pub(crate) fn of(
         alloc: Global,
         steps: &[Step],
@@ -73,12 +73,12 @@ impl UseTable {
         Ok(table)
     }
 
-    /// How many tasks the steps name.
+    /// Returns how many tasks the steps name.
     pub(crate) fn tasks(&self) -> usize {
         self.tasks
     }
 
-    /// What the step at this place has to do with its tasks.
+    /// Returns the uses of tasks by the step at this place.
     pub(crate) fn at(&self, at: usize) -> Uses {
         match self.uses.get(at) {
             Some(uses) => *uses,
@@ -104,8 +104,8 @@ impl UseTable {
         }
     }
 
-    /// Notes what each step has to do with its tasks. The names of one task stand side by side, in the order of
-    /// the steps.
+    /// Notes the use of each task by each step that names it. Requires that the names of one task are
+    /// adjacent, in the order of the steps.
     fn note_uses(&mut self, names: &[Name]) {
         let mut last = None;
         let mut before: u32 = 0;
@@ -131,7 +131,7 @@ impl UseTable {
         }
     }
 
-    /// Notes what a step has to do with a task that it names.
+    /// Notes the use of a task by the step that names it.
     fn put(&mut self, name: Name, used: Use) {
         if let Some(uses) = self.uses.get_mut(name.at as usize) {
             if name.is_second {
@@ -143,7 +143,7 @@ impl UseTable {
     }
 }
 
-/// The tasks that the steps name. A call of a script names at most two, since it makes no claim.
+/// Returns the tasks that the steps name. A call of a script names at most two, since it makes no claim.
 fn names_of(alloc: Global, steps: &[Step]) -> Result<Vec<Name>, AllocError>
     requires { length steps.now ≤ max_records }
 {

@@ -22,17 +22,17 @@ use Rattle.wait_coverage.specs.Spans.{IsSpan, IsCoverComplete}
 use Rattle.wait_coverage.specs.Waits.{IsWaitAt, IsFirstOpen}
 use Rattle.wait_coverage.specs.declared.waits.Wait.{Wait}
 
--- a region ends there that waits for tasks (OpenMP 5.2, 15.3 to 15.5)
+-- a region that waits for tasks ends at i (OpenMP 5.2, 15.3 to 15.5)
 abbrev pub IsEnd : List Record → ℕ → Type 0
 IsEnd rs i = (task begin : ℕ) × (kind : SyncKind) × IsRegion rs i task kind begin
     × (waits_for_tasks kind ≡ true)
 
--- one does at the place in the file
+-- such a region ends at the place in the file
 abbrev pub IsEndPlace : OwnView → ℕ → Type 0
 IsEndPlace own place =
     (number : ℕ) × (slice_get own.places number ≡ Some place) × IsEnd own.run.records number
 
--- those of the first n places in the file, in file order
+-- the ends at the first n places in the file, in file order
 pub record AreWaitEnds (own : OwnView) (n : ℕ) (ends : List ℕ) : Type 0 where
   pub each : (place : ℕ) → place < n → IsEndPlace own place → Contains ends place
   pub only : (k place : ℕ) → slice_get ends k ≡ Some place → (place < n) × IsEndPlace own place
@@ -46,15 +46,15 @@ pub record AreWaits (own : OwnView) (ends : List ℕ) (waits : List Wait) : Type
       → slice_get own.places number ≡ Some place → slice_get waits k ≡ Some wait
       → IsWaitAt own.run.records own.run.family.tasks number wait
 
--- a region ends at i that waits for tasks: for the children alone where it is a taskwait, and for all
--- descendants where it is of another kind
+-- a region that waits for tasks ends at i: for the children alone if it is a taskwait, and for all
+-- descendants if it is of another kind
 abbrev pub IsCoverAt : List Record → ℕ → Cover → Type 0
 IsCoverAt rs i cover = (task begin : ℕ) × (kind : SyncKind) × IsRegion rs i task kind begin
     × (waits_for_tasks kind ≡ true) × ((cover ≡ Children) ↔ (kind ≡ Taskwait))
 
 -- ---- spans
 
--- one span, of the children of the task with these numbers
+-- one span, which is of the children of the task with these numbers
 pub record IsOnly (rs : List Record) (task from to : ℕ) (spans : List Span) : Type 0 where
   pub span : Span
   pub only : spans ≡ span ∷ []
@@ -64,7 +64,7 @@ pub record IsOnly (rs : List Record) (task from to : ℕ) (spans : List Span) : 
 abbrev pub HasBegun : List (Vec ℕ) → ℕ → ℕ → Type 0
 HasBegun begins number index = number < length (row_at begins index)
 
--- each member of the roster does, and no slot is empty
+-- each member of the roster begins one, and no slot is empty
 abbrev pub HaveBegun : List (Vec ℕ) → ℕ → List (Option ℕ) → Type 0
 HaveBegun begins number roster = (place : ℕ) → place < length roster
     → (index : ℕ) × (slice_get roster place ≡ Some (Some index)) × HasBegun begins number index
@@ -74,7 +74,7 @@ abbrev pub IsMemberSpan : List Record → ℕ → ℕ → Span → Type 0
 IsMemberSpan rs member number span = (start : ℕ) × IsBarrierBegin rs member number start
     × IsSpan rs member 0 (child_number rs member start) span
 
--- that of each of the first n members of the roster
+-- that span for each of the first n members of the roster
 pub record AreRosterSpans (rs : List Record) (tasks : List ℕ) (number : ℕ) (roster : List (Option ℕ)) (n : ℕ)
     (spans : List Span) : Type 0 where
   pub count : length spans ≡ n
@@ -82,12 +82,12 @@ pub record AreRosterSpans (rs : List Record) (tasks : List ℕ) (number : ℕ) (
       → slice_get tasks index ≡ Some member → slice_get spans place ≡ Some span
       → IsMemberSpan rs member number span
 
--- the first entries hold each of the spans
+-- the first n entries hold each of the spans
 abbrev pub AreAllHeld : List Entry → ℕ → Cover → List Span → Type 0
 AreAllHeld entries n cover spans =
     (span : Span) → Contains spans span → IsSpanHeld (take n entries) span cover
 
--- no span is of children deeper than a ledger can enter
+-- no span is of a task deeper than a ledger can enter
 abbrev pub AreShallow : List Span → Type 0
 AreShallow spans = (span : Span) → Contains spans span → length span.path ≤ 1024
 
@@ -104,7 +104,7 @@ pub record CoverageView : Type 0 where
 abbrev pub IsTreeOfOwn : OwnView → TreeView → Type 0
 IsTreeOfOwn own tree = (rs : List Record) × IsTreeOf rs tree × IsOwnOf rs own
 
--- all is that of the run of the teams
+-- all tables are those of the run of the teams
 pub record IsCoverage (coverage : CoverageView) : Type 0 where
   pub teams : IsTeams coverage.teams
   pub tree : IsTreeOfOwn (own_of coverage.teams) coverage.tree
@@ -117,13 +117,13 @@ abbrev pub IsEndNumber : CoverageView → ℕ → ℕ → Type 0
 IsEndNumber coverage index number = (place : ℕ) × (slice_get coverage.ends index ≡ Some place)
     × (slice_get coverage.teams.places number ≡ Some place)
 
--- the answer is the first open task at the end with this number, or none where all that it covers is
+-- the result is the first unfinished task at the end with this number, or none if all that it covers is
 -- complete
 abbrev pub IsFirstOpenAnswer : CoverageView → ℕ → Option ℕ → Type 0
 IsFirstOpenAnswer coverage end answer = MatchOption answer (IsCoverComplete coverage.teams.run.records end)
     (IsFirstOpen (own_of coverage.teams) end)
 
--- of the first n ends that are asked for, by their indices among the ends, the answer for each
+-- the result for each of the first n of these ends, given by their indices among the ends
 pub record AreFirstOpen (coverage : CoverageView) (of : List ℕ) (n : ℕ)
     (found : List (Option ℕ)) : Type 0 where
   pub count : length found ≡ n

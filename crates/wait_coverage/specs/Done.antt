@@ -10,8 +10,8 @@ use Rattle.task_tree.specs.Lineage.{parent_index, depth_in}
 use Rattle.teams.specs.Teams.{TeamsView, IsTeams}
 use Rattle.trace_ledger.specs.Entries.{IsDone}
 
--- what clauses see of the lengths of tasks: by index of the task a ledger length of its own, and one of the
--- task and all its descendants
+-- the view of the lengths of tasks: by index of the task a ledger length of its own, and one of the task
+-- and all its descendants
 pub record DoneView : Type 0 where
   pub teams : TeamsView
   pub own : List ℕ
@@ -28,11 +28,11 @@ abbrev pub IsEarly : DoneView → ℕ → ℕ → Type 0
 IsEarly done m task = (index limit : ℕ) → slice_get (tasks_of done) index ≡ Some task
     → slice_get done.own index ≡ Some limit → limit ≤ m
 
--- so is that of each of its descendants
+-- the length of each task of its family, which is the task and its descendants, is at most m
 abbrev pub IsFamilyEarly : DoneView → ℕ → ℕ → Type 0
 IsFamilyEarly done m task = (t : ℕ) → IsFamily (records_of done) task t → IsEarly done m t
 
--- at the index of each task stands the greatest length of the task and its descendants
+-- by index of each task the greatest length of the task and its descendants
 pub record AreFamilyLengths (done : DoneView) : Type 0 where
   pub all : length done.families ≡ length (tasks_of done)
   pub each : (index task limit m : ℕ) → slice_get (tasks_of done) index ≡ Some task
@@ -46,28 +46,28 @@ pub record IsDoneView (done : DoneView) : Type 0 where
 
 -- ---- the lengths that the records name
 
--- from this ledger length on the task is finished, and at no lesser one
+-- the task is finished from this ledger length on, and at no lesser one
 abbrev pub IsDoneFrom : List Record → ℕ → ℕ → Type 0
 IsDoneFrom rs task limit = (m : ℕ) → m < 2 ^ 32 → (limit ≤ m) ↔ IsDone rs m task
 
--- at the index of each task stands the length from which on it is finished
+-- by index of each task the ledger length from which on it is finished
 pub record AreOwnLengths (rs : List Record) (tasks own : List ℕ) : Type 0 where
   pub all : length own ≡ length tasks
   pub each : (index task limit : ℕ) → slice_get tasks index ≡ Some task → slice_get own index ≡ Some limit
       → IsDoneFrom rs task limit
 
--- the tasks' own lengths are those
+-- the tasks' own lengths are those from which on they are finished
 abbrev pub AreDone : DoneView → Type 0
 AreDone done = AreOwnLengths (records_of done) (tasks_of done) done.own
 
--- the same of the tasks that another task created
+-- the same for the tasks that another task created
 abbrev pub AreChildrenDone : DoneView → Type 0
 AreChildrenDone done = (task m : ℕ) → IsExplicit (records_of done) task → m < 2 ^ 32
     → IsEarly done m task ↔ IsDone (records_of done) m task
 
 -- ---- from the children to their parents
 
--- all indices of tasks, each behind that of its parent
+-- all indices of tasks, each after that of its parent
 pub record IsParentsFirst (family : FamilyView) (order : List ℕ) : Type 0 where
   pub all : (index : ℕ) → index < length family.tasks → (place : ℕ) × (slice_get order place ≡ Some index)
   pub within : (place index : ℕ) → slice_get order place ≡ Some index → index < length family.tasks
@@ -91,8 +91,8 @@ pub data IsAtOrAbove (family : FamilyView) (top : ℕ) : ℕ → Type 0 where
   further : {index up : ℕ} → parent_index family index ≡ Some up → IsAtOrAbove family top up
       → IsAtOrAbove family top index
 
--- each has at least its floor, and the parents of the tasks from the place n on have at least what these
--- have; none has more than the greatest floor of the tasks that it is above
+-- each task has at least its floor, and the parents of the tasks from the place n on have at least what
+-- these have; none has more than the greatest floor of the tasks that it is above
 pub record AreRaised (family : FamilyView) (order floor : List ℕ) (n : ℕ) (limits : List ℕ) : Type 0 where
   pub all : length limits ≡ length floor
   pub own : (index : ℕ) → slice_index floor index ≤ slice_index limits index

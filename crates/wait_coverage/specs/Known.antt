@@ -16,8 +16,9 @@ pub record KnownView : Type 0 where
 abbrev pub AreLimitsKnown : KnownView → Type 0
 AreLimitsKnown known = AreEndLimits known.done known.nodes
 
--- the entries hold the credit of each child in its parent's pool from its own length on, and not before; and
--- that of each task in its root's tree from the length of its family on, and not before (F. Mattern, 1989)
+-- the entries hold the credit of each child in its parent's pool from its own length on, and not before;
+-- and they hold the credit of each task in its root's tree from the length of its family on, and not before
+-- (F. Mattern, 1989)
 pub record AreHeldFrom (done : DoneView) (entries : List Entry) : Type 0 where
   pub pool : (index task limit n root parent number : ℕ) (path : List ℕ)
       → slice_get (tasks_of done) index ≡ Some task → slice_get done.own index ≡ Some limit
@@ -28,7 +29,7 @@ pub record AreHeldFrom (done : DoneView) (entries : List Entry) : Type 0 where
       → HasPath (records_of done) root task path → n < 2 ^ 32
       → (limit ≤ n) ↔ IsHeldInTree (take n entries) root path
 
--- every ledger of the trace holds it so
+-- this is so for every ledger of the trace
 abbrev pub AreCreditLengths : DoneView → Type 0
 AreCreditLengths done =
     (entries : List Entry) → IsLedgerOf (records_of done) entries → AreHeldFrom done entries

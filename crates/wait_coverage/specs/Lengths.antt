@@ -21,24 +21,25 @@ length_of lengths Whole = lengths.whole
 length_of lengths Body = lengths.body
 length_of lengths Event = lengths.event
 
--- the lengths where the part is finished from this one on too
+-- the lengths with the part finished from this one on, if not earlier
 abbrev pub with_length : Lengths → Part → ℕ → Lengths
 with_length l Whole n = record { whole = min l.whole n; body = l.body; event = l.event }
 with_length l Body n = record { whole = l.whole; body = min l.body n; event = l.event }
 with_length l Event n = record { whole = l.whole; body = l.body; event = min l.event n }
 
--- the length from which on the task is finished: whole, or its body and its event
+-- the length from which on the task is finished: whole, or both its body and its event
 abbrev pub done_length : Lengths → ℕ
 done_length l = min l.whole (max l.body l.event)
 
--- of each part of the task the least length that has an entry for it, by the records for which `counts` holds
+-- for each part of the task the ledger length after an entry for it, or never; it is at most that of each
+-- record for which `counts` holds
 pub record AreLeast (rs : List Record) (counts : ℕ → Type 0) (task : ℕ) (lengths : Lengths) : Type 0 where
   pub each : (part : Part) (k : ℕ) → counts k → at finish rs k ≡ Some (task, part)
       → length_of lengths part ≤ seen_at rs k + 1
   pub only : (part : Part) → (length_of lengths part ≡ never) ⊎ ((k : ℕ) ×
       (at finish rs k ≡ Some (task, part)) × (length_of lengths part ≡ seen_at rs k + 1))
 
--- at the index of each task stand its lengths
+-- by index of each task its lengths
 pub record AreLengthsBy (rs : List Record) (counts : ℕ → Type 0) (tasks : List ℕ)
     (table : List Lengths) : Type 0 where
   pub all : length table ≡ length tasks

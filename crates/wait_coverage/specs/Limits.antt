@@ -22,14 +22,14 @@ IsChildLimit done i task limit =
     (m c child : ℕ) → m < 2 ^ 32 → limit ≤ m → c < i → at creation (records_of done) c ≡ Some (task, child)
     → IsEarly done m child
 
--- from this ledger length on the children that the task created before the record i are finished, and so are
--- their descendants
+-- from this ledger length on the children that the task created before the record i, and their descendants,
+-- are finished
 abbrev pub IsFamiliesLimit : DoneView → ℕ → ℕ → ℕ → Type 0
 IsFamiliesLimit done i task limit =
     (c child : ℕ) → c < i → at creation (records_of done) c ≡ Some (task, child)
     → IsFamilyLimit done child limit
 
--- from this ledger length on each task is finished that a taskwait or a taskgroup that ends at i covers
+-- from this ledger length on each task that a taskwait or a taskgroup which ends at i covers is finished
 pub record IsWaitLimit (done : DoneView) (i limit : ℕ) : Type 0 where
   pub waits : (parent begin : ℕ) → IsRegion (records_of done) i parent Taskwait begin
       → IsChildLimit done begin parent limit
@@ -44,7 +44,7 @@ IsEndLimit done i limit =
 
 -- ---- what is noted at the records
 
--- the node with this number is reached from that at the head, by their links to an earlier one
+-- the node with this number is the head, or is reached from it by the links
 pub data IsOnChain (nodes : List Node) : Option ℕ → ℕ → Type 0 where
   here : {number : ℕ} → IsOnChain nodes (Some number) number
   later : {head number : ℕ} {node : Node} → slice_get nodes head ≡ Some node
@@ -55,7 +55,7 @@ abbrev pub AreFalling : List Node → Type 0
 AreFalling nodes = (number next : ℕ) (node : Node) → slice_get nodes number ≡ Some node
     → node.previous ≡ Some next → next < number
 
--- the node stands for those of a chain that are later than the begin, and links to the others
+-- the node replaces those of a chain that are later than the begin, and links to the others
 pub record Gathers (nodes : List Node) (head : Option ℕ) (begin : ℕ) (gathered : Node) : Type 0 where
   pub known : (next : ℕ) → gathered.previous ≡ Some next → next < length nodes
   pub within : (number : ℕ) (node : Node) → IsOnChain nodes head number → begin < number
@@ -63,12 +63,12 @@ pub record Gathers (nodes : List Node) (head : Option ℕ) (begin : ℕ) (gather
   pub rest : (number : ℕ) → IsOnChain nodes head number → number ≤ begin
       → IsOnChain nodes gathered.previous number
 
--- what stands at the begin of the taskwait that ends at i
+-- the limit at the begin of the taskwait that ends at i
 abbrev pub IsLimitOfBegin : List Record → List Node → ℕ → ℕ → Type 0
 IsLimitOfBegin rs nodes i limit = (task begin : ℕ) → EndsRegion rs i task Taskwait begin
     → (node : Node) × (slice_get nodes begin ≡ Some node) × (node.limit ≡ limit)
 
--- a node on the chain stands for the child that is created at c
+-- a node on the chain has a limit for the child that is created at c
 pub record HasNode (done : DoneView) (nodes : List Node) (head : Option ℕ) (c child : ℕ) : Type 0 where
   pub number : ℕ
   pub node : Node
@@ -77,22 +77,21 @@ pub record HasNode (done : DoneView) (nodes : List Node) (head : Option ℕ) (c 
   pub after : c ≤ number
   pub limit : IsFamilyLimit done child node.limit
 
--- at the index of each task stands the limit of its children, of those that the first n records create
+-- by index of each task the limit of its children, of those that the first n records create
 pub record AreChildLimits (done : DoneView) (n : ℕ) (latest : List ℕ) : Type 0 where
   pub all : length latest ≡ length (tasks_of done)
   pub each : (index task limit : ℕ) → slice_get (tasks_of done) index ≡ Some task
       → slice_get latest index ≡ Some limit
       → IsChildLimit done n task limit
 
--- the same of the children and their descendants
+-- the same for the children and their descendants
 pub record AreLatestFamilies (done : DoneView) (n : ℕ) (families : List ℕ) : Type 0 where
   pub all : length families ≡ length (tasks_of done)
   pub each : (index task limit : ℕ) → slice_get (tasks_of done) index ≡ Some task
       → slice_get families index ≡ Some limit
       → IsFamiliesLimit done n task limit
 
--- at the index of each task stands the head of a chain, where each child that one of the first n records
--- creates has a node
+-- by index of each task the head of a chain that has a node for each child that it creates so far
 pub record AreChains (done : DoneView) (nodes : List Node)
     (heads : List (Option ℕ)) : Type 0 where
   pub all : length heads ≡ length (tasks_of done)
@@ -103,17 +102,17 @@ pub record AreChains (done : DoneView) (nodes : List Node)
       → at creation (records_of done) c ≡ Some (task, child)
       → HasNode done nodes head c child
 
--- at each end stands the limit of what it covers
+-- each end has the limit of what it covers
 abbrev pub HaveEndLimits : DoneView → List Node → Type 0
 HaveEndLimits done nodes =
     (i : ℕ) (node : Node) → slice_get nodes i ≡ Some node → IsEndLimit done i node.limit
 
--- at each record, where it is the end of a region, stands the limit of what this covers
+-- there is a node for each record, and at the end of a region it has the limit of what this covers
 pub record AreEndLimits (done : DoneView) (nodes : List Node) : Type 0 where
   pub count : length nodes ≡ length (records_of done)
   pub known : HaveEndLimits done nodes
 
--- the limit is right for what begins or ends there: for the begin of a taskwait or of a barrier, and for the
+-- the limit is right for what begins or ends at i: for the begin of a taskwait or of a barrier, and for the
 -- end of a taskwait or of a taskgroup
 pub record IsMark (done : DoneView) (i limit : ℕ) : Type 0 where
   pub begins : (task : ℕ) → at region (records_of done) i ≡ Some (task, Taskwait, Begin)
@@ -125,12 +124,12 @@ pub record IsMark (done : DoneView) (i limit : ℕ) : Type 0 where
 abbrev pub AreLimitMarks : DoneView → List Node → Type 0
 AreLimitMarks done nodes = (i : ℕ) (node : Node) → slice_get nodes i ≡ Some node → IsMark done i node.limit
 
--- at each record
+-- there is a node for each record, and its limit is right
 pub record AreNodes (done : DoneView) (nodes : List Node) : Type 0 where
   pub count : length nodes ≡ length (records_of done)
   pub marks : AreLimitMarks done nodes
 
--- what is known behind the first n records
+-- what is known after the first n records
 pub record IsLimitProgress (done : DoneView) (n : ℕ) (nodes : List Node)
     (progress : Progress) : Type 0 where
   pub count : length nodes ≡ n

@@ -13,22 +13,21 @@ pub record IsMeeting (done : DoneView) (task number i : ℕ) (row : List ℕ) : 
   pub there : slice_get row number ≡ Some limit
   pub families : IsFamiliesLimit done i task limit
 
--- at the number of each team stands a row by the numbers of its barriers, for the begins among the first n
--- records
+-- by number of each team a row by the numbers of its barriers, for the begins among the first n records
 pub record AreMet (done : DoneView) (n : ℕ) (meetings : List (Vec ℕ)) : Type 0 where
   pub each : (index task team number i : ℕ) → slice_get (tasks_of done) index ≡ Some task
       → slice_get done.teams.teams index ≡ Some (Some team)
       → IsBarrierBegin (records_of done) task number i → i < n
       → IsMeeting done task number i (row_at meetings team)
 
--- each has at least what it had, and the one with this number at least the limit
+-- each limit is at least what it was, and the one with this number at least the limit
 pub record IsLimitRaised (number limit : ℕ) (before after : List ℕ) : Type 0 where
   pub kept : (k old : ℕ) → slice_get before k ≡ Some old
       → (new : ℕ) × (slice_get after k ≡ Some new) × (old ≤ new)
   pub raised : (new : ℕ) × (slice_get after number ≡ Some new) × (limit ≤ new)
 
--- at each end among the first n records stands the limit of what it covers, at each other end that of what
--- it covers as a taskwait or a taskgroup
+-- each end among the first n records has the limit of what it covers; each other end has that of what it
+-- covers as a taskwait or a taskgroup
 pub record AreMeetingsAdded (done : DoneView) (n : ℕ) (nodes : List Node) : Type 0 where
   pub count : length nodes ≡ length (records_of done)
   pub known : (i : ℕ) (node : Node) → i < n → slice_get nodes i ≡ Some node → IsEndLimit done i node.limit

@@ -5,17 +5,17 @@ use Rattle.ompt_events.specs.Places.{at}
 use Rattle.ompt_events.specs.Tree.{child_number}
 use Rattle.task_tree.specs.Subjects.{subject}
 
--- at the index of each task stands how many children it created by the first n records
+-- by index of each task how many children it creates in the first n records
 pub record AreCreationCounts (rs : List Record) (n : ℕ) (tasks counts : List ℕ) : Type 0 where
   pub all : length counts ≡ length tasks
   pub each : (index task count : ℕ) → slice_get tasks index ≡ Some task → slice_get counts index ≡ Some count
       → count ≡ child_number rs task n
 
--- so many children the task of the record had created before it
+-- the task of the record had created this many children before it
 abbrev pub IsNumberAt : List Record → ℕ → ℕ → Type 0
 IsNumberAt rs i number = (task : ℕ) → at subject rs i ≡ Some task → number ≡ child_number rs task i
 
--- that stands for each of the first n records
+-- this holds of each of the first n records
 pub record AreNumbers (rs : List Record) (n : ℕ) (numbers : List ℕ) : Type 0 where
   pub all : length numbers ≡ n
   pub each : (i number : ℕ) → slice_get numbers i ≡ Some number → IsNumberAt rs i number

@@ -15,7 +15,7 @@ pub record IsSearch (search : SearchView) : Type 0 where
   pub teams : IsTeams search.teams
   pub waits : waiting search.wait < length search.teams.run.family.tasks
 
--- of the parent of the task at the index it is known whether it is waited for
+-- the mark of the parent of the task at the index says whether the parent is waited for
 abbrev pub IsMarkedAbove : SearchView → List Bool → ℕ → Type 0
 IsMarkedAbove search marks index = (up parent : ℕ) → parent_index search.teams.run.family index ≡ Some up
     → slice_get search.teams.run.family.tasks up ≡ Some parent

@@ -1,5 +1,5 @@
--- What of a wait is unfinished, in terms of the trace alone: what a wait covers is read in the tasks' own
--- order, all else as the file has it.
+-- What is unfinished at a wait, by the trace alone: what a wait covers is read in the tasks' own order, all
+-- else in file order.
 use Rattle.std.specs.Prelude.{ℕ, ◌≡◌, ◌<◌, List, Some}
 use Rattle.ompt_events.specs.declared.records.Record.{Record}
 use Rattle.ompt_events.specs.Records.{created}
@@ -8,7 +8,7 @@ use Rattle.ompt_events.specs.Turns.{in_own_order, own_place}
 use Rattle.ompt_events.specs.Coverage.{Covers}
 use Rattle.ompt_events.specs.Completion.{IsCompleteAt}
 
--- a wait ends at the place in the file that covers the task, which is unfinished there
+-- a wait that covers the task ends at the place in the file, and the task is unfinished there
 pub record IsOpenShown (rs : List Record) (place task : ℕ) : Type 0 where
   pub covered : Covers (in_own_order rs) (own_place rs place) task
   pub incomplete : IsCompleteAt rs task place → ⊥

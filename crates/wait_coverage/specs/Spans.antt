@@ -15,14 +15,14 @@ use Rattle.credit_ledger.specs.declared.entry.Cover.{Cover}
 use Rattle.credit_ledger.specs.Entries.{IsSpanHeld}
 use Rattle.teams.specs.Teams.{IsMemberNumbered}
 
--- the children of the task with these numbers, by the place of the task below its root
+-- the children of the task with these numbers, given by the task's path below its root
 pub record IsSpan (rs : List Record) (task from to : ℕ) (span : Span) : Type 0 where
   pub stands : HasPath rs span.root task span.path
   pub from_there : span.from ≡ from
   pub to_there : span.to ≡ to
 
--- of the member with each number in the task's team: the children that it created before its barrier with
--- this number began
+-- for each member of the task's team, by its number there: the children that it created before its barrier
+-- with this number began
 pub record AreMemberSpans (rs : List Record) (task number : ℕ) (spans : List Span) : Type 0 where
   pub each : (index : ℕ) (span : Span) → slice_get spans index ≡ Some span → (member start : ℕ)
       × IsMemberNumbered rs task index member × IsBarrierBegin rs member number start
@@ -42,7 +42,7 @@ pub data AreSpans (rs : List Record) (i : ℕ) : Cover → List Span → Type 0 
       → IsRegion rs i task kind begin → is_barrier kind ≡ true → IsBarrierBegin rs task number begin
       → AreMemberSpans rs task number spans → AreSpans rs i Cover.Descendants spans
 
--- the first entries, so many as the record at i has seen, hold the start share of each child of the spans
+-- the first entries, as many as the record at i has seen, hold the start share of each child of the spans
 abbrev pub AreHeldAt : List Record → List Entry → ℕ → Cover → List Span → Type 0
 AreHeldAt rs entries i cover spans =
     (span : Span) → Contains spans span → IsSpanHeld (take (seen_at rs i) entries) span cover

@@ -1,5 +1,5 @@
--- What the end of a region waits for, by the records that create tasks, and what of it is unfinished. Records
--- are named by their numbers in the tasks' own order.
+-- What the end of a region waits for, by the records that create tasks, and what of it is unfinished.
+-- Records are named by their numbers in the tasks' own order.
 use Rattle.std.specs.Prelude.{ℕ, ◌≡◌, ◌<◌, ◌≤◌, ◌↔◌, Bool, false, true, IsTrue, List, length, Some, slice_get}
 use Rattle.std.specs.Prelude.{slice_index_or}
 use Rattle.ompt_events.specs.declared.records.Record.{Record}
@@ -35,7 +35,7 @@ pub data IsWaitAt (rs : List Record) (tasks : List ℕ) (i : ℕ) : Wait → Typ
       → IsRegion rs i own kind begin → is_barrier kind ≡ true → IsBarrierBegin rs own number begin
       → IsWaitAt rs tasks i (ForBarrier index number)
 
--- no region ends there that waits for tasks
+-- no region that waits for tasks ends at i
 abbrev pub EndsNoWaitAt : List Record → ℕ → Type 0
 EndsNoWaitAt rs i =
     (task begin : ℕ) (kind : SyncKind) → waits_for_tasks kind ≡ true → IsRegion rs i task kind begin → ⊥
@@ -45,10 +45,10 @@ pub data IsInWait (rs : List Record) (tasks : List ℕ) (parent made : ℕ) : Wa
   -- it is created before the taskwait begins
   before_begin : {index begin : ℕ} → slice_get tasks index ≡ Some parent → made < begin
       → IsInWait rs tasks parent made (ForTaskwait index begin)
-  -- in the taskgroup
+  -- it is created in the taskgroup
   in_group : {index begin end : ℕ} → slice_get tasks index ≡ Some parent → begin ≤ made → made < end
       → IsInWait rs tasks parent made (ForTaskgroup index begin end)
-  -- or by a member of the team before its barrier with this number begins
+  -- it is created by a member of the team before the member's barrier with this number begins
   by_member : {index number own start : ℕ} → slice_get tasks index ≡ Some own → IsTeammate rs own parent
       → IsBarrierBegin rs parent number start → made < start
       → IsInWait rs tasks parent made (ForBarrier index number)
@@ -81,13 +81,13 @@ IsAwaitedBy rs tasks task wait Descendants = (child : ℕ) × IsOwnChild rs task
 abbrev pub IsAwaited : List Record → List ℕ → Wait → ℕ → Type 0
 IsAwaited rs tasks wait task = IsAwaitedBy rs tasks task wait (cover_of wait)
 
--- at the index of each task stands whether it is waited for
+-- by index of each task whether it is waited for
 pub record AreAwaited (rs : List Record) (tasks : List ℕ) (wait : Wait) (marks : List Bool) : Type 0 where
   pub all : length marks ≡ length tasks
   pub each : (index task : ℕ) → slice_get tasks index ≡ Some task
       → IsTrue (slice_index_or marks index false) ↔ IsAwaited rs tasks wait task
 
--- the same of the tasks at the first n places of an order
+-- the same for the tasks at the first n places of an order
 pub record AreAwaitedMarked (rs : List Record) (tasks : List ℕ) (wait : Wait) (order : List ℕ) (n : ℕ)
     (marks : List Bool) : Type 0 where
   pub all : length marks ≡ length tasks
@@ -107,8 +107,8 @@ abbrev pub CreatesAtPlace : OwnView → ℕ → ℕ → Type 0
 CreatesAtPlace own place task = (number : ℕ) × (slice_get own.places number ≡ Some place)
     × (at created own.run.records number ≡ Some task)
 
--- of the tasks that the end with this number covers and that are unfinished there this one was created first
--- in the file
+-- of the tasks that the end with this number covers and that are unfinished there, this one was created
+-- first in the file
 pub record IsFirstOpen (own : OwnView) (end task : ℕ) : Type 0 where
   pub is_open : IsOpen own.run.records end task
   pub creation : ℕ
@@ -121,7 +121,7 @@ abbrev pub IsLateTask : DoneView → Wait → ℕ → ℕ → Type 0
 IsLateTask done wait seen task =
     IsAwaited (records_of done) (tasks_of done) wait task × (IsEarly done seen task → ⊥)
 
--- and is created at this place in the file
+-- such a task, which is created at this place in the file
 abbrev pub IsLateAt : DoneView → Wait → ℕ → ℕ → ℕ → Type 0
 IsLateAt done wait seen place task =
     CreatesAtPlace (own_of done.teams) place task × IsLateTask done wait seen task

@@ -29,7 +29,7 @@ use task_states::States;
 use task_tree::{Slot, Tree};
 use teams::Teams;
 
-/// Why a call on the coverage of waits has no answer.
+/// The fault of a call on the coverage of waits.
 pub type CoverFault = Fault;
 
 /// What each wait of a trace waits for.
@@ -37,7 +37,7 @@ pub type CoverFault = Fault;
 pub struct Coverage<'a> {
     tree: &'a Tree,
     teams: Teams<'a>,
-    /// For each record how many children its task had created before it.
+    /// By record, in the tasks' own order, how many children its task had created before it.
     numbers: Vec<u32>,
     ends: Vec<usize>,
     waits: Vec<Wait>,
@@ -66,9 +66,10 @@ impl<'a> Model for Coverage<'a> {
 }
 
 impl<'a> Coverage<'a> {
-    /// What each wait of the trace waits for. Refused is a team or a barrier that lacks a member (OpenMP
-    /// 5.2, 10.1 and 15.3), at its first record in the file. The tree and the states must be those of the
-    /// trace. What a record is of is read in the tasks' own order; ends and creations are told in file order.
+    /// Returns what each wait of the trace waits for. Fails with TeamShort if a team or a barrier lacks a
+    /// member (OpenMP 5.2, 10.1 and 15.3), at its first record in the file, or when out of memory. Requires
+    /// that the tree and the states are those of the trace. The task, region and team of a record are read
+    /// in the tasks' own order; ends and creations are returned in file order.
     pub fn build(
         alloc: Global,
         trace: &'a Trace,
@@ -92,7 +93,7 @@ impl<'a> Coverage<'a> {
         })
     }
 
-    /// The places in the file of the records that end a wait, in file order.
+    /// Returns the places in the file of the records that end a wait, in file order.
     pub fn ends(&self) -> &[usize]
         ensures value { result.now ≡ self.now.ends }
         ensures ends { AreWaitEnds (own_of self.now.teams) (length self.now.teams.run.records) result.now }
@@ -100,7 +101,8 @@ impl<'a> Coverage<'a> {
         self.ends.as_slice()
     }
 
-    /// Whether the end with this index among the ends waits for children alone or for all descendants.
+    /// Returns whether the end with this index among the ends waits for children alone or for all
+    /// descendants.
     pub fn cover(&self, index: usize) -> Cover
         requires { index < length self.now.ends }
         ensures { (end : ℕ) → IsEndNumber self.now index end
@@ -109,8 +111,8 @@ impl<'a> Coverage<'a> {
         self.wait(index).cover()
     }
 
-    /// The credit that the end with this index among the ends waits for: the spans of children whose start
-    /// shares must have come back. `Memory` is the only refusal.
+    /// Returns the credit that the end with this index among the ends waits for: the spans of children
+    /// whose start shares must have come back. Fails only when out of memory.
     pub fn spans(&self, index: usize) -> Result<Vec<Span>, CoverFault>
         requires { index < length self.now.ends }
         ensures fault { IfErr result (λ fault. fault ≡ Memory) }
@@ -122,11 +124,11 @@ impl<'a> Coverage<'a> {
         Ok(self.spans_of(self.wait(index))?)
     }
 
-    /// Of the tasks that the end with this index among the ends covers the one created first in the file that
-    /// is not finished by the entries of the ledger below the length that the end names: none where these
-    /// hold the credit that it waits for (F. Mattern, 1989). That is promised where the ledger is that of the
-    /// trace and its records have right entries, as those without the causes 1 to 13 have. `Memory` is the
-    /// only refusal.
+    /// Returns, of the tasks that the end with this index among the ends covers and that the entries of the
+    /// ledger below the length that the end names don't finish, the one created first in the file. Returns
+    /// none if these entries hold the credit that the end waits for (F. Mattern, 1989). The contract
+    /// guarantees this if the ledger is that of the trace and its records have right entries, as those
+    /// without the causes 1 to 13 have. Fails only when out of memory.
     pub fn first_open(&self, index: usize, ledger: &Ledger) -> Result<Option<u64>, CoverFault>
         requires { index < length self.now.ends }
         ensures fault { IfErr result (λ fault. fault ≡ Memory) }
@@ -144,8 +146,8 @@ impl<'a> Coverage<'a> {
         Ok(open_at(alloc, &known, self.end(index))?)
     }
 
-    /// The same for several ends. It goes over the ledger's entries once, for all of them, and takes a few
-    /// steps for each end in time; one that is open costs a few steps for each record.
+    /// Returns the same for several ends. Goes over the ledger's entries once for all of them. Takes a few
+    /// steps for each end in time, and a few for each record for an end with an unfinished task.
     pub fn first_open_all(
         &self,
         of: &[usize],
@@ -167,7 +169,7 @@ impl<'a> Coverage<'a> {
         Ok(found)
     }
 
-    /// The number in the tasks' own order of the end with this index among the ends.
+    /// Returns the number in the tasks' own order of the end with this index among the ends.
     fn end(&self, index: usize) -> usize
         requires { index < length self.now.ends }
         ensures value { IsEndNumber self.now index result }
@@ -176,7 +178,7 @@ impl<'a> Coverage<'a> {
         self.teams.own().number(self.ends[index])
     }
 
-    /// What it waits for.
+    /// Returns what the end with this index waits for.
     fn wait(&self, index: usize) -> &Wait
         requires { index < length self.now.ends }
         ensures { (end : ℕ) → IsEndNumber self.now index end → IsWaitAt
@@ -185,7 +187,7 @@ impl<'a> Coverage<'a> {
         &self.waits[index]
     }
 
-    /// The teams of the run.
+    /// Returns the teams of the run.
     fn teams(&self) -> &Teams<'a>
         ensures value { result.now ≡ self.now.teams }
         ensures is_coverage { IsCoverage self.now }
@@ -193,8 +195,8 @@ impl<'a> Coverage<'a> {
         &self.teams
     }
 
-    /// Whether the entries of the ledger below the length that the end with this index names hold the credit
-    /// that it waits for.
+    /// Returns true only if the entries of the ledger below the length that the end with this index names
+    /// hold the credit that it waits for.
     fn is_end_held(&self, index: usize, ledger: &Ledger) -> Result<bool, CoverFault>
         requires { index < length self.now.ends }
         ensures fault { IfErr result (λ fault. fault ≡ Memory) }
@@ -209,7 +211,7 @@ impl<'a> Coverage<'a> {
         are_held(ledger, seen, spans.as_slice(), wait.cover())
     }
 
-    /// The credit that is waited for: one span, or for a barrier one of each member of the team.
+    /// Returns the credit that is waited for: one span, or for a barrier one for each member of the team.
     fn spans_of(&self, wait: &Wait) -> Result<Vec<Span>, AllocError>
         requires { (end : ℕ)
             × IsWaitAt self.now.teams.run.records self.now.teams.run.family.tasks end wait.now }
@@ -227,7 +229,7 @@ impl<'a> Coverage<'a> {
         }
     }
 
-    /// The span of the children of the task at the index with these numbers, alone.
+    /// Returns one span: that of the children of the task at the index with these numbers.
     fn only_span(&self, task: usize, from: u32, to: u32) -> Result<Vec<Span>, AllocError>
         requires { task < length self.now.teams.run.family.tasks }
         ensures { IfOk result (λ spans. (id : ℕ) → slice_get self.now.teams.run.family.tasks task ≡ Some id
@@ -238,7 +240,7 @@ impl<'a> Coverage<'a> {
         Ok(spans)
     }
 
-    /// The span of the children of the task at the index with these numbers.
+    /// Returns the span of the children of the task at the index with these numbers.
     fn span(&self, task: usize, from: u32, to: u32) -> Result<Span, AllocError>
         requires { task < length self.now.teams.run.family.tasks }
         ensures { IfOk result (λ span. (id : ℕ) → slice_get self.now.teams.run.family.tasks task ≡ Some id
@@ -254,8 +256,8 @@ impl<'a> Coverage<'a> {
         })
     }
 
-    /// For each member of the team of the task at the index, by its number in the team, the span of the
-    /// children that it created before its barrier with this number began.
+    /// Returns, for each member of the team of the task at the index, by its number in the team, the span
+    /// of the children that it created before its barrier with this number began.
     fn member_spans(&self, task: usize, number: usize) -> Result<Vec<Span>, AllocError>
         requires { (end : ℕ)
             × IsWaitAt self.now.teams.run.records self.now.teams.run.family.tasks end (Barrier task number) }
@@ -268,7 +270,7 @@ impl<'a> Coverage<'a> {
         }
     }
 
-    /// The same for the tasks at the indices of a roster.
+    /// Returns the same for the tasks at the indices of a roster.
     fn roster_spans(&self, roster: &[Slot], number: usize) -> Result<Vec<Span>, AllocError>
         requires { HaveBegun self.now.teams.begins number roster.now }
         ensures { IfOk result (λ spans. AreRosterSpans self.now.teams.run.records
@@ -282,8 +284,8 @@ impl<'a> Coverage<'a> {
         Ok(spans)
     }
 
-    /// The span of the children that the task at the index created before its barrier with this number
-    /// began.
+    /// Returns the span of the children that the task at the index created before its barrier with this
+    /// number began.
     fn member_span(&self, member: usize, number: usize) -> Result<Span, AllocError>
         requires { HasBegun self.now.teams.begins number member }
         ensures { IfOk result (λ span. (id : ℕ) → slice_get self.now.teams.run.family.tasks member ≡ Some id
@@ -294,7 +296,7 @@ impl<'a> Coverage<'a> {
     }
 }
 
-/// The root and the path of a task.
+/// Returns the root and the path of a task.
 fn stands_at(alloc: Global, tree: &Tree, task: u64) -> Result<(u64, Path), AllocError>
     ensures { IfOk result (λ place. (records : List Record) (root : ℕ) (path : List ℕ)
         → IsTreeOf records tree.now → HasPath (in_own_order records) root task path
@@ -308,8 +310,8 @@ fn stands_at(alloc: Global, tree: &Tree, task: u64) -> Result<(u64, Path), Alloc
     Ok((root, Path::from_vec(numbers)))
 }
 
-/// Whether the first entries of the ledger, so many as were seen, hold all the spans. No credit comes back
-/// from deeper than 1,024 steps below a root.
+/// Returns whether the first entries of the ledger, as many as were seen, hold all the spans. No credit
+/// comes back from deeper than 1,024 steps below a root.
 fn are_held(ledger: &Ledger, seen: u32, spans: &[Span], cover: Cover) -> Result<bool, CoverFault>
     ensures fault { IfErr result (λ fault. fault ≡ Memory) }
     ensures held { IfOk result (λ held. IsTrue held → AreAllHeld ledger.now seen cover spans.now) }
@@ -324,8 +326,8 @@ fn are_held(ledger: &Ledger, seen: u32, spans: &[Span], cover: Cover) -> Result<
     Ok(true)
 }
 
-/// Whether the first entries of the ledger, so many as were seen, hold the span. No credit comes back from
-/// deeper than 1,024 steps below a root.
+/// Returns whether the first entries of the ledger, as many as were seen, hold the span. No credit comes
+/// back from deeper than 1,024 steps below a root.
 fn is_held(ledger: &Ledger, seen: u32, span: &Span, cover: Cover) -> Result<bool, CoverFault>
     ensures fault { IfErr result (λ fault. fault ≡ Memory) }
     ensures held { IfOk result (λ held. IsTrue held → IsSpanHeld (take seen ledger.now) span.now cover) }
@@ -341,7 +343,7 @@ fn is_held(ledger: &Ledger, seen: u32, span: &Span, cover: Cover) -> Result<bool
     }
 }
 
-/// The places in the file of the records that end a wait, and what each waits for.
+/// Returns the places in the file of the records that end a wait, and what each waits for.
 fn find_ends(alloc: Global, teams: &Teams) -> Result<(Vec<usize>, Vec<Wait>), AllocError>
     ensures ends { IfOk result (λ found.
         AreWaitEnds (own_of teams.now) (length teams.now.run.records) found.0.items) }

@@ -21,9 +21,9 @@ use teams::{BarrierEnd, Teams};
 #[derive(Debug, Drop)]
 pub(crate) struct Done<'a> {
     teams: &'a Teams<'a>,
-    /// From this one on the task is finished.
+    /// From this length on the task is finished.
     own: Vec<u64>,
-    /// From this one on the task and all its descendants are.
+    /// From this length on the task and all its descendants are finished.
     families: Vec<u64>,
 }
 
@@ -46,7 +46,7 @@ impl<'a> Model for Done<'a> {
 }
 
 impl<'a> Done<'a> {
-    /// From which ledger lengths on the tasks are finished, by what the records say.
+    /// Returns the ledger lengths from which on the tasks are finished, by the records.
     pub(crate) fn of_run(alloc: Global, teams: &'a Teams<'a>) -> Result<Done<'a>, AllocError>
         ensures teams { IfOk result (λ done. done.teams ≡ teams.now) }
         ensures done { IfOk result AreDone }
@@ -55,7 +55,8 @@ impl<'a> Done<'a> {
         Done::by_lengths(alloc, teams, lengths.as_slice())
     }
 
-    /// From which lengths of the ledger on the tasks are finished, by its entries.
+    /// Returns the ledger lengths from which on the tasks are finished, by the entries of the ledger. The
+    /// contract guarantees this only if the ledger is that of the trace.
     pub(crate) fn of_ledger(
         alloc: Global,
         teams: &'a Teams<'a>,
@@ -68,7 +69,7 @@ impl<'a> Done<'a> {
         Done::by_lengths(alloc, teams, lengths.as_slice())
     }
 
-    /// From which lengths on the tasks are finished, where it is known of their parts.
+    /// Returns the lengths of the tasks, from those of their parts.
     fn by_lengths(
         alloc: Global,
         teams: &'a Teams<'a>,
@@ -89,7 +90,7 @@ impl<'a> Done<'a> {
         })
     }
 
-    /// By index of the task the ledger length from which on it is finished.
+    /// Returns by index of the task the ledger length from which on it is finished.
     pub(crate) fn own(&self) -> &[u64]
         ensures value { result.now ≡ self.now.own }
         ensures is_done { IsDoneView self.now }
@@ -97,7 +98,8 @@ impl<'a> Done<'a> {
         self.own.as_slice()
     }
 
-    /// By index of the task the ledger length from which on it and all its descendants are finished.
+    /// Returns by index of the task the ledger length from which on it and all its descendants are
+    /// finished.
     pub(crate) fn families(&self) -> &[u64]
         ensures value { result.now ≡ self.now.families }
         ensures is_done { IsDoneView self.now }
@@ -108,7 +110,7 @@ impl<'a> Done<'a> {
 
 // What is known of the run.
 impl<'a> Done<'a> {
-    /// The teams.
+    /// Returns the teams.
     pub(crate) fn teams(&self) -> &'a Teams<'a>
         ensures value { result.now ≡ self.now.teams }
         ensures is_done { IsDoneView self.now }
@@ -116,7 +118,7 @@ impl<'a> Done<'a> {
         self.teams
     }
 
-    /// The run.
+    /// Returns the run.
     pub(crate) fn run(&self) -> &'a Run<'a>
         ensures value { result.now ≡ self.now.teams.run }
         ensures is_done { IsDoneView self.now }
@@ -124,7 +126,7 @@ impl<'a> Done<'a> {
         self.teams.run()
     }
 
-    /// The number of the record at which the region began that this one ends.
+    /// Returns the number of the record at which the region began that this one ends.
     pub(crate) fn begin_of(&self, at: usize) -> Option<usize>
         requires { at < length self.now.teams.run.records }
         ensures { MatchOption result ((task begin : ℕ) (kind : SyncKind)
@@ -134,7 +136,7 @@ impl<'a> Done<'a> {
         self.teams.begin_of(at)
     }
 
-    /// The barrier that the record ends, if it ends one.
+    /// Returns the barrier that the record ends, if it ends one.
     pub(crate) fn barrier_end(&self, at: usize) -> Option<BarrierEnd>
         requires { at < length self.now.teams.run.records }
         ensures { MatchOption result (EndsNoBarrier self.now.teams.run.records at)
@@ -143,7 +145,7 @@ impl<'a> Done<'a> {
         self.teams.barrier_end(at)
     }
 
-    /// The number of the team of the task at this index.
+    /// Returns the number of the team of the task at this index.
     pub(crate) fn team(&self, index: usize) -> Option<usize>
         requires { index < length self.now.teams.teams }
         ensures { slice_get self.now.teams.teams index ≡ Some result }
@@ -151,7 +153,7 @@ impl<'a> Done<'a> {
         self.teams.team(index)
     }
 
-    /// How many barriers the task that begins one at this record began before.
+    /// Returns how many barriers the task that begins one at this record began before.
     pub(crate) fn number(&self, at: usize) -> u32
         requires { at < length self.now.teams.numbers }
         ensures { slice_get self.now.teams.numbers at ≡ Some result }
@@ -160,7 +162,7 @@ impl<'a> Done<'a> {
     }
 }
 
-/// By index of the task the ledger length from which on it is finished.
+/// Returns by index of the task the ledger length from which on it is finished.
 fn find_own(alloc: Global, lengths: &[Lengths]) -> Result<Vec<u64>, AllocError>
     ensures { IfOk result (λ own. own.items ≡ map done_length lengths.now) }
 {
@@ -171,8 +173,8 @@ fn find_own(alloc: Global, lengths: &[Lengths]) -> Result<Vec<u64>, AllocError>
     Ok(own)
 }
 
-/// By index of the task the greatest of its length and those of its descendants: each task hands its own up
-/// when its children have handed up theirs.
+/// Returns by index of the task the greatest of its length and those of its descendants: each task passes
+/// its own up after its children have passed up theirs.
 fn find_families(
     alloc: Global,
     run: &Run,
@@ -191,7 +193,7 @@ fn find_families(
     Ok(families)
 }
 
-/// The same lengths.
+/// Returns the same lengths.
 fn copy_of(alloc: Global, lengths: &[u64]) -> Result<Vec<u64>, AllocError>
     ensures { IfOk result (λ copy. copy.items ≡ lengths.now) }
 {
@@ -200,7 +202,7 @@ fn copy_of(alloc: Global, lengths: &[u64]) -> Result<Vec<u64>, AllocError>
     Ok(copy)
 }
 
-/// Hands the length of a task up to its parent.
+/// Passes the length of a task up to its parent.
 fn raise(family: &Family, limits: &mut Vec<u64>, index: usize)
     requires within { index < length limits.old.items }
     requires parent { (up : ℕ) → parent_index family.now index ≡ Some up → up < length limits.old.items }

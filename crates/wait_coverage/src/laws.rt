@@ -1,5 +1,5 @@
-//! What held credit tells of tasks, and what an answer in the tasks' own order tells of the file: laws over
-//! the definitions alone, proved for every trace. The functions do nothing.
+//! What held credit says of tasks, and what a result in the tasks' own order says of the file. These are
+//! laws about the definitions alone, proved for every trace. The functions do nothing.
 ghost use Rattle.std.specs.Prelude.{◌≡◌, ◌↔◌, ℕ, List, Option, Some, MatchOption, slice_get};
 ghost use Rattle.ompt_events.specs.declared.records.Record.{Record};
 ghost use Rattle.ompt_events.specs.declared.cause.Cause.TheVariants.{TeamShort};
@@ -15,11 +15,11 @@ ghost use Rattle.wait_coverage.specs.Spans.{AreSpans, AreHeldAt, IsCoverComplete
 ghost use Rattle.wait_coverage.specs.Waits.{IsFirstOpen};
 ghost use Rattle.wait_coverage.specs.Shown.{IsCompleteShown, IsFirstOpenShown};
 
-/// The entries below the ledger length that an end names finish each task that it covers exactly where they
-/// hold the start share of each child of its spans: in its parent's pool for a taskwait, in the tree for the
-/// others (F. Mattern, 1989: work is over exactly where all of its credit has come back). The trace must have
-/// right entries, and each team and barrier all its members; a trace without the causes 1 to 13 is such a one
-/// (`trace_ledger::laws::entries_are_right`).
+/// The entries below the ledger length that an end names finish each task that it covers if and only if
+/// they hold the start share of each child of its spans: in its parent's pool for a taskwait, in the tree
+/// for the others (F. Mattern, 1989: work is over exactly where all of its credit has come back). Requires
+/// that the trace has right entries, and that each team and barrier has all its members. A trace without
+/// the causes 1 to 13 is such a one (`trace_ledger::laws::entries_are_right`).
 pub fn held_is_complete()
     ensures { (rs : List Record) (entries : List Entry) (i : ℕ) (cover : Cover) (spans : List Span)
         → IsTrace rs → HasRightEntries rs → IsFreeOf rs TeamShort → IsLedgerOf rs entries
@@ -27,8 +27,9 @@ pub fn held_is_complete()
         → IsCoverComplete rs i ↔ AreHeldAt rs entries i cover spans }
 {}
 
-/// What the records in the tasks' own order tell of an open wait is what the trace shows. `find_open` answers by
-/// the run in that order (`IsFirstOpen`); the same answer is right by the trace alone (`IsFirstOpenShown`).
+/// The unfinished task at a wait by the records in the tasks' own order is also the one that the trace
+/// shows. `find_open` searches the run in that order (`IsFirstOpen`); its result is also right by the trace
+/// alone (`IsFirstOpenShown`).
 pub fn open_is_shown()
     ensures { (rs : List Record) (own : OwnView) (number place : ℕ) (found : Option ℕ) → IsOwnOf rs own
         → IsOwn own → slice_get own.places number ≡ Some place

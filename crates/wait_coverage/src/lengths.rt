@@ -22,7 +22,7 @@ pub(crate) struct Lengths {
 }
 
 impl Lengths {
-    /// No part is finished.
+    /// Returns the lengths of a task of which no part is finished.
     fn none() -> Lengths
         ensures { result ≡ no_lengths }
     {
@@ -33,7 +33,7 @@ impl Lengths {
         }
     }
 
-    /// The lengths where the part is finished from this one on too.
+    /// Returns these lengths, with the part finished from this length on if not earlier.
     fn with(self, part: Part, length: u64) -> Lengths
         ensures { result ≡ with_length self part length }
     {
@@ -57,7 +57,7 @@ impl Lengths {
         }
     }
 
-    /// The length from which on the task is finished: whole, or its body and its event.
+    /// Returns the length from which on the task is finished: whole, or both its body and its event.
     pub(crate) fn done(self) -> u64
         ensures { result ≡ done_length self }
     {
@@ -65,7 +65,7 @@ impl Lengths {
     }
 }
 
-/// By index of the task from which ledger lengths on its parts are finished, by the records.
+/// Returns by index of the task the ledger lengths from which on its parts are finished, by the records.
 pub(crate) fn find_lengths(alloc: Global, run: &Run) -> Result<Vec<Lengths>, AllocError>
     ensures { IfOk result (λ table. AreLengths run.now.records
         (length run.now.records) run.now.family.tasks table.items) }
@@ -77,8 +77,8 @@ pub(crate) fn find_lengths(alloc: Global, run: &Run) -> Result<Vec<Lengths>, All
     Ok(table)
 }
 
-/// By index of the task from which ledger lengths on its parts are finished, by the entries of the ledger. It
-/// looks up each entry's task, in logarithmic time.
+/// Returns by index of the task the ledger lengths from which on its parts are finished, by the entries of
+/// the ledger. Looks up the task of each entry, in logarithmic time.
 pub(crate) fn find_entered(
     alloc: Global,
     run: &Run,
@@ -97,7 +97,7 @@ pub(crate) fn find_entered(
     Ok(table)
 }
 
-/// No part of any task is finished.
+/// Returns a table in which no part of any task is finished.
 fn new_lengths(alloc: Global, tasks: usize) -> Result<Vec<Lengths>, AllocError>
     ensures { IfOk result (λ table. table.items ≡ replicate tasks no_lengths) }
 {

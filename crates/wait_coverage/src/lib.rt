@@ -1,12 +1,13 @@
 //! From which ledger length on each task is finished, and its credit is held; which tasks the end of a
 //! region waits for, and whether they are finished there.
 //!
-//! `Known` has the lengths, of the records (`find_known`) or of a ledger's entries. `find_open` tells of an
-//! end which task is unfinished there, `is_open` whether one is, `Coverage` answers for single ends with their
-//! credit, and `laws` says why held credit means finished tasks. Read `unfinished` first, then what it stands
-//! on: `order` (tasks behind their parents), `done` (after `lengths`: a length for each task, and one for it
-//! and its descendants), `limits` and `meetings` (a length for what each end covers; after `limit`, a length
-//! in 32 bits), `waits` (the search where it is not reached); then `coverage`, after `numbers`.
+//! `Known` has the lengths, from the records (`find_known`) or from a ledger's entries. `find_open` returns
+//! the first created task that is unfinished at an end, `is_open` whether a given one is. `Coverage` works
+//! on single ends with their credit, and `laws` says why held credit means finished tasks. Read
+//! `unfinished` first, then what it uses: `order` (tasks after their parents), `done` (after `lengths`: a
+//! length for each task, and one for it and its descendants), `limits` and `meetings` (a length for what
+//! each end covers; after `limit`, a length in 32 bits), `waits` (the search where that length is not
+//! reached); then `coverage`, after `numbers`.
 #![tactic(auto)]
 
 mod coverage;

@@ -3,8 +3,8 @@ ghost use Rattle.std.specs.Prelude.{ℕ, ◌≡◌, ◌<◌, ◌≤◌, ◌^◌,
 
 use std::marker::Model;
 
-/// A ledger length from which on something is finished, in 32 bits: that length, or a greater one. No record
-/// can name a length of 2^32, so that stands for all greater ones, and for never.
+/// A ledger length from which on something is finished, in 32 bits: that length, or a greater one. No
+/// record can name a length of 2^32, so 2^32 means all greater ones too, and never.
 #[derive(Clone, Copy, Debug, PartialEq, Eq)]
 pub(crate) struct Limit {
     code: u32,
@@ -29,14 +29,14 @@ impl Model for Limit {
 const NEVER: u32 = u32::MAX;
 
 impl Limit {
-    /// From the start on.
+    /// Returns the length 0: finished from the start.
     pub(crate) fn zero() -> Limit
         ensures { result ≡ 0 }
     {
         Limit { code: 0 }
     }
 
-    /// This length, or one that no record can name where it is one too.
+    /// Returns this length if it is less than 2^32 - 1, else 2^32.
     pub(crate) fn of(length: u64) -> Limit
         ensures { (m : ℕ) → m < 2 ^ 32 → result ≤ m → length ≤ m }
     {
@@ -49,7 +49,7 @@ impl Limit {
         }
     }
 
-    /// The greater of the two.
+    /// Returns the greater of the two.
     pub(crate) fn max(self, other: Limit) -> Limit
         ensures { result ≡ max self other }
     {
@@ -58,7 +58,7 @@ impl Limit {
         }
     }
 
-    /// Whether it is reached where a record names this length.
+    /// Returns true only if a record that names this length reaches the limit.
     pub(crate) fn is_reached(self, length: u32) -> bool
         ensures { IsTrue result → self ≤ length }
     {

@@ -17,28 +17,28 @@ use task_tree::{Creation, Slot, WaitEvent};
 /// What is noted at one record.
 #[derive(Clone, Copy, Debug, PartialEq, Eq)]
 pub(crate) struct Node {
-    /// The ledger length from which on tasks are finished: of a creation, the child and its descendants; of
-    /// the begin of a taskwait, the children so far; of the begin of a barrier, these and their descendants;
-    /// of the end of a region, what it covers.
+    /// The ledger length from which on tasks are finished. For a creation: the child and its descendants.
+    /// For the begin of a taskwait: the children so far. For the begin of a barrier: these and their
+    /// descendants. For the end of a region: what it covers.
     pub(crate) limit: Limit,
-    /// For a creation and the end of a taskgroup the one before of the same task, of those that are not in a
-    /// taskgroup that ended since.
+    /// For a creation and the end of a taskgroup: the one before it of the same task, of those that are not
+    /// in a taskgroup that ended since.
     previous: Slot,
 }
 
-/// What is known of each task, by its index, while the records are gone over.
+/// What is known of each task, by its index, during the pass over the records.
 #[derive(Drop)]
 struct Progress {
-    /// The last node of the task that an end of a taskgroup may have to look at.
+    /// The last node of the task that the end of a taskgroup may have to visit.
     heads: Vec<Slot>,
     /// The ledger length from which on the children so far are finished.
     latest: Vec<Limit>,
-    /// The same of the children so far and their descendants.
+    /// The same for the children so far and their descendants.
     families: Vec<Limit>,
 }
 
 impl Node {
-    /// A node that no end of a taskgroup has to look at.
+    /// Returns a node that the end of a taskgroup never has to visit.
     fn alone(limit: Limit) -> Node
         ensures limit { result.limit ≡ limit }
         ensures alone { result.previous ≡ None }
@@ -50,15 +50,15 @@ impl Node {
     }
 }
 
-/// What is noted at each record, but for the ends of barriers; and by number of the team and number of the
-/// barrier from which ledger length on the children are finished that each member created before its barrier
-/// began, with their descendants.
+/// What is noted at each record, except the ends of barriers; and, by number of the team and number of the
+/// barrier, the ledger length from which on the children that each member created before its barrier began
+/// are finished, with their descendants.
 pub(crate) struct Noted {
     pub(crate) nodes: Vec<Node>,
     pub(crate) meetings: Vec<Vec<Limit>>,
 }
 
-/// What is noted at the records.
+/// Returns what is noted at the records.
 pub(crate) fn find_limits(alloc: Global, done: &Done) -> Result<Noted, AllocError>
     ensures nodes { IfOk result (λ noted. AreNodes done.now noted.nodes.items) }
     ensures met { IfOk result (λ noted.
@@ -76,7 +76,7 @@ pub(crate) fn find_limits(alloc: Global, done: &Done) -> Result<Noted, AllocErro
     Ok(Noted { nodes, meetings })
 }
 
-/// No record is gone over.
+/// Returns what is known before the first record.
 fn no_progress(alloc: Global, tasks: usize) -> Result<Progress, AllocError>
     ensures heads { IfOk result (λ progress. progress.heads.items ≡ replicate tasks None) }
     ensures latest { IfOk result (λ progress. progress.latest.items ≡ replicate tasks 0) }
@@ -89,7 +89,7 @@ fn no_progress(alloc: Global, tasks: usize) -> Result<Progress, AllocError>
     })
 }
 
-/// The node of a record.
+/// Returns the node of a record, and notes what it changes.
 fn node_at(done: &Done, nodes: &[Node], progress: &mut Progress, at: usize) -> Node
     requires within { at < length done.now.teams.run.records }
     requires noted { IsLimitProgress done.now at nodes.now progress.old }
@@ -108,14 +108,14 @@ fn node_at(done: &Done, nodes: &[Node], progress: &mut Progress, at: usize) -> N
     Node::alone(limit_at(done, nodes, progress, event, at))
 }
 
-/// Whether it is the end of a taskgroup that began at an earlier record.
+/// Returns whether the event is the end of a taskgroup.
 fn ends_taskgroup(event: WaitEvent) -> bool
     ensures { IsTrue result ↔ ((event.kind ≡ WaitKind.Taskgroup) × (event.endpoint ≡ Endpoint.End)) }
 {
     event.kind == WaitKind::Taskgroup && event.endpoint == Endpoint::End
 }
 
-/// The limit of the begin or end of a region, but for the end of a taskgroup.
+/// Returns the limit of the begin or end of a region, except the end of a taskgroup.
 fn limit_at(done: &Done, nodes: &[Node], progress: &Progress, event: WaitEvent, at: usize) -> Limit
     requires within { at < length done.now.teams.run.records }
     requires event { IsWaitEvent done.now.teams.run at event.task event.kind event.endpoint }
@@ -136,7 +136,7 @@ fn limit_at(done: &Done, nodes: &[Node], progress: &Progress, event: WaitEvent, 
     }
 }
 
-/// The node of a creation, which is the child's.
+/// Returns the node of a creation, which has the child's limit.
 fn create(done: &Done, nodes: &[Node], progress: &mut Progress, made: Creation, at: usize) -> Node
     requires made { IsCreation done.now.teams.run at made.parent made.child }
     requires noted { IsLimitProgress done.now at nodes.now progress.old }
@@ -151,7 +151,7 @@ fn create(done: &Done, nodes: &[Node], progress: &mut Progress, made: Creation, 
     Node { limit, previous }
 }
 
-/// The node of the end of a taskgroup, which stands for all that were created in it.
+/// Returns the node of the end of a taskgroup, which replaces all nodes created in it.
 fn close(done: &Done, nodes: &[Node], progress: &mut Progress, event: WaitEvent, at: usize) -> Node
     requires within { at < length done.now.teams.run.records }
     requires event { IsWaitEvent done.now.teams.run at event.task WaitKind.Taskgroup Endpoint.End }
@@ -167,7 +167,7 @@ fn close(done: &Done, nodes: &[Node], progress: &mut Progress, event: WaitEvent,
     node
 }
 
-/// One node for those of a chain that are later than the begin.
+/// Returns one node that replaces those of a chain that are later than the begin.
 fn gather(nodes: &[Node], head: Slot, begin: usize) -> Node
     requires falling { AreFalling nodes.now }
     requires known { (number : ℕ) → head ≡ Some number → number < length nodes.now }
@@ -185,7 +185,7 @@ fn gather(nodes: &[Node], head: Slot, begin: usize) -> Node
     }
 }
 
-/// The number in the slot, if it is later than the begin.
+/// Returns the number in the slot, if it is later than the begin.
 fn later(slot: Slot, begin: usize) -> Option<usize>
     ensures { (number : ℕ) → (result ≡ Some number) ↔ ((slot ≡ Some number) × (begin < number)) }
 {
@@ -195,7 +195,7 @@ fn later(slot: Slot, begin: usize) -> Option<usize>
     }
 }
 
-/// The limit at the begin of the taskwait that the record ends.
+/// Returns the limit at the begin of the taskwait that the record ends.
 fn limit_of_begin(done: &Done, nodes: &[Node], at: usize) -> Limit
     requires within { at < length done.now.teams.run.records }
     requires count { length nodes.now ≡ at }

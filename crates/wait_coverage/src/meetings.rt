@@ -1,5 +1,5 @@
-//! From which ledger length on what the end of a barrier covers is finished: what the begins of all members
-//! of a team say together.
+//! From which ledger length on what the end of a barrier covers is finished, by the begins of all members
+//! of the team.
 ghost use Rattle.std.specs.Prelude.{ℕ, ◌≡◌, ◌<◌, ◌+◌, IfOk, Some, length};
 ghost use Rattle.ompt_events.specs.Records.{region};
 ghost use Rattle.ompt_events.specs.Places.{at as says_at};
@@ -15,8 +15,8 @@ use std::alloc::{AllocError, Global};
 use task_states::reach;
 use teams::{BarrierEnd, barrier_begun};
 
-/// Makes the nodes of the ends of barriers right; those of all other records stay as they are. It takes a
-/// few steps for each record.
+/// Writes the limits of the nodes of the ends of barriers. All other nodes stay as they are. Takes a few
+/// steps for each record.
 pub(crate) fn add_meetings(done: &Done, meetings: &[Vec<Limit>], nodes: &mut Vec<Node>)
     requires met { AreMet done.now (length done.now.teams.run.records) meetings.now }
     requires nodes { AreNodes done.now nodes.old.items }
@@ -27,9 +27,9 @@ pub(crate) fn add_meetings(done: &Done, meetings: &[Vec<Limit>], nodes: &mut Vec
     }
 }
 
-/// The meeting with the member that begins a barrier at the record, if one does. The limit is that of what it
-/// created before. Rows are made only up to the team of a member that begins one: its number may be as great
-/// as there are tasks, and most teams may begin no barrier.
+/// Notes the limit of the member that begins a barrier at the record, if one does. The limit is that of
+/// what the member created before. Rows are made only up to the team of a member that begins a barrier: a
+/// team's number may be as great as there are tasks, and most teams may begin no barrier.
 pub(crate) fn meet(
     alloc: Global,
     done: &Done,
@@ -53,7 +53,7 @@ pub(crate) fn meet(
     raise(&mut meetings[team], done.number(at) as usize, limit)
 }
 
-/// The limit of the barrier with this number is at least the given one.
+/// Raises the limit of the barrier with this number to the given one, if that is greater.
 fn raise(limits: &mut Vec<Limit>, number: usize, limit: Limit) -> Result<(), AllocError>
     ensures { IfOk result (λ done. IsLimitRaised number limit limits.old.items limits.new.items) }
 {
@@ -76,7 +76,7 @@ fn add_meeting(done: &Done, meetings: &[Vec<Limit>], nodes: &mut Vec<Node>, at: 
     }
 }
 
-/// The limit of the barrier that the record ends; 0 where its task is in no team.
+/// Returns the limit of the barrier that the record ends, or 0 if its task is in no team.
 fn end_limit(done: &Done, meetings: &[Vec<Limit>], end: BarrierEnd, at: usize) -> Limit
     requires ends { IsBarrierEnd done.now.teams.run at end.task end.begin }
     requires met { AreMet done.now (length done.now.teams.run.records) meetings.now }

@@ -5,7 +5,7 @@ ghost use Rattle.wait_coverage.specs.Numbers.{AreCreationCounts, AreNumbers, IsN
 use std::alloc::{AllocError, Global};
 use task_tree::Run;
 
-/// For each record how many children its task had created before it.
+/// Returns by record how many children its task had created before it.
 pub(crate) fn find_numbers(alloc: Global, run: &Run) -> Result<Vec<u32>, AllocError>
     ensures { IfOk result (λ numbers. AreNumbers run.now.records (length run.now.records) numbers.items) }
 {
@@ -18,14 +18,14 @@ pub(crate) fn find_numbers(alloc: Global, run: &Run) -> Result<Vec<u32>, AllocEr
     Ok(numbers)
 }
 
-/// No task has created a child.
+/// Returns counts with which no task has created a child.
 fn no_counts(alloc: Global, tasks: usize) -> Result<Vec<u32>, AllocError>
     ensures { IfOk result (λ counts. counts.items ≡ replicate tasks 0) }
 {
     vec![in alloc; 0; tasks]
 }
 
-/// How many children the task of a record has created so far; 0 where it is of none.
+/// Returns how many children the task of a record has created so far, or 0 if it is of no task.
 fn number_at(run: &Run, counts: &[u32], at: usize) -> u32
     requires { AreCreationCounts run.now.records at run.now.family.tasks counts.now }
     ensures { IsNumberAt run.now.records at result }

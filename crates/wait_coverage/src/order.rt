@@ -1,4 +1,4 @@
-//! The tasks in an order in which each stands behind its parent.
+//! The tasks in an order in which each comes after its parent.
 ghost use Rattle.std.specs.Prelude.{ℕ, ◌≡◌, ◌<◌, List, Some, IsTrue, IfOk, length, map};
 ghost use Rattle.std.specs.List.{range_with_len};
 ghost use Rattle.std.specs.List.Sorted.{IsNonDecreasingBy};
@@ -10,12 +10,12 @@ ghost use Rattle.wait_coverage.specs.Done.{IsParentsFirst, AreRanked};
 use std::alloc::{AllocError, Global};
 use task_tree::Family;
 
-/// The indices of all tasks, each behind that of its parent.
+/// Returns the indices of all tasks, each after that of its parent.
 pub(crate) fn parents_first(alloc: Global, family: &Family) -> Result<Vec<usize>, AllocError>
     ensures { IfOk result (λ order. (records : List Record) → IsFamilyOf records family.now
         → IsParentsFirst family.now order.items) }
 {
-    // In a file in time order each task is made behind its parent.
+    // In a file in the order of time each task is made after its parent.
     if are_parents_lower(family) {
         return Ok(indices(alloc, family.tasks().as_slice().len())?);
     }
@@ -23,7 +23,7 @@ pub(crate) fn parents_first(alloc: Global, family: &Family) -> Result<Vec<usize>
     Ok(without_depths(alloc, ranked.as_slice())?)
 }
 
-/// All tasks with their depths, the least depth first.
+/// Returns all tasks with their depths, the least depth first.
 fn by_depth(alloc: Global, family: &Family) -> Result<Vec<(usize, usize)>, AllocError>
     ensures all { IfOk result (λ ranked. AreRanked family.now (length family.now.tasks) ranked.items) }
     ensures rising { IfOk result (λ ranked. IsNonDecreasingBy (λ (entry : ℕ × ℕ). entry.0) ranked.items) }
@@ -36,7 +36,7 @@ fn by_depth(alloc: Global, family: &Family) -> Result<Vec<(usize, usize)>, Alloc
     Ok(ranked)
 }
 
-/// The indices alone.
+/// Returns the indices alone.
 fn without_depths(alloc: Global, ranked: &[(usize, usize)]) -> Result<Vec<usize>, AllocError>
     ensures { IfOk result (λ order. order.items ≡ map (λ (entry : ℕ × ℕ). entry.1) ranked.now) }
 {
@@ -47,7 +47,7 @@ fn without_depths(alloc: Global, ranked: &[(usize, usize)]) -> Result<Vec<usize>
     Ok(order)
 }
 
-/// The indices of so many tasks.
+/// Returns the indices of this many tasks.
 fn indices(alloc: Global, tasks: usize) -> Result<Vec<usize>, AllocError>
     ensures { IfOk result (λ order. order.items ≡ range_with_len 0 tasks) }
 {
@@ -58,7 +58,7 @@ fn indices(alloc: Global, tasks: usize) -> Result<Vec<usize>, AllocError>
     Ok(order)
 }
 
-/// Whether each parent has a lower index than its children.
+/// Returns true only if each parent has a lower index than its children.
 fn are_parents_lower(family: &Family) -> bool
     ensures { IsTrue result → (index up : ℕ) → index < length family.now.tasks
         → parent_index family.now index ≡ Some up → up < index }

@@ -1,4 +1,5 @@
-//! The unfinished task at the end of a region that was created first, and whether an end covers a given one.
+//! The unfinished task at the end of a region that was created first, and whether an end covers a given
+//! unfinished one.
 ghost use Rattle.std.specs.Prelude.{◌≡◌, ◌<◌, ◌↔◌, List, IfOk, IfErr, IsTrue, MatchOption, length};
 ghost use Rattle.ompt_events.specs.declared.fault.Fault.TheVariants.{Memory};
 ghost use Rattle.teams.specs.Teams.{own_of};
@@ -22,12 +23,12 @@ use std::alloc::{AllocError, Global};
 use std::marker::Model;
 use teams::Teams;
 
-/// What is known of all tasks and records of a run before an end is looked at: from which ledger lengths on
-/// tasks are finished.
+/// The lengths that are computed once, before an end is looked at: from which ledger lengths on the tasks
+/// of a run are finished, and what each end covers.
 #[derive(Debug, Drop)]
 pub struct Known<'a> {
     done: Done<'a>,
-    /// For each record that ends a region from which ledger length on what it covers is finished.
+    /// By record that ends a region, the ledger length from which on what it covers is finished.
     nodes: Vec<Node>,
 }
 
@@ -42,9 +43,9 @@ impl<'a> Model for Known<'a> {
 }
 
 impl<'a> Known<'a> {
-    /// What is known by the lengths that the entries of a ledger give. They are those of `find_known` where
-    /// the ledger is that of the trace. It takes a few steps for each record, a look-up of logarithmic time
-    /// for each entry, and memory linear in the records. `Memory` is the only refusal.
+    /// Returns the lengths that the entries of a ledger give. They are those of `find_known` if the ledger
+    /// is that of the trace. Takes a few steps for each record, a look-up of logarithmic time for each
+    /// entry, and memory linear in the records. Fails only when out of memory.
     pub fn of_ledger(
         alloc: Global,
         teams: &'a Teams<'a>,
@@ -63,7 +64,7 @@ impl<'a> Known<'a> {
         Ok(known)
     }
 
-    /// What is known by these lengths.
+    /// Returns what follows from these lengths.
     fn of(alloc: Global, done: Done<'a>) -> Result<Known<'a>, AllocError>
         ensures { IfOk result (λ known. known.done ≡ done.entry) }
     {
@@ -75,7 +76,7 @@ impl<'a> Known<'a> {
         Ok(Known { done, nodes })
     }
 
-    /// The lengths of the tasks.
+    /// Returns the lengths of the tasks.
     pub(crate) fn done(&self) -> &Done<'a>
         ensures value { result.now ≡ self.now.done }
         ensures is_done { IsDoneView self.now.done }
@@ -84,7 +85,7 @@ impl<'a> Known<'a> {
         &self.done
     }
 
-    /// The ledger length from which on all is finished that the end with this number covers.
+    /// Returns the ledger length from which on all that the end with this number covers is finished.
     fn limit(&self, number: usize) -> Limit
         requires { number < length self.now.done.teams.run.records }
         ensures { IsEndLimit self.now.done number result }
@@ -92,14 +93,15 @@ impl<'a> Known<'a> {
         self.nodes[number].limit
     }
 
-    /// By index of the task the ledger length from which on it is finished.
+    /// Returns by index of the task the ledger length from which on it is finished.
     pub fn own(&self) -> &[u64]
         ensures { result.now ≡ self.now.done.own }
     {
         self.done.own()
     }
 
-    /// By index of the task the ledger length from which on it and all its descendants are finished.
+    /// Returns by index of the task the ledger length from which on it and all its descendants are
+    /// finished.
     pub fn families(&self) -> &[u64]
         ensures { result.now ≡ self.now.done.families }
     {
@@ -107,10 +109,10 @@ impl<'a> Known<'a> {
     }
 }
 
-/// What is known of all tasks and records, by what the records say. Where these have right entries, as those
-/// without the causes 1 to 13 have, the lengths are exactly those from which on the trace's ledger holds the
-/// tasks' credit. It takes a few steps for each record, and memory linear in the records. `Memory` is the
-/// only refusal.
+/// Returns the lengths that the records give. If the records have right entries, as those without the
+/// causes 1 to 13 have, these are exactly the lengths from which on the trace's ledger holds the tasks'
+/// credit. Takes a few steps for each record, and memory linear in the records. Fails only when out of
+/// memory.
 pub fn find_known<'a>(alloc: Global, teams: &'a Teams<'a>) -> Result<Known<'a>, Fault>
     ensures teams { IfOk result (λ known. known.done.teams ≡ teams.now) }
     ensures done { IfOk result (λ known. AreDone known.done) }
@@ -124,11 +126,12 @@ pub fn find_known<'a>(alloc: Global, teams: &'a Teams<'a>) -> Result<Known<'a>, 
     Ok(known)
 }
 
-/// Of the tasks that the end with this number in the tasks' own order covers, and that are unfinished there, the
-/// one created first in the file (OpenMP 5.2, 15.3 to 15.5); none where all are finished, and where the record
-/// ends no wait. The lengths that are known must be those from which on the tasks are finished, or those from
-/// which on their credit is held (F. Mattern, 1989). It takes a few steps; where a task is unfinished a few for
-/// each record, and memory linear in the records. `Memory` is the only refusal.
+/// Returns, of the tasks that the end with this number in the tasks' own order covers, and that are
+/// unfinished there, the one created first in the file (OpenMP 5.2, 15.3 to 15.5). Returns none if all are
+/// finished, or if the record ends no wait. The contract guarantees this if the lengths are those from
+/// which on the tasks are finished, or, with right entries, those from which on their credit is held (F.
+/// Mattern, 1989). Takes a few steps, and where a task is unfinished a few for each record and memory
+/// linear in the records. Fails only when out of memory.
 pub fn find_open(alloc: Global, known: &Known, number: usize) -> Result<Option<u64>, Fault>
     requires { number < length known.now.done.teams.run.records }
     ensures first { AreDone known.now.done → IfOk result (λ found.
@@ -144,8 +147,8 @@ pub fn find_open(alloc: Global, known: &Known, number: usize) -> Result<Option<u
     Ok(open_at(alloc, known, number)?)
 }
 
-/// Whether the record with this number in the tasks' own order ends a region that waits for tasks (OpenMP 5.2,
-/// 15.3 to 15.5).
+/// Returns whether the record with this number in the tasks' own order ends a region that waits for tasks
+/// (OpenMP 5.2, 15.3 to 15.5).
 pub fn ends_wait(known: &Known, number: usize) -> bool
     requires { number < length known.now.done.teams.run.records }
     ensures { IsTrue result ↔ IsEnd known.now.done.teams.run.records number }
@@ -153,8 +156,8 @@ pub fn ends_wait(known: &Known, number: usize) -> bool
     wait_at(known.done().teams(), number).is_some()
 }
 
-/// Of the tasks that the end with this number covers and that are unfinished there the one created first in
-/// the file.
+/// Returns, of the tasks that the end with this number covers and that are unfinished there, the one
+/// created first in the file.
 pub(crate) fn open_at(
     alloc: Global,
     known: &Known,
@@ -175,9 +178,10 @@ pub(crate) fn open_at(
     }
 }
 
-/// Whether the end with this number in the tasks' own order covers the task, and the task is unfinished there
-/// (OpenMP 5.2, 15.3 to 15.5). The lengths that are known must be those from which on the tasks are finished.
-/// It takes a few steps for each record, and memory linear in the records. `Memory` is the only refusal.
+/// Returns whether the end with this number in the tasks' own order covers the task, and the task is
+/// unfinished there (OpenMP 5.2, 15.3 to 15.5). The contract guarantees this if the lengths are those from
+/// which on the tasks are finished. Takes a few steps for each record, and memory linear in the records.
+/// Fails only when out of memory.
 pub fn is_open(alloc: Global, known: &Known, number: usize, task: u64) -> Result<bool, Fault>
     requires { number < length known.now.done.teams.run.records }
     ensures open { AreDone known.now.done → IfOk result (λ found.
@@ -194,7 +198,8 @@ pub fn is_open(alloc: Global, known: &Known, number: usize, task: u64) -> Result
     }
 }
 
-/// What the end with this number waits for, unless it is known that all of it is finished there.
+/// Returns what the end with this number waits for, unless its limit shows that all of it is finished
+/// there.
 fn unmet_wait(known: &Known, number: usize) -> Option<Wait>
     requires { number < length known.now.done.teams.run.records }
     ensures { MatchOption result
@@ -202,14 +207,14 @@ fn unmet_wait(known: &Known, number: usize) -> Option<Wait>
         (IsWaitAt known.now.done.teams.run.records known.now.done.teams.run.family.tasks number) }
 {
     let done = known.done();
-    // Most waits end in time: only where this one did not is a late task looked for.
+    // Most waits end in time. An unfinished task is searched only where this one did not.
     if known.limit(number).is_reached(done.run().seen(number)) {
         return None;
     }
     wait_at(done.teams(), number)
 }
 
-/// By index of the task whether it is waited for.
+/// Returns by index of the task whether it is waited for.
 fn find_marks(alloc: Global, done: &Done, wait: Wait) -> Result<Vec<bool>, AllocError>
     requires { waiting wait < length done.now.teams.run.family.tasks }
     ensures { IfOk result (λ marks. AreAwaited done.now.teams.run.records

@@ -17,7 +17,8 @@ use std::marker::Model;
 use task_tree::WaitEvent;
 use teams::Teams;
 
-/// What the end of a region waits for. The task is an index, and a begin or an end is the number of its record.
+/// What the end of a region waits for. A task is given by its index, a begin or an end by the number of its
+/// record.
 #[derive(Clone, Copy, Debug)]
 pub(crate) enum Wait {
     /// The children that the task created before the begin.
@@ -40,7 +41,7 @@ pub(crate) enum Wait {
 }
 
 impl Wait {
-    /// Whether the descendants of the children are waited for too.
+    /// Returns whether the descendants of the children are waited for too.
     pub(crate) fn cover(&self) -> Cover
         ensures { result ≡ cover_of self.now }
     {
@@ -51,7 +52,7 @@ impl Wait {
     }
 }
 
-/// What a record waits for, if it ends a region that waits for tasks.
+/// Returns what a record waits for, if it ends a region that waits for tasks.
 pub(crate) fn wait_at(teams: &Teams, at: usize) -> Option<Wait>
     requires { at < length teams.now.run.records }
     ensures { MatchOption result (EndsNoWaitAt teams.now.run.records at)
@@ -62,7 +63,7 @@ pub(crate) fn wait_at(teams: &Teams, at: usize) -> Option<Wait>
     Some(wait_of(teams, event, begin, at))
 }
 
-/// What a region waits for that began at the one record and ends at the other.
+/// Returns what the region that begins at the one record and ends at the other waits for.
 fn wait_of(teams: &Teams, event: WaitEvent, begin: usize, end: usize) -> Wait
     requires event { IsWaitEvent teams.now.run end event.task event.kind event.endpoint }
     requires begin { IsRegionBegin teams.now.run.records end begin }
@@ -98,7 +99,7 @@ impl<'a> Model for Search<'a> {
 }
 
 impl<'a> Search<'a> {
-    /// The search for what the end waits for.
+    /// Returns the search for what the end waits for.
     pub(crate) fn of(teams: &'a Teams<'a>, wait: Wait) -> Search<'a>
         requires { waiting wait < length teams.now.run.family.tasks }
         ensures teams { result.teams ≡ teams.now }
@@ -108,7 +109,8 @@ impl<'a> Search<'a> {
         Search { teams, wait }
     }
 
-    /// Whether each task is waited for, by its index. The order has each task behind its parent.
+    /// Returns by index of the task whether it is waited for. Requires an order that has each task after
+    /// its parent.
     pub(crate) fn find_awaited(
         &self,
         alloc: Global,
@@ -126,7 +128,7 @@ impl<'a> Search<'a> {
         Ok(marks)
     }
 
-    /// Whether the task at the index is waited for, where that is known of its parent.
+    /// Returns whether the task at the index is waited for. Requires that this is marked for its parent.
     fn is_awaited(&self, marks: &[bool], index: usize) -> bool
         requires within { index < length self.now.teams.run.family.tasks }
         requires all { length marks.now ≡ length self.now.teams.run.family.tasks }
@@ -146,7 +148,7 @@ impl<'a> Search<'a> {
         }
     }
 
-    /// Whether the task at the index is one of the children that are waited for.
+    /// Returns whether the task at the index is one of the children that are waited for.
     fn is_own_child(&self, index: usize) -> bool
         requires { index < length self.now.teams.run.family.tasks }
         ensures { (task : ℕ) → slice_get self.now.teams.run.family.tasks index ≡ Some task → IsTrue result
@@ -159,7 +161,7 @@ impl<'a> Search<'a> {
         }
     }
 
-    /// Whether a child is waited for that the task at the index creates at the record.
+    /// Returns whether a child that the task at the index creates at the record is waited for.
     fn is_within(&self, index: usize, made: usize) -> bool
         requires { index < length self.now.teams.run.family.tasks }
         ensures { (parent : ℕ) → slice_get self.now.teams.run.family.tasks index ≡ Some parent
@@ -180,14 +182,15 @@ impl<'a> Search<'a> {
     }
 }
 
-/// No task is waited for.
+/// Returns marks with which no task is waited for.
 fn no_marks(alloc: Global, tasks: usize) -> Result<Vec<bool>, AllocError>
     ensures { IfOk result (λ marks. marks.items ≡ replicate tasks false) }
 {
     vec![in alloc; false; tasks]
 }
 
-/// Whether the two indices are the same, and the number is from the one on and before the other.
+/// Returns whether the two indices are the same, and the number is at least the one bound and below the
+/// other.
 fn is_between(task: usize, index: usize, from: usize, to: usize, made: usize) -> bool
     ensures { IsTrue result ↔ ((task ≡ index) × (from ≤ made) × (made < to)) }
 {
@@ -200,7 +203,7 @@ fn is_between(task: usize, index: usize, from: usize, to: usize, made: usize) ->
     made < to
 }
 
-/// Whether the tasks at the two indices are in one team.
+/// Returns whether the tasks at the two indices are in one team.
 fn are_teammates(teams: &Teams, task: usize, index: usize) -> bool
     requires task { task < length teams.now.run.family.tasks }
     requires within { index < length teams.now.run.family.tasks }
@@ -215,7 +218,8 @@ fn are_teammates(teams: &Teams, task: usize, index: usize) -> bool
     }
 }
 
-/// Whether the record is before that at which the task at the index begins its barrier with this number.
+/// Returns whether the record is before the one at which the task at the index begins its barrier with this
+/// number.
 fn is_before_begin(teams: &Teams, index: usize, number: usize, made: usize) -> bool
     ensures { IsTrue result ↔ ((start : ℕ)
         × (slice_get (row_at teams.now.begins index) number ≡ Some start) × (made < start)) }
@@ -226,8 +230,8 @@ fn is_before_begin(teams: &Teams, index: usize, number: usize, made: usize) -> b
     }
 }
 
-/// Of the tasks that are marked and whose length is above the one seen the one that was created first in the
-/// file.
+/// Returns, of the tasks that are marked and whose length is above the one seen, the one created first in
+/// the file.
 pub(crate) fn first_late(done: &Done, marks: &[bool], seen: u32) -> Option<u64>
     requires { length marks.now ≡ length done.now.teams.run.family.tasks }
     ensures { (wait : Wait)
@@ -243,7 +247,8 @@ pub(crate) fn first_late(done: &Done, marks: &[bool], seen: u32) -> Option<u64>
     None
 }
 
-/// The task that is created at the place in the file, if it is marked and its length is above the one seen.
+/// Returns the task that is created at the place in the file, if it is marked and its length is above the
+/// one seen.
 fn late_at(done: &Done, marks: &[bool], place: usize, seen: u32) -> Option<u64>
     requires within { place < length done.now.teams.run.records }
     requires all { length marks.now ≡ length done.now.teams.run.family.tasks }
@@ -261,7 +266,7 @@ fn late_at(done: &Done, marks: &[bool], place: usize, seen: u32) -> Option<u64>
     }
 }
 
-/// Whether the task is marked, and its length is above the one seen.
+/// Returns whether the task is marked, and its length is above the one seen.
 pub(crate) fn is_late_task(done: &Done, marks: &[bool], task: u64, seen: u32) -> bool
     requires { length marks.now ≡ length done.now.teams.run.family.tasks }
     ensures { (wait : Wait)
@@ -274,7 +279,7 @@ pub(crate) fn is_late_task(done: &Done, marks: &[bool], task: u64, seen: u32) ->
     }
 }
 
-/// The same of the task at the index.
+/// Returns the same for the task at the index.
 fn is_late_index(done: &Done, marks: &[bool], index: usize, seen: u32) -> bool
     requires within { index < length done.now.teams.run.family.tasks }
     requires all { length marks.now ≡ length done.now.teams.run.family.tasks }
