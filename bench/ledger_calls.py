@@ -1,14 +1,15 @@
 #!/usr/bin/env python3
-"""Measures a ledger: entering finished tasks, in a scrambled order but for one shape, and asking whether all
-entries hold the start of each.
+"""ledger_calls.py [instructions]: what does it cost to enter a finished task into a ledger of one thread,
+and to ask whether its entries hold a task?
 
-ledger.py                seconds of the processor and peak memory, the least of five runs
-ledger.py instructions   instructions of the calls, which Valgrind counts, of fewer entries
+Enters tasks, in a scrambled order but for one shape, and asks whether all entries hold the start of each.
+Prints seconds of the processor and peak memory, the least of five runs; or the instructions of the calls,
+which Valgrind counts, for fewer entries.
 
-`timing ledger` does what the lines of its input say. From the seconds and the memory, what reading and
+`stopwatch ledger` does what the lines of its input say. From the seconds and the memory, what reading and
 printing a line take is subtracted: lines with the same path that ask for an empty span. Each shape has two
-sizes, the second twice the first; growth is that of entering and of asking. The last shape is a chain of 1,000
-tasks, and so many children of the last of them.
+sizes, the second twice the first; growth is that of entering and of asking. The last shape is a chain of
+1,000 tasks, and so many children of the last of them.
 """
 
 import os
@@ -19,9 +20,9 @@ import sys
 import tempfile
 from multiprocessing import Process
 
-from phases import TIMING
+from common import STOPWATCH, row, table
 
-COMMAND = [TIMING, "ledger"]
+COMMAND = [STOPWATCH, "ledger"]
 RUNS = 5
 
 
@@ -63,8 +64,9 @@ def write_lines(shape, size, folder):
     if shape is not in_order:
         random.shuffle(tasks)
     read = [f"holds 0 1 {joined(path)} 0 0 children\n" for path, _ in tasks]
-    enter = [f"enter 1 {joined(path)} {kept} whole\n" for path, kept in tasks]
-    ask = [f"holds {len(tasks)} 1 {joined(path[:-1])} {path[-1]} {path[-1] + 1} descendants\n" for path, _ in tasks]
+    enter = [f"enter 1 {joined(path)} {kept}\n" for path, kept in tasks]
+    ask = [f"holds {len(tasks)} 1 {joined(path[:-1])} {path[-1]} {path[-1] + 1} descendants\n"
+           for path, _ in tasks]
     for name, lines in (("read", read), ("enter", enter), ("ask", enter + ask)):
         with open(os.path.join(folder, name), "w", encoding="utf-8") as file:
             file.writelines(lines)
@@ -98,7 +100,7 @@ def counts_of(folder, name):
     with open(os.path.join(folder, name), "rb") as source:
         subprocess.run(["valgrind", "--tool=callgrind", f"--callgrind-out-file={counts}"] + COMMAND,
                        stdin=source, stdout=subprocess.DEVNULL, stderr=subprocess.DEVNULL, check=True)
-    command = ["callgrind_annotate", "--inclusive=yes", counts]
+    command = ["callgrind_annotate", "--inclusive=yes", "--threshold=100", counts]
     return subprocess.run(command, capture_output=True, check=True, text=True).stdout
 
 
@@ -110,10 +112,10 @@ def count_inside(counts, function):
 
 
 def instructions(folder):
-    """The instructions of all calls of `enter`, and of all questions beyond those for an empty span: the compiler puts
-    `holds` into `held`, the only function that calls it."""
+    """The instructions of all calls of `enter`, and of all questions beyond those for an empty span: the
+    compiler puts `holds` into `held`, the only function that calls it."""
     asking, reading = counts_of(folder, "ask"), counts_of(folder, "read")
-    held = "timing::ledger::held"
+    held = "stopwatch::ledger::held"
     return (count_inside(asking, "credit_ledger::ledger::Ledger::enter"),
             count_inside(asking, held) - count_inside(reading, held))
 
@@ -134,16 +136,14 @@ def growth_of(now, earlier):
     return ", ".join(f"{now[place] / earlier[place]:.2f}" for place in (0, 1)) if earlier else ""
 
 
-def table(head, sizes, measure, cells):
+def show(sizes, measure, cells):
     """Prints a row for each shape and size."""
-    print(head)
-    print("|---" * (head.count("|") - 1) + "|")
     titles = ("random", "children of one task", "the same, in order", "leaves below a chain of 1,000")
     for title, shape, size in zip(titles, (random_tree, children, in_order, chain), sizes):
         earlier = None
         for leaves in (size, 2 * size):
             count, now = figures(shape, leaves, measure)
-            print(f"| {title} | {count:,} | {cells(count, now)} | {growth_of(now, earlier)} |", flush=True)
+            row(title, f"{count:,}", *cells(count, now), growth_of(now, earlier))
             earlier = now
 
 
@@ -151,13 +151,13 @@ def main():
     if sys.argv[1:] not in ([], ["instructions"]):
         sys.exit(__doc__)
     if sys.argv[1:]:
-        head = "| Tree | Entries | An `enter`, instructions | A `holds`, instructions | Growth |"
-        table(head, (2**15, 2**15, 2**15, 2**9), instructions,
-              lambda count, now: f"{now[0] / count:,.0f} | {now[1] / count:,.0f}")
+        table("Tree", "Entries", "An `enter`, instructions", "A `holds`, instructions", "Growth")
+        show((2**15, 2**15, 2**15, 2**9), instructions,
+             lambda count, now: (f"{now[0] / count:,.0f}", f"{now[1] / count:,.0f}"))
     else:
-        head = "| Tree | Entries | Enter, s | Ask, s | Bytes an entry | Growth |"
-        table(head, (2**19, 2**19, 2**19, 2**9), seconds,
-              lambda count, now: f"{now[0]:.2f} | {now[1]:.2f} | {now[2] / count:,.0f}")
+        table("Tree", "Entries", "Enter, s", "Ask, s", "Bytes an entry", "Growth")
+        show((2**19, 2**19, 2**19, 2**9), seconds,
+             lambda count, now: (f"{now[0]:.2f}", f"{now[1]:.2f}", f"{now[2] / count:,.0f}"))
 
 
 if __name__ == "__main__":

@@ -1,21 +1,21 @@
 #!/usr/bin/env python3
-"""record.py [STEPS [RUNS]]: seconds and microseconds a step of `taskaudit record`, on scripts of STEPS steps (2^18)
-on 1, 4, 8 and 64 threads. Reading is what the program takes to find that a last line, more than the script has, is
-none of a script.
+"""record_command.py [STEPS [RUNS]]: how many seconds does `taskaudit record` take, and microseconds a step?
 
-`own`: each thread creates tasks, switches to each and back, and it is complete; no thread waits for another one.
-`passed`: the initial task of thread 0 creates the tasks, and each is run by one of the other threads. `turns`: the
-threads take their steps in turn, each after the last step of the thread before. The least of RUNS runs (5).
+Runs scripts of STEPS steps (2^18) on 1, 4, 8 and 64 threads. Reading is what the program takes to find that
+a last line, more than the script has, is none of a script.
+
+`own`: each thread creates tasks, switches to each and back, and it is complete; no thread waits for another
+one. `passed`: the initial task of thread 0 creates the tasks, and each is run by one of the other threads.
+`turns`: the threads take their steps in turn, each after the last step of the thread before. The least of
+RUNS runs (5).
 """
 
-import os
 import subprocess
 import sys
 import time
 
-from bench import TOP
+from common import PROGRAM, numbers_of, row, table
 
-PROGRAM = os.path.join(TOP, "crates", "taskaudit", "out", "taskaudit")
 HEADER = '{"format":"task-credit-script","version":1}\n'
 # A line that no script has: it is no object.
 WRONG = "0\n"
@@ -24,18 +24,20 @@ UNREADABLE = 3
 
 def root(thread):
     """The line with which the initial task of a thread begins: its id is the thread's number."""
-    return (f'{{"actual":1,"cb":"implicit_task","endpoint":"begin","flags":["initial"],"index":0,"parallel":0,'
+    return ('{"actual":1,"cb":"implicit_task","endpoint":"begin","flags":["initial"],"index":0,"parallel":0,'
             f'"task":{thread},"thread":{thread}}}\n')
 
 
 def create(creator, task, thread):
     """The creation of a task."""
-    return f'{{"cb":"task_create","child":{task},"deps":false,"flags":["explicit"],"task":{creator},"thread":{thread}}}\n'
+    return (f'{{"cb":"task_create","child":{task},"deps":false,"flags":["explicit"],"task":{creator},'
+            f'"thread":{thread}}}\n')
 
 
 def switch(prior, task, status, thread, after=""):
     """A switch from one task to another."""
-    return f'{{{after}"cb":"task_schedule","next":{task},"prior":{prior},"status":"{status}","thread":{thread}}}\n'
+    return (f'{{{after}"cb":"task_schedule","next":{task},"prior":{prior},"status":"{status}",'
+            f'"thread":{thread}}}\n')
 
 
 def own(steps, threads):
@@ -74,7 +76,7 @@ def least(text, status, runs):
     best = None
     for _ in range(runs):
         start = time.monotonic()
-        ran = subprocess.run([PROGRAM, "record"], input=text.encode(), stdout=subprocess.PIPE, stderr=subprocess.PIPE)
+        ran = subprocess.run([PROGRAM, "record"], input=text.encode(), capture_output=True, check=False)
         took = time.monotonic() - start
         if ran.returncode != status:
             sys.exit(f"record ended with status {ran.returncode}: {ran.stderr[:200]}")
@@ -83,9 +85,9 @@ def least(text, status, runs):
 
 
 def main():
-    steps, runs = ([int(word) for word in sys.argv[1:]] + [2**18, 5][len(sys.argv) - 1:])[:2]
-    print("| Script | Threads | Seconds | Of these reading | Microseconds a step beside reading |")
-    print("|---|---|---|---|---|")
+    numbers = numbers_of(sys.argv[1:], __doc__, 2)
+    steps, runs = numbers + [2**18, 5][len(numbers):]
+    table("Script", "Threads", "Seconds", "Of these reading", "Microseconds a step beside reading")
     for make in (own, passed, turns):
         for threads in (1, 4, 8, 64):
             lines = list(make(steps, threads))
@@ -93,7 +95,7 @@ def main():
             whole = least(text, 0, runs)
             reading = least(text + WRONG, UNREADABLE, runs)
             each = (whole - reading) / len(lines) * 1e6
-            print(f"| {make.__name__} | {threads} | {whole:.2f} | {reading:.2f} | {each:.2f} |", flush=True)
+            row(make.__name__, str(threads), f"{whole:.2f}", f"{reading:.2f}", f"{each:.2f}")
 
 
 if __name__ == "__main__":
