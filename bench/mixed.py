@@ -1,7 +1,8 @@
 #!/usr/bin/env python3
 """mixed.py SIZE: a file of SIZE records of all callbacks, in the form in which they are written.
 
-The records are no account of a run: the file is for the reader and the writer. The same size gives the same bytes each time.
+The records are no account of a run: the file is for the reader and the writer. The same size gives the same
+bytes each time.
 """
 
 import json
@@ -9,17 +10,19 @@ import random
 import sys
 
 HEADER = '{"format":"task-credit-audit","version":1}'
-STATUSES = ["complete", "yield", "cancel", "detach", "early_fulfill", "late_fulfill", "switch", "taskwait_complete"]
+STATUSES = ["complete", "yield", "cancel", "detach", "early_fulfill", "late_fulfill", "switch",
+            "taskwait_complete"]
 WITHOUT_NEXT = {"early_fulfill", "late_fulfill", "taskwait_complete"}
 FINISHING = {"complete", "cancel", "detach", "late_fulfill", "taskwait_complete"}
-SYNC_KINDS = ["barrier", "barrier_implicit", "barrier_explicit", "barrier_implementation", "taskwait", "taskgroup", "reduction",
-              "barrier_implicit_workshare", "barrier_implicit_parallel", "barrier_teams"]
+SYNC_KINDS = ["barrier", "barrier_implicit", "barrier_explicit", "barrier_implementation", "taskwait",
+              "taskgroup", "reduction", "barrier_implicit_workshare", "barrier_implicit_parallel",
+              "barrier_teams"]
 DEPENDENCE_TYPES = ["in", "out", "inout", "mutexinoutset", "inoutset"]
 TASK_FLAGS = ["explicit", "undeferred", "untied", "final", "mergeable", "merged"]
 CANCEL_FLAGS = ["parallel", "sections", "loop", "taskgroup", "activated", "detected"]
 # How often each callback comes, of a thousand.
-WEIGHTS = {"task_schedule": 450, "task_create": 220, "sync_region": 180, "dependences": 100, "cancel": 20, "implicit_task": 20,
-           "parallel_begin": 4, "parallel_end": 4, "thread_begin": 1, "thread_end": 1}
+WEIGHTS = {"task_schedule": 450, "task_create": 220, "sync_region": 180, "dependences": 100, "cancel": 20,
+           "implicit_task": 20, "parallel_begin": 4, "parallel_end": 4, "thread_begin": 1, "thread_end": 1}
 THREADS = 8
 
 
@@ -38,7 +41,8 @@ class Mixture:
 
     def share(self):
         depth = self.random.randint(0, 8)
-        return {"kept": self.random.randint(0, 9), "path": [self.random.randint(0, 9) for _ in range(depth)], "root": self.id()}
+        return {"kept": self.random.randint(0, 9), "path": [self.random.randint(0, 9) for _ in range(depth)],
+                "root": self.id()}
 
     def members(self, callback):
         choice = self.random.choice
@@ -51,17 +55,21 @@ class Mixture:
         if callback == "parallel_end":
             return {"parallel": self.id(), "task": self.id()}
         if callback == "implicit_task":
-            return {"actual": 8, "endpoint": choice(["begin", "end"]), "flags": choice([["initial"], ["implicit"]]),
-                    "index": self.random.randrange(8), "parallel": self.id(), "task": self.id()}
+            return {"actual": 8, "endpoint": choice(["begin", "end"]),
+                    "flags": choice([["initial"], ["implicit"]]), "index": self.random.randrange(8),
+                    "parallel": self.id(), "task": self.id()}
         if callback == "task_create":
-            return {"child": self.id(), "deps": choice([True, False]), "flags": self.some(TASK_FLAGS), "task": self.id()}
+            return {"child": self.id(), "deps": choice([True, False]), "flags": self.some(TASK_FLAGS),
+                    "task": self.id()}
         if callback == "dependences":
-            items = [{"type": choice(DEPENDENCE_TYPES), "var": self.id()} for _ in range(self.random.randint(1, 4))]
+            count = self.random.randint(1, 4)
+            items = [{"type": choice(DEPENDENCE_TYPES), "var": self.id()} for _ in range(count)]
             return {"list": items, "task": self.id()}
         if callback == "task_schedule":
             status = choice(STATUSES)
             share = self.share() if status in FINISHING else {}
-            return {"next": None if status in WITHOUT_NEXT else self.id(), "prior": self.id(), "status": status, **share}
+            return {"next": None if status in WITHOUT_NEXT else self.id(), "prior": self.id(),
+                    "status": status, **share}
         if callback == "sync_region":
             return {"endpoint": choice(["begin", "end", "beginend"]), "kind": choice(SYNC_KINDS),
                     "parallel": choice([None, self.id()]), "task": self.id()}
@@ -73,7 +81,8 @@ class Mixture:
     def line(self):
         callback = self.random.choices(list(WEIGHTS), list(WEIGHTS.values()))[0]
         thread = self.random.randrange(THREADS)
-        record = {"cb": callback, "seen": self.random.randrange(1 << 20), "seq": self.seqs[thread], "thread": thread}
+        record = {"cb": callback, "seen": self.random.randrange(1 << 20), "seq": self.seqs[thread],
+                  "thread": thread}
         self.seqs[thread] += 1
         return json.dumps(record | self.members(callback), sort_keys=True, separators=(",", ":"))
 

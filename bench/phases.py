@@ -1,33 +1,32 @@
 #!/usr/bin/env python3
-"""Counts the instructions of reading, the causes, the order and the waits, each for itself, from 2^12 to 2^17 records.
+"""phases.py [POWER..]: how many instructions do reading, the causes, the order and the waits take, each for
+itself?
 
-Valgrind counts them, so the same files give the same figures on a busy machine too.
+Counts them on runs of 2^POWER records (2^12 to 2^17). Valgrind counts, so the figures are the same on a busy
+machine.
 
-The phases follow one another, so each is the difference between two runs that end one phase apart: `timing read`
-ends after reading; a file whose last record claims a wrong share is malformed once all causes to ShareWrong were looked
-for; a file whose last record creates a task for a device is malformed once the order was found; the file itself goes to the
-end.
+The phases follow one another, so each is the difference between two runs that end one phase apart:
+`stopwatch read` ends after reading; a file whose last record claims a wrong share is malformed once all
+causes to ShareWrong were looked for; a file whose last record creates a task for a device is malformed once
+the order was found; the file itself goes to the end.
 """
 
 import json
 import os
-import re
-import subprocess
 import sys
 import tempfile
 
-from bench import HERE, PROGRAM, TOP
+from common import ORDERS, PROGRAM, STOPWATCH, instructions_of, numbers_of, row, table, trace
 
-COUNTING = ["valgrind", "--tool=cachegrind", "--cache-sim=no", "--cachegrind-out-file=/dev/null"]
-TIMING = os.path.join(TOP, "crates", "timing", "out", "timing")
+# An id that no run has.
 NEW_TASK = 1_000_000_000
 
 
 def begun(lines):
     """The begin of an initial task, the first record of a thread of its own."""
     thread = 1 + max(json.loads(line)["thread"] for line in lines[1:])
-    return {"actual": 1, "cb": "implicit_task", "endpoint": "begin", "flags": ["initial"], "index": 0, "parallel": 0,
-            "seen": 0, "seq": 0, "task": NEW_TASK, "thread": thread}
+    return {"actual": 1, "cb": "implicit_task", "endpoint": "begin", "flags": ["initial"], "index": 0,
+            "parallel": 0, "seen": 0, "seq": 0, "task": NEW_TASK, "thread": thread}
 
 
 def with_a_wrong_share(lines):
@@ -38,9 +37,11 @@ def with_a_wrong_share(lines):
     schedule = {**record, "cb": "task_schedule"}
     last = [
         start,
-        {**record, "cb": "task_create", "seq": 1, "task": parent, "child": child, "deps": False, "flags": ["explicit"]},
+        {**record, "cb": "task_create", "seq": 1, "task": parent, "child": child, "deps": False,
+         "flags": ["explicit"]},
         {**schedule, "seq": 2, "status": "switch", "prior": parent, "next": child},
-        {**schedule, "seq": 3, "status": "complete", "prior": child, "next": parent, "root": parent, "kept": 0, "path": [1]},
+        {**schedule, "seq": 3, "status": "complete", "prior": child, "next": parent, "root": parent,
+         "kept": 0, "path": [1]},
     ]
     return lines + [json.dumps(it) for it in last]
 
@@ -48,30 +49,17 @@ def with_a_wrong_share(lines):
 def with_a_device(lines):
     """The records, and then a task for a device."""
     start = begun(lines)
-    last = {"cb": "task_create", "seq": 1, "seen": 0, "thread": start["thread"], "task": NEW_TASK, "child": NEW_TASK + 1,
-            "deps": False, "flags": ["target"]}
+    last = {"cb": "task_create", "seq": 1, "seen": 0, "thread": start["thread"], "task": NEW_TASK,
+            "child": NEW_TASK + 1, "deps": False, "flags": ["target"]}
     return lines + [json.dumps(it) for it in (start, last)]
 
 
-def instructions_of(command, path, lines, answer):
-    """The instructions of a run on a file of these lines, which must answer so."""
-    with open(path, "w", encoding="utf-8") as file:
-        file.write("".join(line + "\n" for line in lines))
-    with open(path, "rb") as source:
-        run = subprocess.run(COUNTING + command, stdin=source, capture_output=True, check=False)
-    text = run.stdout.decode()
-    if answer not in text:
-        sys.exit(f"answered {text!r} in place of {answer!r}")
-    return int(re.search(r"I +refs: +([0-9,]+)", run.stderr.decode())[1].replace(",", ""))
-
-
 def phases(path, size, order):
-    """The instructions of each phase on the trace of so many records."""
-    made = subprocess.run([sys.executable, os.path.join(HERE, "traces.py"), str(size)] + order, capture_output=True, check=True)
-    lines = made.stdout.decode().splitlines()
+    """The instructions of each phase on the run of so many records in this order."""
+    lines = trace(size, order)
     check = [PROGRAM, "check"]
     ends = [
-        instructions_of([TIMING, "read"], path, lines, f"{size} records"),
+        instructions_of([STOPWATCH, "read"], path, lines, f"{size} records"),
         instructions_of(check, path, with_a_wrong_share(lines), "cause 11 ShareWrong"),
         instructions_of(check, path, with_a_device(lines), "cause 16 TargetTask"),
         instructions_of(check, path, lines, "yes: "),
@@ -79,22 +67,20 @@ def phases(path, size, order):
     return [ends[0]] + [later - earlier for earlier, later in zip(ends, ends[1:])]
 
 
-def table(title, path, order):
-    """Prints a row for each size, with what each phase grew by since the size before."""
-    print(f"\n{title}\n")
-    print("| Records | Read | Causes | Order | Waits | Growth of each |")
-    print("|---|---|---|---|---|---|", flush=True)
-    earlier = None
-    for size in (2**power for power in range(12, 18)):
-        now = phases(path, size, order)
-        growth = ", ".join(f"{b / a:.1f}" for a, b in zip(earlier, now)) if earlier and min(earlier) > 0 else ""
-        print(f"| {size:,} | " + " | ".join(f"{one / 1e6:.1f}" for one in now) + f" | {growth} |", flush=True)
-        earlier = now
+def main():
+    powers = numbers_of(sys.argv[1:], __doc__, 22) or range(12, 18)
+    with tempfile.TemporaryDirectory() as folder:
+        path = os.path.join(folder, "trace")
+        for title, order in ORDERS:
+            print(f"\nMillions of instructions, {title}\n")
+            table("Records", "Read", "Causes", "Order", "Waits", "Growth of each")
+            earlier = None
+            for power in powers:
+                now = phases(path, 2**power, order)
+                growth = [f"{b / a:.1f}" for a, b in zip(earlier, now)] if earlier else []
+                row(f"{2**power:,}", *(f"{one / 1e6:.1f}" for one in now), ", ".join(growth))
+                earlier = now
 
 
 if __name__ == "__main__":
-    if sys.argv[1:]:
-        sys.exit(__doc__)
-    with tempfile.TemporaryDirectory() as folder:
-        table("Millions of instructions, in the order of time", os.path.join(folder, "trace"), [])
-        table("Millions of instructions, one thread after another", os.path.join(folder, "trace"), ["threads"])
+    main()

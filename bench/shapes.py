@@ -1,19 +1,15 @@
-#!/usr/bin/env python3
-"""Counts the instructions of a check beside reading, at 2^16 and 2^17 records of shapes that could cost more than their size.
-
-Valgrind counts them, so the same files give the same figures on a busy machine too.
+"""Makes traces whose shape could cost more than their size: each function gives the lines of about so many
+records.
 """
 
 import json
-import os
-import sys
-import tempfile
 
-from bench import PROGRAM
-from phases import TIMING, instructions_of
+from common import HEADER
 
-HEADER = '{"format":"task-credit-audit","version":1}'
+# How many tasks a chain has.
 DEPTH = 1_000
+# The initial task of each trace.
+INITIAL = {"task": 1, "parallel": 0, "actual": 1, "index": 0, "flags": ["initial"]}
 
 
 class Thread:
@@ -22,7 +18,7 @@ class Thread:
     def __init__(self):
         self.lines = [HEADER]
         self.seen = 0
-        self.add(cb="implicit_task", endpoint="begin", task=1, parallel=0, actual=1, index=0, flags=["initial"])
+        self.add(cb="implicit_task", endpoint="begin", **INITIAL)
 
     def add(self, **members):
         record = {**members, "thread": 0, "seq": len(self.lines) - 1, "seen": self.seen}
@@ -38,6 +34,12 @@ class Thread:
         self.add(cb="task_schedule", status="complete", prior=task, next=parent, root=1, path=path, kept=kept)
         self.seen += 1
 
+    def run_child(self, number):
+        """Task 1 creates its child with this number, which runs and is complete."""
+        self.create(1, number + 2)
+        self.switch(1, number + 2)
+        self.complete(number + 2, 1, [number])
+
     def region(self, kind, endpoint):
         self.add(cb="sync_region", kind=kind, endpoint=endpoint, parallel=None, task=1)
 
@@ -46,9 +48,7 @@ def waits(size):
     """Children of one task, and then waits that all cover all of them."""
     thread = Thread()
     for number in range(size // 6):
-        thread.create(1, number + 2)
-        thread.switch(1, number + 2)
-        thread.complete(number + 2, 1, [number])
+        thread.run_child(number)
     while len(thread.lines) <= size:
         thread.region("taskwait", "beginend")
     return thread.lines
@@ -59,9 +59,7 @@ def groups(size):
     thread = Thread()
     for number in range(size // 5):
         thread.region("taskgroup", "begin")
-        thread.create(1, number + 2)
-        thread.switch(1, number + 2)
-        thread.complete(number + 2, 1, [number])
+        thread.run_child(number)
     for _ in range(size // 5):
         thread.region("taskgroup", "end")
     return thread.lines
@@ -71,7 +69,7 @@ def chain(size):
     """Tasks that create one another, with leaves beside each of them, in a taskgroup."""
     thread = Thread()
     thread.region("taskgroup", "begin")
-    leaves = (size // DEPTH - 3) // 3
+    leaves = max(0, (size // DEPTH - 3) // 3)
     path, task, free, above = [], 1, 2, []
     for _ in range(DEPTH):
         for number in range(leaves):
@@ -108,7 +106,8 @@ def siblings(size, items):
     for number in range(size // 4):
         child = number + 2
         thread.add(cb="task_create", task=1, child=child, flags=["explicit"], deps=True)
-        thread.add(cb="dependences", task=child, list=[{"type": kind, "var": var} for kind, var in items(number)])
+        listed = [{"type": kind, "var": var} for kind, var in items(number)]
+        thread.add(cb="dependences", task=child, list=listed)
         thread.switch(1, child)
         thread.complete(child, 1, [number])
     return thread.lines
@@ -126,7 +125,10 @@ def alternating(size):
 
 def long_lists(size):
     """Siblings with 64 items each, on locations that the others have too."""
-    return siblings(size, lambda number: [("out" if (number + it) % 3 else "in", (number + it) % 96) for it in range(64)])
+    def items(number):
+        return [("out" if it % 3 else "in", it % 96) for it in range(number, number + 64)]
+
+    return siblings(size, items)
 
 
 class Team:
@@ -140,6 +142,11 @@ class Team:
         record |= {"thread": thread, "seq": self.seqs[thread], "seen": self.seen}
         self.seqs[thread] += 1
         self.lines.append(json.dumps(record, sort_keys=True, separators=(",", ":")))
+
+    def member(self, thread, endpoint):
+        """The implicit task of a member begins or ends."""
+        self.add(thread, cb="implicit_task", endpoint=endpoint, task=2 + thread, parallel=1,
+                 actual=self.members, index=thread, flags=["implicit"])
 
     def region(self, thread, kind, endpoint):
         self.add(thread, cb="sync_region", kind=kind, endpoint=endpoint, parallel=1, task=2 + thread)
@@ -171,11 +178,10 @@ class Team:
 def team_of_256(size):
     """A team of 256 threads, with as many barriers as fit."""
     team = Team(256)
-    team.add(0, cb="implicit_task", endpoint="begin", task=1, parallel=0, actual=1, index=0, flags=["initial"])
+    team.add(0, cb="implicit_task", endpoint="begin", **INITIAL)
     team.add(0, cb="parallel_begin", task=1, parallel=1, requested=team.members)
     for thread in range(team.members):
-        team.add(thread, cb="implicit_task", endpoint="begin", task=2 + thread, parallel=1, actual=team.members,
-                 index=thread, flags=["implicit"])
+        team.member(thread, "begin")
     while len(team.lines) + 2 * team.members <= size:
         for endpoint in ("begin", "end"):
             for thread in range(team.members):
@@ -184,15 +190,15 @@ def team_of_256(size):
 
 
 def all_callbacks(size):
-    """A team of 8 whose members create tasks with dependences, cancel taskgroups, wait, and meet at barriers."""
+    """A team of 8 whose members create tasks with dependences, cancel taskgroups, wait, and meet at
+    barriers."""
     team, free = Team(8), 100
     for thread in range(team.members):
         team.add(thread, cb="thread_begin", kind="worker")
-    team.add(0, cb="implicit_task", endpoint="begin", task=1, parallel=0, actual=1, index=0, flags=["initial"])
+    team.add(0, cb="implicit_task", endpoint="begin", **INITIAL)
     team.add(0, cb="parallel_begin", task=1, parallel=1, requested=team.members)
     for thread in range(team.members):
-        team.add(thread, cb="implicit_task", endpoint="begin", task=2 + thread, parallel=1, actual=team.members,
-                 index=thread, flags=["implicit"])
+        team.member(thread, "begin")
     while len(team.lines) < size - 300:
         for thread in range(team.members):
             for number in range(3):
@@ -206,46 +212,9 @@ def all_callbacks(size):
             for thread in range(team.members):
                 team.region(thread, "barrier_explicit", endpoint)
     for thread in range(team.members):
-        team.add(thread, cb="implicit_task", endpoint="end", task=2 + thread, parallel=1, actual=team.members,
-                 index=thread, flags=["implicit"])
+        team.member(thread, "end")
     team.add(0, cb="parallel_end", task=1, parallel=1)
-    team.add(0, cb="implicit_task", endpoint="end", task=1, parallel=0, actual=1, index=0, flags=["initial"])
+    team.add(0, cb="implicit_task", endpoint="end", **INITIAL)
     for thread in range(team.members):
         team.add(thread, cb="thread_end")
     return team.lines
-
-
-SHAPES = [
-    ("all ten callbacks, in a team of 8", all_callbacks, "yes: "),
-    ("waits of one task, all children before each", waits, "yes: "),
-    ("taskgroups one in another", groups, "yes: "),
-    ("a chain of 1,000 with leaves", chain, "yes: "),
-    ("open waits only", open_waits, "no: "),
-    ("a team of 256, as many barriers as fit", team_of_256, "yes: "),
-    ("siblings that all write one location", writers, "yes: "),
-    ("siblings that read and write one location in turn", alternating, "yes: "),
-    ("siblings with 64 dependences each", long_lists, "yes: "),
-]
-
-
-def main():
-    print("| Shape | Records | A check beside reading, millions | A record | Growth |")
-    print("|---|---|---|---|---|", flush=True)
-    with tempfile.TemporaryDirectory() as folder:
-        path = os.path.join(folder, "trace")
-        for name, shape, answer in SHAPES:
-            before = None
-            for size in (2**16, 2**17):
-                lines = shape(size)
-                records = len(lines) - 1
-                reading = instructions_of([TIMING, "read"], path, lines, f"{records} records")
-                counted = instructions_of([PROGRAM, "check"], path, lines, answer) - reading
-                growth = f"{counted / before:.2f}" if before else ""
-                print(f"| {name} | {records:,} | {counted / 1e6:.1f} | {counted / records:,.0f} | {growth} |", flush=True)
-                before = counted
-
-
-if __name__ == "__main__":
-    if sys.argv[1:]:
-        sys.exit(__doc__)
-    main()

@@ -1,14 +1,16 @@
 #!/usr/bin/env python3
-"""traces.py SIZE [time|threads [COUNT]]: a trace of SIZE records, in the order of time or one thread after another.
+"""traces.py SIZE [time|threads [COUNT [long]]]: a trace of SIZE records, in the order of time or one thread
+after another.
 
-COUNT threads, else eight, run random trees of tasks, and each taskwait ends after the children that it covers. The same words give
-the same bytes each time.
+COUNT threads, else eight, run random trees of tasks, and each taskwait ends after the children that it
+covers. In a long run a task may wait again, so that 2^22 records have no more tasks than a file may have.
+The same words give the same bytes each time.
 """
 
 import random
 import sys
 
-HEADER = '{"format":"task-credit-audit","version":1}\n'
+HEADER = '{"format":"task-credit-audit","version":1}'
 THREADS = 8
 MOST_CHILDREN = 6
 MOST_DEPTH = 12
@@ -41,16 +43,19 @@ class Run:
         return task
 
     def write(self, thread, seen, before_seen, after_seq):
-        """Records a line, whose other members stand before or after `seen` and `seq`, in the order of their names."""
+        """Records a line, whose other members stand before or after `seen` and `seq`, in the order of their
+        names."""
         seq = self.seqs[thread]
         self.seqs[thread] += 1
         self.known[thread] = max(self.known[thread], seen)
-        self.records.append((thread, f'{{{before_seen},"seen":{seen},"seq":{seq},{after_seq},"thread":{thread}}}\n'))
+        line = f'{{{before_seen},"seen":{seen},"seq":{seq},{after_seq},"thread":{thread}}}'
+        self.records.append((thread, line))
 
     def begin_root(self, thread):
         task = self.new_task(None, (), None)
-        self.write(thread, 0, '"actual":1,"cb":"implicit_task","endpoint":"begin","flags":["initial"],"index":0,"parallel":0',
-                   f'"task":{task}')
+        begin = ('"actual":1,"cb":"implicit_task","endpoint":"begin","flags":["initial"],"index":0,'
+                 '"parallel":0')
+        self.write(thread, 0, begin, f'"task":{task}')
         return task
 
     def create(self, thread, task):
@@ -60,23 +65,26 @@ class Run:
         self.running[task] += 1
         self.unstarted[task].append(child)
         self.created.append(child)
-        self.write(thread, self.known[thread], f'"cb":"task_create","child":{child},"deps":false,"flags":["explicit"]',
-                   f'"task":{task}')
+        create = f'"cb":"task_create","child":{child},"deps":false,"flags":["explicit"]'
+        self.write(thread, self.known[thread], create, f'"task":{task}')
 
     def region(self, thread, task, endpoint, seen):
         self.waiting[task] = endpoint == "begin"
-        self.write(thread, seen, f'"cb":"sync_region","endpoint":"{endpoint}","kind":"taskwait","parallel":null', f'"task":{task}')
+        region = f'"cb":"sync_region","endpoint":"{endpoint}","kind":"taskwait","parallel":null'
+        self.write(thread, seen, region, f'"task":{task}')
 
     def start(self, thread, task, child):
         self.unstarted[self.parent[child]].remove(child)
         self.stacks[thread].append(child)
-        self.write(thread, self.ledger, f'"cb":"task_schedule","next":{child},"prior":{task}', '"status":"switch"')
+        schedule = f'"cb":"task_schedule","next":{child},"prior":{task}'
+        self.write(thread, self.ledger, schedule, '"status":"switch"')
 
     def complete(self, thread, task):
         self.stacks[thread].pop()
         path = ",".join(map(str, self.path[task]))
-        self.write(thread, self.ledger, f'"cb":"task_schedule","kept":{self.kept[task]},"next":{self.stacks[thread][-1]}'
-                   f',"path":[{path}],"prior":{task},"root":{self.root[task]}', '"status":"complete"')
+        schedule = (f'"cb":"task_schedule","kept":{self.kept[task]},"next":{self.stacks[thread][-1]},'
+                    f'"path":[{path}],"prior":{task},"root":{self.root[task]}')
+        self.write(thread, self.ledger, schedule, '"status":"complete"')
         self.ledger += 1
         self.known[thread] = self.ledger
         self.running[self.parent[task]] -= 1
@@ -111,19 +119,40 @@ class Run:
             self.planned[task] = self.random.randint(1, MOST_CHILDREN)
 
 
-def trace(size, by_thread=False, threads=THREADS):
-    """The text of a trace of so many records, in the order of time or one thread after another."""
-    run = Run(threads)
+class LongRun(Run):
+    """A run in which a task may wait again before it ends."""
+
+    def complete(self, thread, task):
+        if self.random.random() < 0.5:
+            self.region(thread, task, "begin", self.known[thread])
+        else:
+            super().complete(thread, task)
+
+
+def records_of(run, size):
+    """The first records of a run, each its thread and its line."""
     while len(run.records) < size:
-        run.step(run.random.randrange(threads))
-    records = run.records[:size]
+        run.step(run.random.randrange(len(run.seqs)))
+    return run.records[:size]
+
+
+def long_records(size, threads=THREADS):
+    """The first records of a long run, each its thread and its line."""
+    return records_of(LongRun(threads), size)
+
+
+def trace(size, by_thread=False, threads=THREADS, kind=Run):
+    """The text of a trace of so many records, in the order of time or one thread after another."""
+    records = records_of(kind(threads), size)
     if by_thread:
         records.sort(key=lambda record: record[0])
-    return HEADER + "".join(line for _, line in records)
+    return "".join(f"{line}\n" for line in [HEADER, *(line for _, line in records)])
 
 
 if __name__ == "__main__":
     words = sys.argv[1:]
-    if not 1 <= len(words) <= 3 or words[1:2] not in ([], ["time"], ["threads"]):
+    is_order = words[1:2] in ([], ["time"], ["threads"])
+    if not words or not is_order or words[3:] not in ([], ["long"]):
         sys.exit(__doc__)
-    sys.stdout.write(trace(int(words[0]), words[1:2] == ["threads"], int(words[2]) if words[2:] else THREADS))
+    count = int(words[2]) if words[2:] else THREADS
+    sys.stdout.write(trace(int(words[0]), words[1:2] == ["threads"], count, LongRun if words[3:] else Run))

@@ -1,38 +1,57 @@
 #!/usr/bin/env python3
-"""turns.py [CALLS [RUNS]]: nanoseconds a call of a ledger that threads share, beside a list behind a mutex.
+"""turns.py [SIZE]: what do turns cost where a trace has them?
 
-`timing calls` makes CALLS calls (200,000), or ten times as many of `look` and `len`, split among 1, 2, 4 or 8
-threads, and prints the time of the whole over the number of calls. `alone` is what the same entries take in a
-ledger of one thread: about what an `enter` does in its turn; its share is of `enter`. An entry is made before
-each call that takes one. The least of RUNS runs (5).
+Counts on traces of version 2 of SIZE records (1,048,576) the instructions a record of the test that turns
+rise, of the turn of each record, of the search for a gap and of the tasks' own order, and the peak memory.
+
+The files: a run of traces.py, where no task moves, with the turns that its lines imply, in the order of time
+and one thread after another; and tasks that begin on one thread and go on on another, whose later turns
+stand first. Callgrind counts what each call takes with all that it calls, so the figures are the same on a
+busy machine; the test has no symbol of its own, and is what `told_rising` of stopwatch takes.
 """
 
 import os
+import re
 import subprocess
 import sys
+import tempfile
 
-from bench import TOP
+from common import ORDERS, STOPWATCH, numbers_of, peak, row, table, write_lines
+from turn_files import moving, run_with_turns
 
-COMMAND = [os.path.join(TOP, "crates", "timing", "out", "timing"), "calls"]
-KINDS = (("enter", 1), ("one-enter", 1), ("look", 10), ("push", 1), ("len", 10))
+CALLS = ("turn_table::turns_of", "gaps::find_gap", "own_order::arrange")
 
 
-def least(kind, calls, threads, runs):
-    """The nanoseconds a call of the quickest run."""
-    command = COMMAND + [kind, str(calls // threads), str(threads)]
-    times = (subprocess.run(command, capture_output=True, check=True, text=True) for _ in range(runs))
-    return min(int(run.stdout) for run in times)
+def counted(word, function, path):
+    """The instructions of the function while stopwatch does what the word says, and of all that it calls."""
+    command = ["valgrind", "--tool=callgrind", "--callgrind-out-file=/dev/null",
+               f"--toggle-collect=*{function}*", STOPWATCH, word]
+    with open(path, "rb") as source:
+        run = subprocess.run(command, stdin=source, stdout=subprocess.DEVNULL, stderr=subprocess.PIPE,
+                             check=True)
+    count = int(re.search(r"Collected : ([0-9]+)", run.stderr.decode())[1])
+    if not count:
+        sys.exit(f"{function} is not among the functions that Valgrind counted: was it put into its caller?")
+    return count
 
 
 def main():
-    calls, runs = ([int(word) for word in sys.argv[1:]] + [200_000, 5][len(sys.argv) - 1:])[:2]
-    print("| Threads | `enter` | alone | its share | `look` | mutex: `push` | mutex: `len` |")
-    print("|---|---|---|---|---|---|---|")
-    for threads in (1, 2, 4, 8):
-        times = (least(kind, factor * calls, threads, runs) for kind, factor in KINDS)
-        enter, alone, look, push, count = times
-        share = 100 * alone / enter
-        print(f"| {threads} | {enter:,} | {alone:,} | {share:.0f} % | {look:,} | {push:,} | {count:,} |", flush=True)
+    size = (numbers_of(sys.argv[1:], __doc__) or [2**20])[0]
+    files = [(f"no task moves, {title}", lambda order=order: run_with_turns(size, order))
+             for title, order in ORDERS]
+    files.append(("each task moves, later turns first", lambda: moving(size)))
+    table("File", "Records", "`turns_rise`", "`turns_of`", "`find_gap`", "`arrange`", "MB: read",
+          "with the test", "with the own order")
+    with tempfile.TemporaryDirectory() as folder:
+        path = os.path.join(folder, "trace")
+        for name, make in files:
+            lines = make()
+            write_lines(path, lines)
+            count = len(lines) - 1
+            rise = counted("rise", "turns::told_rising", path)
+            each = [rise, *(counted("arrange", call, path) for call in CALLS)]
+            memory = [peak([STOPWATCH, word], path) for word in ("read", "rise", "arrange")]
+            row(name, f"{count:,}", *(f"{one / count:.0f}" for one in each), *(f"{it:.0f}" for it in memory))
 
 
 if __name__ == "__main__":

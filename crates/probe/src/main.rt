@@ -1,61 +1,81 @@
-//! Makes the calls of recorders by commands, for tests. With the words WORK COUNT THREADS it tells how long calls take,
-//! with `program TASKS THREADS SEED [hasty]` it runs a random program and prints its trace, and with
-//! `workers N GATE [REFUSED]` and `blocks N SIZE` it checks and reads a trace file by several workers.
-//! Nothing is promised but safety. Begin at `session`, which says what the commands are; `calls` makes the calls of one
-//! recorder, `tasks` keeps the values of tasks, `answers` notes what recorders and tasks answer, since a call that is
-//! refused for memory must change none of that, and `words` reads words. `program` runs a random program on threads,
-//! whose tasks lie in a `pool`; `times` tells how long calls take. `workers` checks and reads by several workers, which
-//! pass one of the `gates`.
+//! Prints what calls of the libraries answer that the program `taskaudit` does not show, for `tests/`. Nothing is
+//! promised but safety. A word says which calls; most take a trace file or commands on standard input. The calls of
+//! recorders are those of `recorder_probe`.
+//! Begin at `run`. `lines` reads standard input; `again` makes a call that is refused memory once more; each other
+//! module has the calls of one library, or of several workers.
 #![tactic(auto)]
 
-mod answers;
-mod calls;
+mod again;
+mod devices;
+mod edges;
 mod gates;
-mod pool;
-mod program;
-mod session;
-mod tasks;
-mod times;
-mod words;
+mod in_turns;
+mod ledger;
+mod lines;
+mod names;
+mod refusals;
+mod script;
+mod seats;
+mod shared;
+mod shares;
+mod slow;
+mod states;
+mod tables;
+mod threads;
+mod tree;
+mod verdict;
+mod waits;
 mod workers;
 
 use anyhow::{Result, bail};
 use std::env;
-use std::io::Read;
+
+const WORDS: &str =
+    "write, lines, lines_with_turns, scripts, turns, names, tables, shares, states, ledger, \
+     refusals, tree, edges, verdict, counters, waits, seats, shared, devices, workers N GATE [REFUSED] \
+     or blocks N SIZE";
+
+/// Makes the calls that the word names.
+fn run(rt: &HostRuntime, word: &str) -> Result<()> {
+    match word {
+        "write" => lines::rewrite(rt),
+        "lines" => lines::each(rt, lines::HEADER),
+        "lines_with_turns" => lines::each(rt, lines::HEADER_WITH_TURNS),
+        "scripts" => script::each(rt),
+        "turns" => in_turns::of_input(rt),
+        "names" => names::each(rt),
+        "tables" => tables::all(rt),
+        "shares" => shares::each(rt),
+        "states" => states::each(rt),
+        "ledger" => ledger::each(rt),
+        "refusals" => refusals::all(rt),
+        "tree" => tree::of_input(rt),
+        "edges" => edges::of_input(rt),
+        "verdict" => verdict::of_input(rt),
+        "counters" => verdict::counters_of_input(rt),
+        "waits" => waits::each(rt),
+        _ => bail!("the words must be {WORDS}"),
+    }
+}
 
 fn main(rt: HostRuntime) -> Result<()> {
     let mut words = env::args(&rt)?;
     let _program = words.next();
-    if let Some(work) = words.next() {
-        let (Some(first), Some(second)) = (words.next(), words.next()) else {
-            bail!(
-                "the words are WORK COUNT THREADS, program TASKS THREADS SEED [hasty], workers N GATE [REFUSED] \
-                 or blocks N SIZE"
-            );
-        };
-        return match (work.as_str(), words.next()) {
-            ("workers", None) => workers::decided(&rt, first.parse()?, second.as_str(), ""),
-            ("workers", Some(refused)) => workers::decided(
-                &rt,
-                first.parse()?,
-                second.as_str(),
-                refused.as_str(),
-            ),
-            ("blocks", _) => workers::rewritten(&rt, first.parse()?, second.parse()?),
-            ("program", Some(seed)) => {
-                let is_hasty = words.next().is_some();
-                program::run(
-                    &rt,
-                    first.parse()?,
-                    second.parse()?,
-                    seed.parse()?,
-                    is_hasty,
-                )
-            }
-            (work, _) => times::timed(&rt, work, first.parse()?, second.parse()?),
-        };
+    let Some(word) = words.next() else {
+        bail!("the words must be {WORDS}");
+    };
+    match (word.as_str(), words.next(), words.next()) {
+        ("shared", ..) => shared::each(&rt),
+        ("seats", ..) => seats::each(&rt),
+        ("devices", ..) => devices::all(&rt, &lines::input(&rt)?),
+        ("workers", Some(count), Some(gate)) => {
+            let refused = words.next();
+            let refused = refused.as_deref().unwrap_or("");
+            workers::decided(&rt, count.parse()?, gate.as_str(), refused)
+        }
+        ("blocks", Some(count), Some(size)) => {
+            workers::rewritten(&rt, count.parse()?, size.parse()?)
+        }
+        (word, ..) => run(&rt, word),
     }
-    let mut text = String::new(rt.alloc());
-    rt.reader().read_to_string(&mut text)?;
-    session::each(&rt, text.as_str())
 }

@@ -1,0 +1,54 @@
+#!/usr/bin/env python3
+"""recorder_calls.py [CALLS [RUNS]]: how many nanoseconds does a call of a recorder take, and how many bytes
+a record?
+
+Runs 1, 2, 4 and 8 threads that share a ledger. Each thread of `stopwatch` makes CALLS calls (200,000): it
+creates tasks; switches to a task and back; creates a task, switches to it, and the task is complete; begins
+and ends a taskwait. `list` puts the records of creations into one list behind a mutex, with no recorder. A
+complete task is what the three calls take more than a creation and a switch. The least of RUNS runs (5).
+Bytes are those that the process takes more at its peak for twice as many calls.
+"""
+
+import sys
+
+from common import STOPWATCH, numbers_of, row, table, timed
+
+# So many pieces of the work tell the bytes.
+MANY = 2**19
+# How many records each piece of the work makes.
+RECORDS = {"create": 1, "switch": 2, "finish": 3, "region": 2, "list": 1}
+
+
+def run(work, pieces, threads):
+    """The nanoseconds a piece of the work, and the peak of the process in bytes."""
+    _, memory, text = timed([STOPWATCH, work, str(pieces), str(threads)])
+    return int(text), memory * 2**20
+
+
+def least(work, pieces, threads, runs):
+    """The nanoseconds a piece of the quickest run."""
+    return min(run(work, pieces, threads)[0] for _ in range(runs))
+
+
+def bytes_of(work):
+    """The bytes a record: what twice as many records take more. Before it runs, a process has the size of
+    this one."""
+    more = run(work, 2 * MANY, 1)[1] - run(work, MANY, 1)[1]
+    return more / (RECORDS[work] * MANY)
+
+
+def main():
+    numbers = numbers_of(sys.argv[1:], __doc__, 2)
+    calls, runs = numbers + [200_000, 5][len(numbers):]
+    table("Threads", "create", "switch", "complete", "region begin and end", "list behind a mutex")
+    for threads in (1, 2, 4, 8):
+        times = {work: least(work, calls, threads, runs) for work in RECORDS}
+        switch = times["switch"] // 2
+        complete = times["finish"] - times["create"] - switch
+        figures = (times["create"], switch, complete, times["region"], times["list"])
+        row(str(threads), *(f"{it:,}" for it in figures))
+    print("\nBytes a record:", ", ".join(f"{work} {bytes_of(work):.0f}" for work in RECORDS))
+
+
+if __name__ == "__main__":
+    main()

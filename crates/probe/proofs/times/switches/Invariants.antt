@@ -1,6 +1,0 @@
-use Rattle.std.proofs.Common.{◌≡◌}
-use Rattle.probe.proofs.times.switches.Given as goal
-
--- the recorder stays at its ledger
-abbrev pub invariant-switches : goal.invariant-switches
-invariant-switches g l = l.recorder.ledger ≡ l.initial.recorder.ledger

@@ -1,0 +1,140 @@
+//! Standard input as lines and as traces, and what single lines stand for.
+use anyhow::{Result, bail};
+use certificate::{FromRead, ReadFault, ToWrite, read, write};
+use memchr::memchr;
+use ompt_events::Trace;
+use std::alloc::Global;
+use std::io;
+use std::io::Read;
+
+/// The first line of a trace file of version 1.
+pub const HEADER: &str = "{\"format\":\"task-credit-audit\",\"version\":1}\n";
+
+/// The first line of a trace file of version 2.
+pub const HEADER_WITH_TURNS: &str = "{\"format\":\"task-credit-audit\",\"version\":2}\n";
+
+/// Standard input to its end.
+pub fn input(rt: &HostRuntime) -> Result<Vec<u8>> {
+    let mut bytes = Vec::new(rt.alloc());
+    rt.reader().read_to_end(&mut bytes)?;
+    Ok(bytes)
+}
+
+/// Standard input to its end, as text.
+pub fn text_of_input(rt: &HostRuntime) -> Result<String> {
+    let mut text = String::new(rt.alloc());
+    rt.reader().read_to_string(&mut text)?;
+    Ok(text)
+}
+
+/// The trace that stands on standard input.
+pub fn trace_of_input(rt: &HostRuntime) -> Result<Trace> {
+    trace_of(rt.alloc(), input(rt)?.as_slice())
+}
+
+/// Reads the records of standard input, and writes them to standard output.
+pub fn rewrite(rt: &HostRuntime) -> Result<()> {
+    let trace = read(rt.alloc(), &mut FromRead::new(rt.reader()))?;
+    write(rt.alloc(), &trace, &mut ToWrite::new(io::writer(rt)))?;
+    Ok(())
+}
+
+/// The traces of the files that stand one after another on standard input.
+pub fn traces_of_input(rt: &HostRuntime) -> Result<Vec<Trace>> {
+    let bytes = input(rt)?;
+    let mut traces = Vec::new(rt.alloc());
+    let mut file: Vec<u8> = Vec::new(rt.alloc());
+    for line in lines_of(rt.alloc(), &bytes)?.iter() {
+        if is_header(*line) && !file.is_empty() {
+            traces.push(trace_of(rt.alloc(), file.as_slice())?)?;
+            file.clear();
+        }
+        file.extend_from_slice(*line)?;
+        file.push(b'\n')?;
+    }
+    traces.push(trace_of(rt.alloc(), file.as_slice())?)?;
+    Ok(traces)
+}
+
+/// Whether the line is the first one of a file.
+fn is_header(line: &[u8]) -> bool {
+    line == HEADER.trim_ascii_end().as_bytes()
+        || line == HEADER_WITH_TURNS.trim_ascii_end().as_bytes()
+}
+
+/// The trace of a file.
+fn trace_of(alloc: Global, file: &[u8]) -> Result<Trace> {
+    match read(alloc, &mut FromRead::new(file)) {
+        Ok(trace) => Ok(trace),
+        Err(fault) => bail!("{}", told(alloc, fault)?),
+    }
+}
+
+/// The first part of the bytes that this byte ends, without it, and the bytes after it; none where no such byte is left.
+fn split_part(bytes: &[u8], end: u8) -> Option<(&[u8], &[u8])> {
+    let at = memchr(end, bytes)?;
+    if at >= bytes.len() {
+        return None;
+    }
+    Some((&bytes[..at], &bytes[at + 1..]))
+}
+
+/// The parts that this byte ends, without it.
+pub fn parts_of(alloc: Global, bytes: &[u8], end: u8) -> Result<Vec<&[u8]>> {
+    let mut parts = Vec::new(alloc);
+    let mut rest = bytes;
+    for _ in 0..u64::MAX {
+        let Some((part, behind)) = split_part(rest, end) else {
+            break;
+        };
+        parts.push(part)?;
+        rest = behind;
+    }
+    Ok(parts)
+}
+
+/// The lines that a line feed ends, without it.
+pub fn lines_of(alloc: Global, bytes: &[u8]) -> Result<Vec<&[u8]>> {
+    parts_of(alloc, bytes, b'\n')
+}
+
+/// For each line of standard input, as line 2 of a file with this header: the line that is written of its
+/// record, or the fault.
+pub fn each(rt: &HostRuntime, header: &str) -> Result<()> {
+    let bytes = input(rt)?;
+    for line in lines_of(rt.alloc(), &bytes)?.iter() {
+        let answer = written(rt.alloc(), header, *line)?;
+        println!(rt; "{answer}")?;
+    }
+    Ok(())
+}
+
+/// The line that is written of the record that the line stands for, or the fault.
+fn written(alloc: Global, header: &str, line: &[u8]) -> Result<String> {
+    let mut file = Vec::from_slice(alloc, header.as_bytes())?;
+    file.extend_from_slice(line)?;
+    file.push(b'\n')?;
+    match read(alloc, &mut FromRead::new(file.as_slice())) {
+        Ok(trace) => {
+            let mut text = Vec::new(alloc);
+            write(alloc, &trace, &mut ToWrite::new(&mut text))?;
+            Ok(last_line(alloc, &text)?)
+        }
+        Err(fault) => Ok(told(alloc, fault)?),
+    }
+}
+
+/// The second line of the text.
+fn last_line(alloc: Global, text: &[u8]) -> Result<String> {
+    let lines = lines_of(alloc, text)?;
+    let line = lines.get(1).copied().unwrap_or(b"".as_slice());
+    Ok(String::from_utf8_lossy(alloc, line)?)
+}
+
+/// The fault with its line, number and name.
+pub fn told(alloc: Global, fault: ReadFault) -> Result<String> {
+    let number = fault.cause.number();
+    let name = fault.cause.name();
+    let line = fault.line;
+    Ok(format!(in alloc; "line {line}: {number} {name}")?)
+}

@@ -1,0 +1,77 @@
+//! What the calls on a trace answer, the order of a yes among them, and the orders that leave a task incomplete.
+ghost use Rattle.std.specs.Prelude.{◌≡◌};
+
+use crate::again::again;
+use crate::lines::trace_of_input;
+use anyhow::Result;
+use checker::{Order, Verdict, check, counter_order};
+use ompt_events::Trace;
+use std::alloc::{AllocError, Global};
+use task_states::{gap, target};
+
+/// Prints the answers of the calls on the trace of standard input.
+pub fn of_input(rt: &HostRuntime) -> Result<()> {
+    of_trace(rt, &trace_of_input(rt)?)
+}
+
+/// Prints the answers of the calls on the trace.
+fn of_trace(rt: &HostRuntime, trace: &Trace) -> Result<()> {
+    let gap = gap(trace);
+    let target = target(trace);
+    println!(rt; "gap {gap:?}, target {target:?}")?;
+    let verdict = again!(rt, _, check(rt.alloc(), trace))?;
+    tell(rt, &verdict)
+}
+
+/// Prints the verdict, of a yes the places in its order.
+fn tell(rt: &HostRuntime, verdict: &Verdict) -> Result<()> {
+    match verdict {
+        Verdict::Yes { order } => {
+            let places = places_of(rt.alloc(), order)?;
+            println!(rt; "yes, order {places:?}")?;
+        }
+        other => println!(rt; "{other:?}")?,
+    }
+    Ok(())
+}
+
+/// Prints, for each record of the trace on standard input and one past the last, and for each task that it
+/// creates, the order that leaves the task incomplete there, where there is one.
+pub fn counters_of_input(rt: &HostRuntime) -> Result<()> {
+    let trace = trace_of_input(rt)?;
+    for at in 0..trace.records().len() + 1 {
+        counters_at(rt, &trace, at)?;
+    }
+    Ok(())
+}
+
+/// Prints those at one record.
+fn counters_at(rt: &HostRuntime, trace: &Trace, at: usize) -> Result<()> {
+    for event in trace.records() {
+        if let Some(task) = event.body.created() {
+            counter_at(rt, trace, at, task)?;
+        }
+    }
+    Ok(())
+}
+
+/// Prints that of one task, where there is one.
+fn counter_at(rt: &HostRuntime, trace: &Trace, at: usize, task: u64) -> Result<()> {
+    let counter = again!(rt, _, counter_order(rt.alloc(), trace, at, task))?;
+    if let Some(order) = counter {
+        let places = places_of(rt.alloc(), &order)?;
+        println!(rt; "at {at}, task {task}: {places:?}")?;
+    }
+    Ok(())
+}
+
+/// The places in the order, the earliest first.
+fn places_of(alloc: Global, order: &Order) -> Result<Vec<usize>, AllocError> {
+    let mut places = Vec::with_capacity(alloc, order.len())?;
+    for before in 0..order.len() {
+        if let Some(place) = order.place_at(before) {
+            places.push(place)?;
+        }
+    }
+    Ok(places)
+}

@@ -1,0 +1,53 @@
+//! What each wait of a trace covers, by the trace's ledger.
+ghost use Rattle.std.specs.Prelude.{◌<◌, All, IfOk};
+
+use crate::layers::trace_of_input;
+use anyhow::{Result, bail};
+use credit_ledger::Ledger;
+use std::alloc::{AllocError, Global};
+use task_states::run;
+use task_tree::Tree;
+use trace_ledger::ledger_of;
+use wait_coverage::Coverage;
+
+/// Makes the coverage and the ledger of the trace on standard input. If `searched`, also asks for the open
+/// task of each end.
+pub fn of_input(rt: &HostRuntime, searched: bool) -> Result<()> {
+    let trace = trace_of_input(rt)?;
+    let Ok(tree) = Tree::build(rt.alloc(), &trace) else {
+        bail!("no tree");
+    };
+    let Ok(states) = run(rt.alloc(), &trace, &tree) else {
+        bail!("no states");
+    };
+    let coverage = Coverage::build(rt.alloc(), &trace, &tree, &states)?;
+    let ledger = ledger_of(rt.alloc(), states.run())?;
+    if searched {
+        of_ends(rt, &coverage, &ledger)
+    } else {
+        let (ends, entries) = (coverage.ends().len(), ledger.len());
+        println!(rt; "{ends} ends, {entries} entries")?;
+        Ok(())
+    }
+}
+
+/// Prints how many of all ends are open.
+fn of_ends(rt: &HostRuntime, coverage: &Coverage, ledger: &Ledger) -> Result<()> {
+    let ends = coverage.ends().len();
+    let all = numbers_below(rt.alloc(), ends)?;
+    let found = coverage.first_open_all(all.as_slice(), ledger)?;
+    let open = found.iter().filter(|task| task.is_some()).count();
+    println!(rt; "{open} of {ends} ends are open")?;
+    Ok(())
+}
+
+/// Returns the numbers below this one.
+fn numbers_below(alloc: Global, count: usize) -> Result<Vec<usize>, AllocError>
+    ensures { IfOk result (λ numbers. All (λ number. number < count) numbers.items) }
+{
+    let mut numbers = Vec::with_capacity(alloc, count)?;
+    for number in 0..count {
+        numbers.push(number)?;
+    }
+    Ok(numbers)
+}
