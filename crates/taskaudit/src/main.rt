@@ -12,6 +12,7 @@ mod record;
 mod report;
 mod telling;
 mod upgrading;
+mod version;
 mod words;
 mod work;
 
