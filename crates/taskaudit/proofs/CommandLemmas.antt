@@ -1,5 +1,5 @@
 -- What clap makes of words for the command line.
-use Rattle.std.proofs.Common.{◌≡◌, ◌∙◌, ap, sym, arith, ℕ, cond, subst, Result, Ok, Err, true, false, inl, inr, Bool, List, [], Option, Some, None, refl, is_some, codes, option_map, option_and_then, cond}
+use Rattle.std.proofs.Common.{◌≡◌, ◌∙◌, ap, sym, arith, ℕ, cond, subst, Result, Ok, Err, true, false, inl, inr, Bool, List, [], ◌∷◌, Option, Some, None, refl, is_some, codes, option_map, option_and_then, cond}
 use Rattle.std.specs.Prelude.{IfSome}
 use Rattle.std.specs.Option.{option_map_or}
 use Rattle.std.specs.Str.{bytes_eq}

@@ -1,5 +1,5 @@
 -- What a run does on words that ask for the version alone.
-use Rattle.std.proofs.Common.{◌≡◌, ◌≢◌, ◌∙◌, ap, sym, subst, arith, ℕ, false, List, [], ◌∷◌, inl, inr, Option, Some, None, Result, Ok, Err, option_and_then}
+use Rattle.std.proofs.Common.{◌≡◌, ◌≢◌, ◌∙◌, ap, sym, subst, arith, ℕ, false, List, [], ◌∷◌, inl, inr, Option, None, Result, Ok, Err, option_and_then}
 use Rattle.std.specs.Prelude.{IfOk, IfErr}
 use Rattle.clap.specs.Words.{HasKind, Kinds, Text, kind_of, subcommand_of}
 use Rattle.clap.specs.declared.error.Error.{Error}
@@ -53,7 +53,7 @@ words_told made error _ kinds (wrong other status it) = absurd (status (ap usage
 words_told made error _ kinds (unwritten {fault = fault} status (version is tried) told) = unwritten_told made fault tried told
 words_told made error _ (inl memory) (unwritten status (said not_this tried) told) =
     let never : 5 ≡ 0 = sym (ap usage_status_of memory) ∙ status in
-    absurd (omega arith)
+    absurd (omega (arith, never))
 words_told made error _ (inr (inl is)) (unwritten status (said not_this tried) told) = absurd (not_this is)
 words_told made error _ (inr (inr never)) (unwritten status (said not_this tried) told) = absurd never
 words_told made error _ kinds (out_of_memory {fault = fault} memory told) = memory_told made fault told
@@ -61,9 +61,9 @@ words_told made error _ kinds (out_of_memory {fault = fault} memory told) = memo
 pub version_shown : (made : Call → Type 0) (words : List Text) → AsksVersion words
     → (bytes old new : Option (List ℕ)) (ending : Result Done Refusal) → IfOk ending (DoesAsked words bytes old new)
     → IfErr ending (IsRefused words bytes old new) → (status : ℕ) → Ends made ending status → ShowsVersion made status
-version_shown made words asks bytes old new (Ok done) does refused status ends = absurd (no_job words asks does.0 does.1.0)
+version_shown made words asks bytes old new (Ok done) does refused status ends = absurd (no_job words asks does.0 does.1)
 version_shown made words asks bytes old new (Err NotText) does refused status ends = absurd refused
-version_shown made words asks bytes old new (Err (Audit fault)) does refused status ends = absurd (no_job words asks refused.0 refused.1.0)
-version_shown made words asks bytes old new (Err (Words error)) does refused status (told, ((refusal, (is, by)), ended)) =
+version_shown made words asks bytes old new (Err (Audit fault)) does refused status ends = absurd (no_job words asks refused.0 refused.1)
+version_shown made words asks bytes old new (Err (Words error)) does refused status ends =
     let kinds = subst (λ (them : Kinds). HasKind them error) (shows_version words asks) refused.0 in
-    subst (ShowsVersion made) (sym (ended ∙ ap exit_status_of is)) (words_told made error refusal kinds by)
+    subst (ShowsVersion made) (sym (ends.2 ∙ ap exit_status_of ends.1.1)) (words_told made error ends.1.0 kinds ends.1.2)
