@@ -157,21 +157,21 @@ fn creates(flags: TaskFlags) -> Record {
     })
 }
 
-fn cancels(flags: CancelFlags, share: Option<Claim>) -> Record {
+fn cancels(flags: CancelFlags, claim: Option<Claim>) -> Record {
     record(Body::Cancel {
         flags,
         task: 1,
-        share,
+        claim,
     })
 }
 
-fn stops(status: Status, share: Option<Claim>) -> Record {
+fn stops(status: Status, claim: Option<Claim>) -> Record {
     record(Body::TaskSchedule {
         status,
         turns: None,
         prior: 2,
         next: Some(1),
-        share,
+        claim,
     })
 }
 
@@ -181,6 +181,6 @@ fn schedules(status: Status, turns: Option<Turns>, next: Option<u64>) -> Record 
         turns,
         prior: 2,
         next,
-        share: None,
+        claim: None,
     })
 }

@@ -1,5 +1,5 @@
 -- What clap makes of words for the command line.
-use Rattle.std.proofs.Common.{◌≡◌, ◌∙◌, ap, sym, arith, ℕ, cond, subst, Result, Ok, Err, true, false, inl, inr, Bool, List, [], Option, Some, None, refl, is_some, codes, option_map, option_and_then, cond}
+use Rattle.std.proofs.Common.{◌≡◌, ◌∙◌, ap, sym, arith, ℕ, cond, subst, Result, Ok, Err, true, false, inl, inr, Bool, List, [], ◌∷◌, Option, Some, None, refl, is_some, codes, option_map, option_and_then, cond}
 use Rattle.std.specs.Prelude.{IfSome}
 use Rattle.std.specs.Option.{option_map_or}
 use Rattle.std.specs.Str.{bytes_eq}
@@ -22,8 +22,9 @@ use Rattle.clap.specs.declared.builder.command.Command.{Command}
 use Rattle.clap.specs.declared.builder.command.Command.TheViews.{out-Command}
 use Rattle.clap.specs.declared.parser.matches.ArgMatches.{ArgMatches}
 use Rattle.clap.proofs.OnLiterals.{clap_on_literals}
+use Rattle.clap.specs.declared.error.kind.ErrorKind.TheVariants.{DisplayVersion}
 use Rattle.taskaudit.specs.declared.work.Job.{Job}
-use Rattle.taskaudit.specs.Commands.{command_line, check_by, number_of, job_named, AsksFor, HasFewWorkers}
+use Rattle.taskaudit.specs.Commands.{command_line, check_by, number_of, job_named, AsksFor, AsksVersion, HasFewWorkers}
 use Rattle.taskaudit.proofs.WorkersLemmas.{no_first, no_second, workers_fit}
 
 is_simple_line : is_simple command_line ≡ true
@@ -34,6 +35,12 @@ is_simple_line = refl
 pub is_free_line : (a : App) → a ≡ command_line → is_simple_and_free a ≡ true
 unfolding command_line clap_on_literals
 is_free_line a e = ap is_simple_and_free e
+
+-- words that ask for the version alone fail as that
+pub shows_version : (words : List Text) → AsksVersion words → fault_of command_line words ≡ DisplayVersion ∷ []
+unfolding command_line clap_on_literals
+shows_version words (name, inl e) = ap (fault_of command_line) e
+shows_version words (name, inr e) = ap (fault_of command_line) e
 
 -- what fails where the words after the subcommand are read
 abbrev own_fault : Shape → List Text → Kinds

@@ -1,5 +1,6 @@
 pub mod CommandLemmas
 mod WorkersLemmas
+mod VersionLemmas
 mod CountLemmas
 mod PlaceLemmas
 mod HeadlineLemmas

@@ -1,5 +1,5 @@
 -- The command line, in clap's terms.
-use Rattle.std.specs.Prelude.{◌≡◌, ◌≤◌, ℕ, ⊤, true, false, pos, List, [], ◌∷◌, Option, Some, None, codes, option_and_then, if◌then◌else◌}
+use Rattle.std.specs.Prelude.{◌≡◌, ◌≤◌, ◌⊎◌, ℕ, ⊤, true, false, pos, List, [], ◌∷◌, Option, Some, None, codes, option_and_then, if◌then◌else◌}
 use Rattle.std.specs.Str.{bytes_eq}
 use Rattle.std.specs.Str.Parse.{digits_value, without_leading_plus}
 use Rattle.clap.specs.Words.{App, Row, Rule, Text, new_app, new_rule, one_of, subcommand_of, with_rule}
@@ -22,18 +22,24 @@ workers_rule = record (new_rule (codes "workers")) {
 abbrev pub check_app : App
 check_app = with_rule (new_app (codes "check")) workers_rule
 
--- what clap reads of the command: it wants a subcommand, of which there are four, and `check` alone has an
+-- what clap reads of the command: it has a version, and wants a subcommand, of which there are four, and `check` alone has an
 -- option
 unfoldable pub command_line : App
 command_line = record {
   top = record (new_app (codes "taskaudit")).top {
     is_leaf = false;
+    has_version = true;
     subcommand_required = true;
     disable_help_subcommand = true;
   };
   subs = check_app.top ∷ (new_app (codes "order")).top
       ∷ (new_app (codes "record")).top ∷ (new_app (codes "upgrade")).top ∷ [];
 }
+
+-- behind the name of the program stands what asks for the version, and nothing else
+abbrev pub AsksVersion : List Text → Type 0
+AsksVersion words = (name : Text)
+    × ((words ≡ name ∷ codes "--version" ∷ []) ⊎ (words ≡ name ∷ codes "-V" ∷ []))
 
 -- the number that the digits of a value write; a plus may stand before them
 abbrev pub number_of : Text → ℕ

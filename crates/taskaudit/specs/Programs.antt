@@ -1,8 +1,11 @@
 -- The program, from the words of its command line to its exit status.
-use Rattle.std.specs.Prelude.{◌≡◌, ℕ, List, Option, Result, Ok, Err, IfOk, IfErr}
+use Rattle.std.specs.Prelude.{◌≡◌, ℕ, true, false, List, Option, Result, Ok, Err, IfOk, IfErr}
 use Rattle.std.specs.Io.KnownBytes.{Keeps}
 use Rattle.clap.specs.Words.{Text, fault_of, HasKind}
+use Rattle.certificate.specs.declared.faults.WriteFault.TheVariants.{Device}
+use Rattle.taskaudit.specs.declared.version.TheConstants.{VERSION_TEXT}
 use Rattle.taskaudit.specs.declared.work.AuditFault.{AuditFault}
+use Rattle.taskaudit.specs.declared.work.AuditFault.TheVariants as fault
 use Rattle.taskaudit.specs.declared.work.Done.{Done}
 use Rattle.taskaudit.specs.declared.work.Done.TheVariants.{Judged, Written}
 use Rattle.taskaudit.specs.declared.work.Job.{Job}
@@ -13,8 +16,9 @@ use Rattle.taskaudit.specs.declared.work.Shown.TheVariants as shown
 use Rattle.taskaudit.specs.Audits.{Reports, Leaves}
 use Rattle.taskaudit.specs.Commands.{command_line, AsksFor}
 use Rattle.taskaudit.specs.Recordings.{Records, LeavesRecording}
+use Rattle.taskaudit.specs.Reports.{fault_text_of}
 use Rattle.taskaudit.specs.Statuses.{exit_status_of}
-use Rattle.taskaudit.specs.Tellings.{Call, IsTold}
+use Rattle.taskaudit.specs.Tellings.{Call, IsTold, print, write}
 use Rattle.taskaudit.specs.Upgradings.{Upgrades, LeavesUpgrade}
 
 -- the job was done: a verdict was reported, or a trace was written
@@ -63,3 +67,11 @@ pub record Runs (made : Call → Type 0) (words : Result (List Text) Refusal) (b
   pub ending : Result Done Refusal
   pub served : IsServed words bytes old new ending
   pub ended : Ends made ending status
+
+-- what a run does where the words ask for the version: its text is written, with status 0; or it is not, which is
+-- told, with status 3; or memory ran out, which is told, with status 5
+pub data ShowsVersion (made : Call → Type 0) : ℕ → Type 0 where
+  version_written : made (write VERSION_TEXT.now true) → ShowsVersion made 0
+  version_unwritten : made (write VERSION_TEXT.now false) → made (print (fault_text_of (fault.Write Device)))
+      → ShowsVersion made 3
+  no_memory : made (print (fault_text_of fault.Memory)) → ShowsVersion made 5

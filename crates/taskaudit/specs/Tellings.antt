@@ -2,13 +2,14 @@
 use Rattle.std.specs.Prelude.{◌≡◌, ◌≢◌, ℕ, Bool, true, false, List, Result, Ok, Err, codes}
 use Rattle.clap.specs.Words.{kind_of}
 use Rattle.clap.specs.declared.error.Error.{Error}
-use Rattle.clap.specs.declared.error.kind.ErrorKind.TheVariants.{OutOfMemory}
+use Rattle.clap.specs.declared.error.kind.ErrorKind.TheVariants.{DisplayVersion, OutOfMemory}
 use Rattle.certificate.specs.declared.faults.WriteFault.TheVariants.{Device}
 use Rattle.taskaudit.specs.declared.work.AuditFault.{AuditFault}
 use Rattle.taskaudit.specs.declared.work.AuditFault.TheVariants.{Memory, Write}
 use Rattle.taskaudit.specs.declared.work.Done.{Done}
 use Rattle.taskaudit.specs.declared.work.Refusal.{Refusal}
 use Rattle.taskaudit.specs.declared.work.Refusal.TheVariants.{NotText, Words, Audit}
+use Rattle.taskaudit.specs.declared.version.TheConstants.{VERSION_TEXT}
 use Rattle.taskaudit.specs.Reports.{fault_text_of}
 use Rattle.taskaudit.specs.Statuses.{usage_status_of}
 
@@ -18,6 +19,8 @@ pub data Call : Type 0 where
   text_of : AuditFault → Bool → Call
   -- to show what clap says of the words: whether it is written
   show : Error → Bool → Call
+  -- to write these bytes on standard output: whether they are written
+  write : List ℕ → Bool → Call
   -- to print these bytes on standard error
   print : List ℕ → Call
 
@@ -29,15 +32,23 @@ pub data IsToldFault (made : Call → Type 0) : AuditFault → AuditFault → Ty
   without_text : {fault : AuditFault} → made (text_of fault false) → made (print (fault_text_of Memory))
       → IsToldFault made fault Memory
 
--- refused words stay what they are, but help that is not written is a fault of writing, and where clap ran out
+-- what is shown of refused words, and whether it is written: the text of the version where it is asked for, and
+-- else what clap says of the words
+pub data IsShown (made : Call → Type 0) : Error → Bool → Type 0 where
+  version : {error : Error} {written : Bool} → kind_of error ≡ DisplayVersion
+      → made (write VERSION_TEXT.now written) → IsShown made error written
+  said : {error : Error} {written : Bool} → kind_of error ≢ DisplayVersion → made (show error written)
+      → IsShown made error written
+
+-- refused words stay what they are, but help or a version that is not written is a fault of writing, and where clap ran out
 -- of memory that is told
 pub data IsToldWords (made : Call → Type 0) : Error → Refusal → Type 0 where
-  shown : {error : Error} → kind_of error ≢ OutOfMemory → made (show error true)
+  shown : {error : Error} → kind_of error ≢ OutOfMemory → IsShown made error true
       → IsToldWords made error (Words error)
   wrong : {error : Error} → kind_of error ≢ OutOfMemory → usage_status_of (kind_of error) ≢ 0
-      → made (show error false) → IsToldWords made error (Words error)
+      → IsShown made error false → IsToldWords made error (Words error)
   unwritten : {error : Error} {fault : AuditFault} → usage_status_of (kind_of error) ≡ 0
-      → made (show error false) → IsToldFault made (Write Device) fault
+      → IsShown made error false → IsToldFault made (Write Device) fault
       → IsToldWords made error (Audit fault)
   out_of_memory : {error : Error} {fault : AuditFault} → kind_of error ≡ OutOfMemory
       → IsToldFault made Memory fault → IsToldWords made error (Audit fault)

@@ -2,7 +2,7 @@
 //! it was allowed to. Read `audit` first (`auditing.rt`): its clause `reports` is the headline; then `record`
 //! (`record.rt`), which writes a trace, and `upgrade` (`upgrading.rt`), which writes one in version 2. Then
 //! `run` (`program.rt`), from the words of the command line to the exit status, `tell` (`telling.rt`) and the
-//! texts (`report.rt`, and `order.rt` for an order).
+//! texts (`report.rt`, `order.rt` for an order, and `version.rt` for the version).
 #![tactic(auto)]
 
 mod auditing;
@@ -12,6 +12,7 @@ mod record;
 mod report;
 mod telling;
 mod upgrading;
+mod version;
 mod words;
 mod work;
 

@@ -2,7 +2,8 @@
 ghost use Rattle.std.specs.Prelude.{◌≡◌, ◌≤◌, map, IfOk, IfErr};
 ghost use Rattle.std.specs.Result.{result_map_both};
 ghost use Rattle.taskaudit.specs.Audits.{Reports, Leaves};
-ghost use Rattle.taskaudit.specs.Programs.{DoesAsked, IsRefused, Ends, Runs};
+ghost use Rattle.taskaudit.specs.Commands.{AsksVersion};
+ghost use Rattle.taskaudit.specs.Programs.{DoesAsked, IsRefused, Ends, Runs, ShowsVersion};
 ghost use Rattle.taskaudit.specs.Statuses.{exit_status_of};
 
 use crate::auditing::{Crew, audit, audit_on, audit_order};
@@ -29,9 +30,13 @@ pub fn run<S: AsStr + Drop, C: Console + Threads + Wait + Sync, I: Source, O: Si
     source: &mut I,
     sink: &mut O,
 ) -> u8
-    ensures { Runs (C.made console.now)
+    ensures runs { Runs (C.made console.now)
         (result_map_both (λ list. map S.text list.items) (λ refusal. refusal) words)
         (I.remaining source.old) (O.contents sink.old) (O.contents sink.new) result }
+
+    // `--version` or `-V` alone writes the text of the version, with status 0.
+    ensures version { IfOk words (λ list. AsksVersion (map S.text list.items)
+        → ShowsVersion (C.made console.now) result) }
 {
     match words {
         Ok(words) => end(

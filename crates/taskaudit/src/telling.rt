@@ -1,16 +1,17 @@
 //! Telling why there is no verdict or no trace.
 ghost use Rattle.std.specs.Prelude.{◌≡◌, IfSome, is_some, string_bytes};
 ghost use Rattle.taskaudit.specs.Reports.{fault_text_of};
-ghost use Rattle.taskaudit.specs.Tellings.{IsTold, IsToldWords, IsToldFault};
+ghost use Rattle.taskaudit.specs.Tellings.{IsTold, IsToldWords, IsToldFault, IsShown};
 
 use crate::report::{fault_text, usage_status};
+use crate::version::VERSION_TEXT;
 use crate::work::{AuditFault, Done, Refusal};
 use certificate::WriteFault;
 use clap::error::ErrorKind;
 
 /// Where the program tells why there is no verdict or no trace.
 pub trait Console {
-    ghost use Rattle.taskaudit.specs.Tellings.{Call, text_of, show, print};
+    ghost use Rattle.taskaudit.specs.Tellings.{Call, text_of, show, write, print};
 
     /// That such a call was made, and answered so. Only a call gives it, so `tell` can't claim an answer of
     /// a call that it did not make.
@@ -24,6 +25,10 @@ pub trait Console {
     /// Shows what clap says of the words, and says whether that was written.
     fn show(&self, error: &clap::Error) -> bool
         ensures made { made self.now (show error.now result) };
+
+    /// Writes the text on standard output, and says whether it was written.
+    fn write(&self, text: &str) -> bool
+        ensures made { made self.now (write text.now result) };
 
     /// Prints the text on standard error.
     fn print(&self, text: &str)
@@ -39,6 +44,10 @@ impl<R: Print + Eprint + AllocGlobal> Console for R {
 
     fn show(&self, error: &clap::Error) -> bool {
         error.print(self).is_ok()
+    }
+
+    fn write(&self, text: &str) -> bool {
+        self.write_all(text.as_bytes()).is_ok()
     }
 
     fn print(&self, text: &str) {
@@ -62,20 +71,31 @@ pub fn tell<C: Console>(console: &C, ending: Result<Done, Refusal>) -> Result<Do
     }
 }
 
-/// Tells what is wrong with the words, or shows the help that they ask for.
+/// Tells what is wrong with the words, or shows the help or the version that they ask for.
 fn tell_words<C: Console>(console: &C, error: clap::Error) -> Refusal
     ensures { IsToldWords (C.made console.now) error result }
 {
     if error.kind() == ErrorKind::OutOfMemory {
         return Refusal::Audit(tell_fault(console, AuditFault::Memory));
     }
-    if console.show(&error) {
+    if show_words(console, &error) {
         return Refusal::Words(error);
     }
     if usage_status(&error) == 0 {
         return Refusal::Audit(tell_fault(console, AuditFault::Write(WriteFault::Device)));
     }
     Refusal::Words(error)
+}
+
+/// Shows the version where it is asked for, and else what clap says of the words; says whether that was
+/// written.
+fn show_words<C: Console>(console: &C, error: &clap::Error) -> bool
+    ensures { IsShown (C.made console.now) error.now result }
+{
+    if error.kind() == ErrorKind::DisplayVersion {
+        return console.write(VERSION_TEXT);
+    }
+    console.show(error)
 }
 
 /// Tells the fault, or that there is no memory to tell it.

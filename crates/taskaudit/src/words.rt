@@ -1,9 +1,10 @@
 //! The command line.
-ghost use Rattle.std.specs.Prelude.{◌≡◌, true, false, codes, map, IfOk, IfErr, Some, is_some, option_and_then};
-ghost use Rattle.clap.specs.Words.{app_of, rule_of, rows_of, found_of, one_of, shape_of, new_app, fault_of, kind_of, takes, subcommand_rows_of, FailsBy};
+ghost use Rattle.std.specs.Prelude.{◌≡◌, ◌∷◌, [], true, false, codes, map, IfOk, IfErr, IsErrAnd, Some, is_some, option_and_then};
+ghost use Rattle.clap.specs.Words.{app_of, rule_of, rows_of, found_of, one_of, shape_of, new_app, fault_of, kind_of, takes, subcommand_rows_of, FailsBy, HasKind};
 ghost use Rattle.clap.specs.declared.builder.command.Command.TheViews.{out-Command};
-ghost use Rattle.taskaudit.specs.Commands.{command_line, check_app, workers_rule, check_by, job_named, AsksFor, HasFewWorkers};
+ghost use Rattle.taskaudit.specs.Commands.{command_line, check_app, workers_rule, check_by, job_named, AsksFor, AsksVersion, HasFewWorkers};
 
+use crate::version::VERSION_TEXT;
 use crate::work::Job;
 use checker::MAX_WORKERS;
 use clap::error::ErrorKind;
@@ -156,6 +157,10 @@ pub fn job<'a, S: AsStr>(alloc: Global, words: &'a [S]) -> Result<Job, Error>
     ensures passes { IfErr result (λ e. takes command_line (map S.text words.entry.now) ≡ true
         → kind_of e ≡ ErrorKind.OutOfMemory) }
     ensures kinds { FailsBy (fault_of command_line (map S.text words.entry.now)) result }
+
+    // Words that ask for the version alone are answered so, and not as wrong.
+    ensures version { AsksVersion (map S.text words.entry.now)
+        → IsErrAnd result (HasKind (ErrorKind.DisplayVersion ∷ [])) }
 {
     match command(alloc)?.try_get_matches_from(words) {
         // One subcommand is required, so one was met.
@@ -206,6 +211,7 @@ fn command<'a>(alloc: Global) -> Result<Command<'a>, AllocError>
     let recording = plain(alloc, "record", RECORD_ABOUT, RECORD_EXPLANATION);
     let upgrading = plain(alloc, "upgrade", UPGRADE_ABOUT, UPGRADE_EXPLANATION);
     Command::new(alloc, "taskaudit")
+        .version(VERSION_TEXT)
         .about(ABOUT)
         .after_help(EXPLANATION)
         .disable_help_subcommand(true)

@@ -7,6 +7,9 @@ use Rattle.clap.specs.declared.builder.command.Command.TheViews.{out-Command}
 use Rattle.taskaudit.specs.Commands.{command_line}
 use Rattle.taskaudit.proofs.words.command.Goals as goal
 
+abbrev with_version : App → App
+with_version = on_top (λ s. record s { has_version = true })
+
 abbrev without_help : App → App
 without_help = on_top (λ s. record s { disable_help_subcommand = true })
 
@@ -16,9 +19,10 @@ requiring = on_top (λ s. record s { subcommand_required = true })
 pub returns-clause-app : goal.returns-clause-app
 unfolding command_line
 returns-clause-app c =
-    let plain_is : app_of c.after_help.result ≡ new_app (codes "taskaudit") =
-    ap app_of_fields c.after_help.ensures ∙ ap app_of_fields c.about.ensures ∙ c.new.ensures.app in
-    let top_is : app_of c.subcommand_required.result ≡ requiring (without_help (new_app (codes "taskaudit"))) =
+    let plain_is : app_of c.after_help.result ≡ with_version (new_app (codes "taskaudit")) =
+    ap app_of_fields c.after_help.ensures ∙ ap app_of_fields c.about.ensures
+    ∙ ap app_of_fields c.version.ensures ∙ ap with_version c.new.ensures.app in
+    let top_is : app_of c.subcommand_required.result ≡ requiring (without_help (with_version (new_app (codes "taskaudit")))) =
     ap app_of_fields c.subcommand_required.ensures ∙ ap requiring (ap app_of_fields c.disable_help_subcommand.ensures ∙ ap without_help plain_is) in
     let with_check = c.in_ok-subcommand.ensures.shape c.in_ok-check.ensures.local ∙ ap₂ with_subcommand top_is c.in_ok-check.ensures.shape in
     let with_order = c.in_ok-subcommand-2.ensures.shape c.plain-order.ensures.local ∙ ap₂ with_subcommand with_check c.plain-order.ensures.shape in
