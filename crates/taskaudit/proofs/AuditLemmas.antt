@@ -1,5 +1,6 @@
 -- What an audit tells and leaves, once what is shown of a verdict was written or broke off.
-use Rattle.std.proofs.Common.{◌≡◌, ◌∙◌, ℕ, None, arith, List, Option, Result, Ok, Err, IfOk, IfErr, OnOk, take, refl, sym}
+use Rattle.std.proofs.Common.{◌≡◌, ◌∙◌, ℕ, None, arith, List, Option, Result, Ok, Err, IfOk, IfErr, OnOk}
+use Rattle.std.proofs.Common.{take, refl, sym}
 use Rattle.std.specs.Io.KnownBytes.{Appends}
 use Rattle.ompt_events.specs.Traces.{TraceView}
 use Rattle.certificate.specs.declared.faults.WriteFault.TheVariants as write
@@ -15,9 +16,11 @@ use Rattle.taskaudit.specs.Audits.{BreaksOff, IsJudged, IsWriteFault, Leaves, Le
 use Rattle.taskaudit.specs.Reports.{outcome_of}
 use Rattle.taskaudit.proofs.HeadlineLemmas.{synchronised}
 
-module _ (shown : Shown) (bytes old new : Option (List ℕ)) (trace : TraceView) (verdict : Verdict) (text : List ℕ)
+module _ (shown : Shown) (bytes old new : Option (List ℕ)) (trace : TraceView) (verdict : Verdict)
+    (text : List ℕ)
     (judged : IsJudged bytes trace verdict) (printed : Prints shown trace.records verdict text) where
-  pub reports_of : (r : Result Outcome AuditFault) → IfOk r (λ outcome. outcome ≡ outcome_of verdict) → OnOk r (Appends old new text)
+  pub reports_of : (r : Result Outcome AuditFault) → IfOk r (λ outcome. outcome ≡ outcome_of verdict)
+      → OnOk r (Appends old new text)
       → IfOk r (Reports shown bytes old new)
   reports_of (Ok outcome) kind written = record {
     trace = trace;
@@ -42,7 +45,8 @@ module _ (shown : Shown) (bytes old new : Option (List ℕ)) (trace : TraceView)
     written = part;
   }
 
-  leaves_by : (f : AuditFault) → IsWriteFault (λ n. Appends old new (take n text)) f → Leaves shown bytes old new f
+  leaves_by : (f : AuditFault) → IsWriteFault (λ n. Appends old new (take n text)) f
+      → Leaves shown bytes old new f
   leaves_by (Write write.Device) h = breaks_off h.0 h.1
   leaves_by (Write write.Memory) h = absurd h
   leaves_by (Write write.TurnsSpent) h = breaks_off h.0 h.1
@@ -52,14 +56,17 @@ module _ (shown : Shown) (bytes old new : Option (List ℕ)) (trace : TraceView)
   leaves_by (Upgrade line f) h = absurd h
   leaves_by Memory h = absurd h
 
-  pub leaves_of : (r : Result Outcome AuditFault) → IfErr r (IsWriteFault (λ n. Appends old new (take n text)))
+  pub leaves_of : (r : Result Outcome AuditFault)
+      → IfErr r (IsWriteFault (λ n. Appends old new (take n text)))
       → IfErr r (Leaves shown bytes old new)
   leaves_of (Ok outcome) h = tt
   leaves_of (Err f) h = leaves_by f h
 
 -- an audit by workers leaves the same
-pub leaves_on : (workers : ℕ) (may_refuse : ℕ → Type 0) (part : ℕ → Type 0) (bytes old new : Option (List ℕ)) (r : Result Outcome AuditFault)
-    → IfErr r (IsWriteFault part) → IfErr r (Leaves Report bytes old new) → IfErr r (LeavesOn workers may_refuse bytes old new)
+pub leaves_on : (workers : ℕ) (may_refuse : ℕ → Type 0) (part : ℕ → Type 0) (bytes old new : Option (List ℕ))
+    (r : Result Outcome AuditFault)
+    → IfErr r (IsWriteFault part) → IfErr r (Leaves Report bytes old new)
+    → IfErr r (LeavesOn workers may_refuse bytes old new)
 leaves_on workers may_refuse part bytes old new (Ok outcome) wrong h = tt
 leaves_on workers may_refuse part bytes old new (Err (Write f)) wrong h = h
 leaves_on workers may_refuse part bytes old new (Err (Read f)) wrong h = absurd wrong

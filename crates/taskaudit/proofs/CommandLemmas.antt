@@ -1,10 +1,13 @@
 -- What clap makes of words for the command line.
-use Rattle.std.proofs.Common.{◌≡◌, ◌∙◌, ap, sym, arith, ℕ, cond, subst, Result, Ok, Err, true, false, inl, inr, Bool, List, [], ◌∷◌, Option, Some, None, refl, is_some, codes, option_map, option_and_then, cond}
+use Rattle.std.proofs.Common.{◌≡◌, ◌∙◌, ap, sym, arith, ℕ, cond, subst, Result, Ok, Err, true, false, inl}
+use Rattle.std.proofs.Common.{inr, Bool, List, [], ◌∷◌, Option, Some, None, refl, is_some, codes, option_map}
+use Rattle.std.proofs.Common.{option_and_then, cond}
 use Rattle.std.specs.Prelude.{IfSome}
 use Rattle.std.specs.Option.{option_map_or}
 use Rattle.std.specs.Str.{bytes_eq}
 use Rattle.std.proofs.lemmas.Option.{same_Some}
-use Rattle.clap.specs.Words.{App, HasMatchesOf, IsParsedFrom, Shape, Text, app_of, built, fault_of, is_simple, one_of, one_text, ReadsOne, rows_of, subcommand_of, subcommand_rows_of, Row}
+use Rattle.clap.specs.Words.{App, HasMatchesOf, IsParsedFrom, Shape, Text, app_of, built, fault_of, is_simple}
+use Rattle.clap.specs.Words.{one_of, one_text, ReadsOne, rows_of, subcommand_of, subcommand_rows_of, Row}
 use Rattle.clap.specs.Faults.{entered_fault, is_simple_and_free, level_fault, walk_fault}
 use Rattle.clap.specs.Kinds.{Kinds}
 use Rattle.clap.specs.Values.{IsUnsignedIn}
@@ -24,7 +27,8 @@ use Rattle.clap.specs.declared.parser.matches.ArgMatches.{ArgMatches}
 use Rattle.clap.proofs.OnLiterals.{clap_on_literals}
 use Rattle.clap.specs.declared.error.kind.ErrorKind.TheVariants.{DisplayVersion}
 use Rattle.taskaudit.specs.declared.work.Job.{Job}
-use Rattle.taskaudit.specs.Commands.{command_line, check_by, number_of, job_named, AsksFor, AsksVersion, HasFewWorkers}
+use Rattle.taskaudit.specs.Commands.{command_line, check_by, number_of, job_named, AsksFor, AsksVersion}
+use Rattle.taskaudit.specs.Commands.{HasFewWorkers}
 use Rattle.taskaudit.proofs.WorkersLemmas.{no_first, no_second, workers_fit}
 
 is_simple_line : is_simple command_line ≡ true
@@ -37,7 +41,8 @@ unfolding command_line clap_on_literals
 is_free_line a e = ap is_simple_and_free e
 
 -- words that ask for the version alone fail as that
-pub shows_version : (words : List Text) → AsksVersion words → fault_of command_line words ≡ DisplayVersion ∷ []
+pub shows_version : (words : List Text) → AsksVersion words
+    → fault_of command_line words ≡ DisplayVersion ∷ []
 unfolding command_line clap_on_literals
 shows_version words (name, inl e) = ap (fault_of command_line) e
 shows_version words (name, inr e) = ap (fault_of command_line) e
@@ -50,10 +55,21 @@ own_fault s rest = level_fault s [] nothing_held rest false []
 named_if : (first second third fourth : Bool) (s t u v : Shape) (rest : List Text)
     → s.name ≡ codes "check" → t.name ≡ codes "order" → u.name ≡ codes "record" → v.name ≡ codes "upgrade"
     → (own_fault s rest ≡ [] → is_some (check_by (one_of (codes "workers") (rows_after s.rules [] rest))) ≡ true)
-    → option_map_or (λ (it : Shape). own_fault it rest) (cond first (Some s) (cond second (Some t) (cond third (Some u) (cond fourth (Some v) None)))) [] ≡ []
-    → is_some (option_map (λ (it : Shape). rows_at it rest) (cond first (Some s) (cond second (Some t) (cond third (Some u) (cond fourth (Some v) None))))) ≡ true
-    → is_some (option_and_then job_named (option_map (λ (it : Shape). rows_at it rest) (cond first (Some s) (cond second (Some t) (cond third (Some u) (cond fourth (Some v) None)))))) ≡ true
-named_if true second third fourth s t u v rest check order recording upgrading fits passed e = rw check (fits passed)
+    → option_map_or (λ (it : Shape). own_fault it rest)
+    (cond first (Some s) (cond second (Some t) (cond third (Some u) (cond fourth (Some v) None)))) []
+    ≡ []
+    → is_some
+    (option_map (λ (it : Shape). rows_at it rest)
+    (cond first (Some s) (cond second (Some t) (cond third (Some u) (cond fourth (Some v) None)))))
+    ≡ true
+    → is_some
+    (option_and_then job_named
+    (option_map (λ (it : Shape). rows_at it rest)
+    (cond first (Some s)
+    (cond second (Some t) (cond third (Some u) (cond fourth (Some v) None))))))
+    ≡ true
+named_if true second third fourth s t u v rest check order recording upgrading fits passed e =
+    rw check (fits passed)
 named_if false true third fourth s t u v rest check order recording upgrading fits passed e = rw order
 named_if false false true fourth s t u v rest check order recording upgrading fits passed e = rw recording
 named_if false false false true s t u v rest check order recording upgrading fits passed e = rw upgrading
@@ -64,36 +80,59 @@ check_named None h = refl
 check_named (Some value) h = rw h
 
 -- whatever the walk stopped at, a subcommand that is entered, and does not fail, names a job
-names_at : (stop : Option (Text × List Text)) → entered_fault (built command_line) stop ≡ [] → is_some (entered (built command_line) stop) ≡ true
+names_at : (stop : Option (Text × List Text)) → entered_fault (built command_line) stop ≡ []
+    → is_some (entered (built command_line) stop) ≡ true
     → is_some (option_and_then job_named (entered (built command_line) stop)) ≡ true
 unfolding command_line
 names_at None passed e = cc
 names_at (Some (name, rest)) passed e =
     named_if _ _ _ _ _ _ _ _ rest refl refl refl refl
-    (λ own. check_named _ (workers_fit _ (record { defaults = refl; which = inl refl }, (record { defaults = refl; which = inr refl }, tt)) rest own))
+    (λ own.
+    check_named _
+    (workers_fit _ (
+      record {
+        defaults = refl;
+        which = inl refl;
+      },
+      (record { defaults = refl; which = inr refl }, tt),
+    )
+    rest own))
     passed e
 
 -- where the words do not fail, those after the subcommand do not
 inner_passes : (words : List Text) → fault_of command_line words ≡ []
-    → entered_fault (built command_line) (stop_after (built command_line).top.rules (names_of (built command_line)) (argument_words command_line words)) ≡ []
-inner_passes words passed = no_first _ _ (no_second (walk_fault (built command_line).top (names_of (built command_line)) (walk_from nothing_held) (argument_words command_line words)) _ passed)
+    → entered_fault (built command_line)
+    (stop_after (built command_line).top.rules (names_of (built command_line))
+    (argument_words command_line words))
+    ≡ []
+inner_passes words passed =
+    no_first _ _
+    (no_second
+    (walk_fault (built command_line).top (names_of (built command_line)) (walk_from nothing_held)
+    (argument_words command_line words)) _
+    passed)
 
 -- the number that `get_one` reads of a value that is one from 1 to 256
-number_read : (E : Type 0) (G : Text → Result ℕ E → Type 0) → ((u : Text) (x : Result ℕ E) → G u x → ParsesUnsigned 32 10 u x)
-    → (t : Text) (r : Option ℕ) → is_some (check_by (Some t)) ≡ true → ReadsOne G t r → check_by (Some t) ≡ Some (Check r)
+number_read : (E : Type 0) (G : Text → Result ℕ E → Type 0)
+    → ((u : Text) (x : Result ℕ E) → G u x → ParsesUnsigned 32 10 u x)
+    → (t : Text) (r : Option ℕ) → is_some (check_by (Some t)) ≡ true → ReadsOne G t r
+    → check_by (Some t) ≡ Some (Check r)
 number_read E G only t r e read = go (is_unsigned_in 1 256 t) refl e
   where
-    by_value : (o : Option ℕ) → ReadsOne G t o → IsUnsignedIn 1 256 t → ◌≡◌ {A = Option Job} (Some (Check (Some (number_of t)))) (Some (Check o))
+    by_value : (o : Option ℕ) → ReadsOne G t o → IsUnsignedIn 1 256 t
+        → ◌≡◌ {A = Option Job} (Some (Check (Some (number_of t)))) (Some (Check o))
     by_value (Some n) got ok = ap (λ (k : ℕ). Some (Check (Some k))) (sym (only t (Ok n) got).1)
     by_value None got ok = absurd (only t (Err got.0) got.1 (ok.0, omega arith))
 
-    go : (b : Bool) → is_unsigned_in 1 256 t ≡ b → is_some (cond b (Some (Check (Some (number_of t)))) None) ≡ true
+    go : (b : Bool) → is_unsigned_in 1 256 t ≡ b
+        → is_some (cond b (Some (Check (Some (number_of t)))) None) ≡ true
         → cond b (Some (Check (Some (number_of t)))) None ≡ Some (Check r)
     go true is some = by_value r read (accepts-Accepts false (vp.Unsigned 1 256) t is)
     go false is some = cc
 
 -- the value that was found, if there is one, is what `get_one` reads
-pub number_found : (E : Type 0) (G : Text → Result ℕ E → Type 0) → ((u : Text) (x : Result ℕ E) → G u x → ParsesUnsigned 32 10 u x)
+pub number_found : (E : Type 0) (G : Text → Result ℕ E → Type 0)
+    → ((u : Text) (x : Result ℕ E) → G u x → ParsesUnsigned 32 10 u x)
     → (f : Found) (r : Option ℕ) → is_some (check_by (one_of (codes "workers") (rows_of f))) ≡ true
     → (one_text f (codes "workers") ≡ None → r ≡ None) → ((t : Text) → one_text f (codes "workers") ≡ Some t → ReadsOne G t r)
     → check_by (one_of (codes "workers") (rows_of f)) ≡ Some (Check r)
@@ -106,22 +145,28 @@ number_found E G only f r e none value =
     go (Some t) some absent read is = number_read E G only t r some (read t is)
 
 -- a job that is named has threads from 1 to 256
-few_named : (o : Option (Text × List Row)) (job : Job) → option_and_then job_named o ≡ Some job → HasFewWorkers job
+few_named : (o : Option (Text × List Row)) (job : Job) → option_and_then job_named o ≡ Some job
+    → HasFewWorkers job
 few_named None job e = cc
 few_named (Some (name, rows)) job e =
     go (bytes_eq name (codes "check")) (bytes_eq name (codes "order")) (bytes_eq name (codes "record")) (bytes_eq name (codes "upgrade"))
     (one_of (codes "workers") rows) e
   where
-    of_value : (value : Text) (b : Bool) → is_unsigned_in 1 256 value ≡ b → cond b (Some (Check (Some (number_of value)))) None ≡ Some job → HasFewWorkers job
+    of_value : (value : Text) (b : Bool) → is_unsigned_in 1 256 value ≡ b
+        → cond b (Some (Check (Some (number_of value)))) None ≡ Some job → HasFewWorkers job
     of_value value true is named =
         let number : IsUnsignedIn 1 256 value = accepts-Accepts false (vp.Unsigned 1 256) value is in
         subst HasFewWorkers (same_Some _ job named) (number.2, number.3)
     of_value value false is named = cc
 
     go : (check order recording upgrading : Bool) (o : Option Text)
-        → cond check (check_by o) (cond order (Some Order) (cond recording (Some Record) (cond upgrading (Some Upgrade) None))) ≡ Some job → HasFewWorkers job
+        → cond check (check_by o)
+        (cond order (Some Order) (cond recording (Some Record) (cond upgrading (Some Upgrade) None)))
+        ≡ Some job
+        → HasFewWorkers job
     go true order recording upgrading None named = subst HasFewWorkers (same_Some _ job named) tt
-    go true order recording upgrading (Some value) named = of_value value (is_unsigned_in 1 256 value) refl named
+    go true order recording upgrading (Some value) named =
+        of_value value (is_unsigned_in 1 256 value) refl named
     go false true recording upgrading o named = subst HasFewWorkers (same_Some _ job named) tt
     go false false true upgrading o named = subst HasFewWorkers (same_Some _ job named) tt
     go false false false true o named = subst HasFewWorkers (same_Some _ job named) tt
@@ -139,7 +184,8 @@ module _ (c : Command) (m : ArgMatches) (line : app_of c ≡ command_line) where
   pub meets_one : (out-Command c).has_globals ≡ false → IsParsedFrom c m → has_subcommand m ≡ true
   unfolding command_line
   meets_one local h =
-      (h.parsed (h.from.globals ∙ local)).checked.subcommand (h.from.needs_subcommand ∙ ap (λ (a : App). a.top.subcommand_required) line)
+      (h.parsed (h.from.globals ∙ local)).checked.subcommand
+      (h.from.needs_subcommand ∙ ap (λ (a : App). a.top.subcommand_required) line)
 
   module _ (words : List Text) (h : HasMatchesOf (app_of c) words m) where
     -- its matches are those that the words ask for
@@ -147,10 +193,14 @@ module _ (c : Command) (m : ArgMatches) (line : app_of c ≡ command_line) where
     rows = (h (ap is_simple line ∙ is_simple_line)).1 ∙ ap (λ (a : App). subcommand_of a words) line
 
     -- and it names a job
-    pub names_job : fault_of (app_of c) words ≡ [] → has_subcommand m ≡ true → is_some (option_and_then job_named (subcommand_rows_of m)) ≡ true
+    pub names_job : fault_of (app_of c) words ≡ [] → has_subcommand m ≡ true
+        → is_some (option_and_then job_named (subcommand_rows_of m)) ≡ true
     names_job passed met =
-        rw rows (names_at _ (inner_passes words (ap (λ (a : App). fault_of a words) (sym line) ∙ passed)) (sym (ap is_some rows) ∙ is_some_map _ _ ∙ met))
+        rw rows
+        (names_at _ (inner_passes words (ap (λ (a : App). fault_of a words) (sym line) ∙ passed))
+        (sym (ap is_some rows) ∙ is_some_map _ _ ∙ met))
 
     -- for which the words ask
-    pub asks_for : (job : Job) → option_and_then job_named (subcommand_rows_of m) ≡ Some job → AsksFor words job
+    pub asks_for : (job : Job) → option_and_then job_named (subcommand_rows_of m) ≡ Some job
+        → AsksFor words job
     asks_for job named = sym (ap (option_and_then job_named) rows) ∙ named

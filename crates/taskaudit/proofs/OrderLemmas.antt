@@ -1,5 +1,6 @@
 -- The lines of an order, and the order that shows a verdict.
-use Rattle.std.proofs.Common.{◌≡◌, ◌∙◌, ◌<◌, ◌+◌, ◌++◌, ℕ, List, [], ◌∷◌, Option, Some, None, length, take, slice_index, sym, ap, subst, decimal, codes}
+use Rattle.std.proofs.Common.{◌≡◌, ◌∙◌, ◌<◌, ◌+◌, ◌++◌, ℕ, List, [], ◌∷◌, Option, Some, None, length, take}
+use Rattle.std.proofs.Common.{slice_index, sym, ap, subst, decimal, codes}
 use Rattle.std.proofs.lemmas.List.{flat_map_more, take_more}
 use Rattle.std.proofs.lemmas.List.Sorted.{Contains-permutation, IsPermutation-sym}
 use Rattle.std.proofs.lemmas.Option.{same_Some, slice_get-get_or, slice_get_within}
@@ -16,14 +17,21 @@ use Rattle.checker.specs.Verdicts.{IsVerdict}
 use Rattle.taskaudit.specs.Orders.{place_line, order_lines, order_shown}
 
 -- the places of an order of all records are theirs
-linear_within : (rs : List Record) (order : List ℕ) → IsLinearization rs order → (i : ℕ) → Contains order i → i < length rs
+linear_within : (rs : List Record) (order : List ℕ) → IsLinearization rs order → (i : ℕ) → Contains order i
+    → i < length rs
 linear_within rs order linear i stands =
-    place_below rs i (Contains-permutation order (places rs) i (IsPermutation-sym (places rs) order linear.all_once) stands)
+    place_below rs i
+    (Contains-permutation order (places rs) i (IsPermutation-sym (places rs) order linear.all_once)
+    stands)
 
 -- so are those of the order that shows a verdict
-pub shown_within : (rs : List Record) (verdict : Verdict) (counter : Option (List ℕ)) (order : List ℕ) → IsVerdict rs verdict → IsShownBy (by_task rs) verdict counter → order_shown verdict counter ≡ Some order → (i : ℕ) → Contains order i → i < length rs
-shown_within rs (Yes own) counter order judged shown is = linear_within rs order (subst (IsLinearization rs) (same_Some own order is) judged.linearization)
-shown_within rs (No i why) (Some other) order judged shown is = linear_within rs order (subst (IsLinearization rs) (same_Some other order is) shown.linearization)
+pub shown_within : (rs : List Record) (verdict : Verdict) (counter : Option (List ℕ)) (order : List ℕ)
+    → IsVerdict rs verdict → IsShownBy (by_task rs) verdict counter → order_shown verdict counter ≡ Some order
+    → (i : ℕ) → Contains order i → i < length rs
+shown_within rs (Yes own) counter order judged shown is =
+    linear_within rs order (subst (IsLinearization rs) (same_Some own order is) judged.linearization)
+shown_within rs (No i why) (Some other) order judged shown is =
+    linear_within rs order (subst (IsLinearization rs) (same_Some other order is) shown.linearization)
 shown_within rs (No i why) None order judged shown is = absurd shown
 shown_within rs (Malformed i cause) counter order judged shown is = absurd (cc)
 
@@ -32,12 +40,15 @@ line_read : (rs : List Record) (place : ℕ) (r : Record) → slice_get rs place
 line_read rs place r read = rw read
 
 -- one line more
-pub lines_more : (rs : List Record) (order : List ℕ) (n place : ℕ) (r : Record) (start : List ℕ) → slice_get order n ≡ Some place → slice_get rs place ≡ Some r
+pub lines_more : (rs : List Record) (order : List ℕ) (n place : ℕ) (r : Record) (start : List ℕ)
+    → slice_get order n ≡ Some place → slice_get rs place ≡ Some r
     → (start ++ order_lines rs (take n order)) ++ (decimal r.thread ++ (codes " " ++ (decimal r.seq ++ codes "\n"))) ≡ start ++ order_lines rs (take (n + 1) order)
 lines_more rs order n place r start stands read =
     let below : n < length order = slice_get_within order n place stands in
-    let is : slice_index order n ≡ place = same_Some (slice_index order n) place (sym (slice_get-get_or order n 0 below) ∙ stands) in
-    let longer : take (n + 1) order ≡ take n order ++ place ∷ [] = take_more order n 0 below ∙ ap (λ (p : ℕ). take n order ++ p ∷ []) is in
+    let is : slice_index order n ≡ place =
+    same_Some (slice_index order n) place (sym (slice_get-get_or order n 0 below) ∙ stands) in
+    let longer : take (n + 1) order ≡ take n order ++ place ∷ [] =
+    take_more order n 0 below ∙ ap (λ (p : ℕ). take n order ++ p ∷ []) is in
     ap (λ (l : List ℕ). (start ++ order_lines rs (take n order)) ++ l) (sym (line_read rs place r read))
     ∙ flat_map_more (place_line rs) start (take n order) place
     ∙ ap (λ (o : List ℕ). start ++ order_lines rs o) (sym longer)

@@ -9,4 +9,5 @@ use Rattle.checker.proofs.MissedLemmas.{required_within}
 use Rattle.checker.proofs.ReadingLemmas.{of_tasks}
 
 pub no_within : (rs : List Record) (i : ℕ) (why : Why) → IsVerdict rs (No i why) → i < length rs
-no_within rs i why verdict = required_within (by_task rs) i (task_of why) (of_tasks rs) verdict.unfinished.so.required
+no_within rs i why verdict =
+    required_within (by_task rs) i (task_of why) (of_tasks rs) verdict.unfinished.so.required

@@ -6,8 +6,19 @@ use Rattle.certificate.specs.Upgrading.{IsRefusal, memory, moved}
 use Rattle.certificate.specs.declared.faults.UpgradeFault.{UpgradeFault}
 use Rattle.taskaudit.specs.Upgradings.{AreFile, LeavesUpgrade, fault_of_upgrade}
 
-pub upgrade_leaves : (bytes old : Option (List ℕ)) (trace : TraceView) (fault : UpgradeFault) → AreFile bytes trace → trace.version ≡ 1
+pub upgrade_leaves : (bytes old : Option (List ℕ)) (trace : TraceView) (fault : UpgradeFault)
+    → AreFile bytes trace → trace.version ≡ 1
     → IsRefusal trace.records fault → Keeps old old → LeavesUpgrade bytes old old (fault_of_upgrade fault)
 upgrade_leaves bytes old trace fault file first memory kept = kept
-upgrade_leaves bytes old trace fault file first (moved place it) kept =
-    (record { trace = trace; file = file; version = first; at = place; moves = it; told = refl; place = refl }, kept)
+upgrade_leaves bytes old trace fault file first (moved place it) kept = (
+  record {
+    trace = trace;
+    file = file;
+    version = first;
+    at = place;
+    moves = it;
+    told = refl;
+    place = refl;
+  },
+  kept,
+)

@@ -89,9 +89,11 @@ abbrev pub IsOfCrew : ℕ → (ℕ → Type 0) → AuditFault → Type 0
 IsOfCrew workers may_refuse (Check (check.Gate worker)) = (worker < workers) × may_refuse worker
 IsOfCrew workers may_refuse fault = IsOutOfMemory fault
 
--- the same of an audit by so many workers. Only here it may be no crew, or the gate may refuse a worker that it
--- has, one of those that the gate may refuse; where no thread can be started the work is done all the same
-abbrev pub LeavesOn : ℕ → (ℕ → Type 0) → Option (List ℕ) → Option (List ℕ) → Option (List ℕ) → AuditFault → Type 0
+-- the same of an audit by so many workers. Only here it may be no crew, or the gate may refuse a worker that
+-- it has, one of those that the gate may refuse; where no thread can be started the work is done all the
+-- same
+abbrev pub LeavesOn : ℕ → (ℕ → Type 0) → Option (List ℕ) → Option (List ℕ) → Option (List ℕ) → AuditFault
+    → Type 0
 LeavesOn workers may_refuse bytes old new (Check check.Workers) = IsNoCrew workers × Keeps old new
 LeavesOn workers may_refuse bytes old new (Check (check.Gate worker)) =
     (worker < workers) × may_refuse worker × Keeps old new
@@ -103,8 +105,8 @@ abbrev pub IsReadRightly : Option (List ℕ) → Option (List ℕ) → AuditFaul
 IsReadRightly bytes left (Read f) = IfSome bytes (λ known. IsToldRightly f.cause f.line known left)
 IsReadRightly bytes left _ = ⊤
 
--- the same of so many workers: only where no memory was found for a line, more bytes behind the lines before it
--- may have been taken, a block for each worker and one longest line
+-- the same of so many workers: only where no memory was found for a line, more bytes behind the lines before
+-- it may have been taken, a block for each worker and one longest line
 abbrev pub IsReadRightlyOn : ℕ → Option (List ℕ) → Option (List ℕ) → AuditFault → Type 0
 IsReadRightlyOn workers bytes left (Read f) =
     IfSome bytes (λ known. IsToldInRoom (room_of workers block_size) f.cause f.line known left)

@@ -1,5 +1,6 @@
 -- The command line, in clap's terms.
-use Rattle.std.specs.Prelude.{◌≡◌, ◌≤◌, ◌⊎◌, ℕ, ⊤, true, false, pos, List, [], ◌∷◌, Option, Some, None, codes, option_and_then, if◌then◌else◌}
+use Rattle.std.specs.Prelude.{◌≡◌, ◌≤◌, ◌⊎◌, ℕ, ⊤, true, false, pos, List, [], ◌∷◌, Option, Some, None, codes}
+use Rattle.std.specs.Prelude.{option_and_then, if◌then◌else◌}
 use Rattle.std.specs.Str.{bytes_eq}
 use Rattle.std.specs.Str.Parse.{digits_value, without_leading_plus}
 use Rattle.clap.specs.Words.{App, Row, Rule, Text, new_app, new_rule, one_of, subcommand_of, with_rule}
@@ -22,7 +23,8 @@ workers_rule = record (new_rule (codes "workers")) {
 abbrev pub check_app : App
 check_app = with_rule (new_app (codes "check")) workers_rule
 
--- what clap reads of the command: it has a version, and wants a subcommand, of which there are four, and `check` alone has an
+-- what clap reads of the command: it has a version, and wants a subcommand, of which there are four, and
+-- `check` alone has an
 -- option
 unfoldable pub command_line : App
 command_line = record {

@@ -42,7 +42,8 @@ pub record TellsDevices {X : Type 0} (result : Result X AuditFault) (source sour
   pub sink_turns : AsksForTurns result sink.turns sink'.turns
 
 -- the same of an audit that reads ahead of the lines that it judges
-pub record TellsDevicesAhead {X : Type 0} (result : Result X AuditFault) (source source' sink sink' : Counters)
+pub record TellsDevicesAhead {X : Type 0} (result : Result X AuditFault)
+    (source source' sink sink' : Counters)
     : Type 0 where
   -- the reading ends where the source breaks or asks for its 10,001st turn, and tells it, except where a line
   -- that the source gave before has a fault: then it tells that one, and with an answer there was neither

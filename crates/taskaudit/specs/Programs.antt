@@ -29,8 +29,8 @@ Does Record bytes old new Written = Records bytes old new
 Does Upgrade bytes old new Written = Upgrades bytes old new
 Does _ bytes old new _ = ⊥
 
--- what the fault leaves of the job. A check by workers has as many as the words say, 1 to 256, and its gate is
--- open: it has no other faults than a check on one thread
+-- what the fault leaves of the job. A check by workers has as many as the words say, 1 to 256, and its gate
+-- is open: it has no other faults than a check on one thread
 abbrev pub LeavesOfJob : Job → Option (List ℕ) → Option (List ℕ) → Option (List ℕ) → AuditFault → Type 0
 LeavesOfJob (Check workers) bytes old new fault = Leaves shown.Report bytes old new fault
 LeavesOfJob Order bytes old new fault = Leaves shown.Order bytes old new fault
@@ -68,8 +68,8 @@ pub record Runs (made : Call → Type 0) (words : Result (List Text) Refusal) (b
   pub served : IsServed words bytes old new ending
   pub ended : Ends made ending status
 
--- what a run does where the words ask for the version: its text is written, with status 0; or it is not, which is
--- told, with status 3; or memory ran out, which is told, with status 5
+-- what a run does where the words ask for the version: its text is written, with status 0; or it is not,
+-- which is told, with status 3; or memory ran out, which is told, with status 5
 pub data ShowsVersion (made : Call → Type 0) : ℕ → Type 0 where
   version_written : made (write VERSION_TEXT.now true) → ShowsVersion made 0
   version_unwritten : made (write VERSION_TEXT.now false) → made (print (fault_text_of (fault.Write Device)))

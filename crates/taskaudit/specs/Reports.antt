@@ -17,7 +17,8 @@ use Rattle.certificate.specs.declared.faults.WriteFault.{WriteFault}
 use Rattle.certificate.specs.declared.faults.WriteFault.TheVariants as write
 use Rattle.certificate.specs.declared.faults.UpgradeFault.{UpgradeFault}
 use Rattle.certificate.specs.declared.faults.UpgradeFault.TheVariants as upgrade
-use Rattle.certificate.specs.FaultNames.{read_cause_number, read_cause_name, write_fault_number, write_fault_name, upgrade_fault_number, upgrade_fault_name}
+use Rattle.certificate.specs.FaultNames.{read_cause_number, read_cause_name, write_fault_number}
+use Rattle.certificate.specs.FaultNames.{write_fault_name, upgrade_fault_number, upgrade_fault_name}
 use Rattle.checker.specs.declared.verdict.CheckFault.TheVariants as check
 use Rattle.recorder.specs.declared.fault.CallFault.{CallFault}
 use Rattle.recorder.specs.declared.fault.CallFault.TheVariants as call

@@ -11,8 +11,10 @@ returns-clause-reports g c =
     let old = g.O.Sink.contents c.args.sink.now in
     let new = g.O.Sink.contents c.put.new.sink in
     let P : List ℕ → Type 0 = λ text. OnOk c.put.result (Appends old new text) in
-    reports_of c.args.shown (g.I.Source.remaining c.args.source.now) old new trace c.in_ok-verdict.verdict c.in_ok-verdict.text.items
-    (record { file = rw read at c.read.ensures.file; right = c.in_ok-verdict.ensures.verdict }) c.in_ok-verdict.ensures.text
+    reports_of c.args.shown (g.I.Source.remaining c.args.source.now) old new trace c.in_ok-verdict.verdict
+    c.in_ok-verdict.text.items
+    (record { file = rw read at c.read.ensures.file; right = c.in_ok-verdict.ensures.verdict })
+    c.in_ok-verdict.ensures.text
     c.put.result c.put.ensures.kind (subst P c.as_slice.ensures.value c.put.ensures.written)
 
 pub returns-clause-leaves : goal.returns-clause-leaves
@@ -21,7 +23,10 @@ returns-clause-leaves g c =
     let read : c.read.result ≡ Ok trace = search rules in
     let old = g.O.Sink.contents c.args.sink.now in
     let new = g.O.Sink.contents c.put.new.sink in
-    let P : List ℕ → Type 0 = λ text. IfErr c.put.result (IsWriteFault (λ n. Appends old new (take n text))) in
-    leaves_of c.args.shown (g.I.Source.remaining c.args.source.now) old new trace c.in_ok-verdict.verdict c.in_ok-verdict.text.items
-    (record { file = rw read at c.read.ensures.file; right = c.in_ok-verdict.ensures.verdict }) c.in_ok-verdict.ensures.text
+    let P : List ℕ → Type 0 =
+    λ text. IfErr c.put.result (IsWriteFault (λ n. Appends old new (take n text))) in
+    leaves_of c.args.shown (g.I.Source.remaining c.args.source.now) old new trace c.in_ok-verdict.verdict
+    c.in_ok-verdict.text.items
+    (record { file = rw read at c.read.ensures.file; right = c.in_ok-verdict.ensures.verdict })
+    c.in_ok-verdict.ensures.text
     c.put.result (subst P c.as_slice.ensures.value c.put.ensures.part)

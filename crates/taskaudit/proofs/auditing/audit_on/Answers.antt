@@ -19,8 +19,10 @@ returns-clause-reports g c =
     let old = g.O.Sink.contents c.args.sink.now in
     let new = g.O.Sink.contents c.put.new.sink in
     let P : List ℕ → Type 0 = λ text. OnOk c.put.result (Appends old new text) in
-    reports_of Report (g.I.Source.remaining c.args.source.now) old new trace c.in_ok-verdict.verdict c.in_ok-verdict.text.items
-    (record { file = rw read at c.read_on.ensures.file; right = c.in_ok-verdict.ensures.verdict }) c.in_ok-verdict.ensures.text
+    reports_of Report (g.I.Source.remaining c.args.source.now) old new trace c.in_ok-verdict.verdict
+    c.in_ok-verdict.text.items
+    (record { file = rw read at c.read_on.ensures.file; right = c.in_ok-verdict.ensures.verdict })
+    c.in_ok-verdict.ensures.text
     c.put.result c.put.ensures.kind (subst P c.as_slice.ensures.value c.put.ensures.written)
 
 pub returns-clause-leaves : goal.returns-clause-leaves
@@ -30,9 +32,12 @@ returns-clause-leaves g c =
     let bytes = g.I.Source.remaining c.args.source.now in
     let old = g.O.Sink.contents c.args.sink.now in
     let new = g.O.Sink.contents c.put.new.sink in
-    let P : List ℕ → Type 0 = λ text. IfErr c.put.result (IsWriteFault (λ n. Appends old new (take n text))) in
+    let P : List ℕ → Type 0 =
+    λ text. IfErr c.put.result (IsWriteFault (λ n. Appends old new (take n text))) in
     let part : P c.in_ok-verdict.text.items = subst P c.as_slice.ensures.value c.put.ensures.part in
-    leaves_on c.args.crew.workers (g.G.Gate.may_refuse c.args.crew.gate.now) (λ n. Appends old new (take n c.in_ok-verdict.text.items)) bytes old new c.put.result part
+    leaves_on c.args.crew.workers (g.G.Gate.may_refuse c.args.crew.gate.now)
+    (λ n. Appends old new (take n c.in_ok-verdict.text.items)) bytes old new c.put.result part
     (leaves_of Report bytes old new trace c.in_ok-verdict.verdict c.in_ok-verdict.text.items
-    (record { file = rw read at c.read_on.ensures.file; right = c.in_ok-verdict.ensures.verdict }) c.in_ok-verdict.ensures.text
+    (record { file = rw read at c.read_on.ensures.file; right = c.in_ok-verdict.ensures.verdict })
+    c.in_ok-verdict.ensures.text
     c.put.result part)

@@ -21,7 +21,9 @@ returns-in-Err-clause-leaves g c =
     let read : c.read_script.result ≡ Ok steps = search rules in
     let before = g.O.Sink.contents c.args.sink.now in
     let kept : Keeps before before = search rules in
-    rw c.of_run.ensures (run_leaves (g.I.Source.remaining c.args.source.now) before steps c.in-Err.fault (rw read at c.read_script.ensures.file) c.in-Err.ensures.line kept)
+    rw c.of_run.ensures
+    (run_leaves (g.I.Source.remaining c.args.source.now) before steps c.in-Err.fault
+    (rw read at c.read_script.ensures.file) c.in-Err.ensures.line kept)
 
 pub returns-clause-leaves : goal.returns-clause-leaves
 returns-clause-leaves g c =

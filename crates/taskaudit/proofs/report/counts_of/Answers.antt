@@ -13,7 +13,17 @@ loop-at-preserved c =
     let r = c.index-records-at.result in
     let inside = c.loop-at-test.true in
     record {
-      entries = count_one_more (λ it. is_some (finish it.body)) rs at c.loop-at.entries c.from-entries.result r inside c.index-records-at.is c.loop-at.invariant.entries (c.from-entries.ensures ∙ ap from_bool (c.is_some.ensures ∙ ap is_some c.finish.ensures));
-      tasks = count_one_more (λ it. is_some (creation it.body)) rs at c.loop-at.tasks c.from-tasks.result r inside c.index-records-at.is c.loop-at.invariant.tasks (c.from-tasks.ensures ∙ ap from_bool (c.is_some-in-loop-at.ensures ∙ ap is_some c.creation.ensures));
-      waits = count_one_more (λ it. ends_wait it.body) rs at c.loop-at.waits c.from-waits.result r inside c.index-records-at.is c.loop-at.invariant.waits (c.from-waits.ensures ∙ ap from_bool c.ends_wait.ensures);
+      entries =
+          count_one_more (λ it. is_some (finish it.body)) rs at c.loop-at.entries c.from-entries.result r
+          inside c.index-records-at.is c.loop-at.invariant.entries
+          (c.from-entries.ensures ∙ ap from_bool (c.is_some.ensures ∙ ap is_some c.finish.ensures));
+      tasks =
+          count_one_more (λ it. is_some (creation it.body)) rs at c.loop-at.tasks c.from-tasks.result r inside
+          c.index-records-at.is c.loop-at.invariant.tasks
+          (c.from-tasks.ensures
+          ∙ ap from_bool (c.is_some-in-loop-at.ensures ∙ ap is_some c.creation.ensures));
+      waits =
+          count_one_more (λ it. ends_wait it.body) rs at c.loop-at.waits c.from-waits.result r inside
+          c.index-records-at.is c.loop-at.invariant.waits
+          (c.from-waits.ensures ∙ ap from_bool c.ends_wait.ensures);
     }

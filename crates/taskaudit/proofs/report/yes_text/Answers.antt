@@ -3,4 +3,13 @@ use Rattle.std.proofs.lemmas.Result.{IfOk-weaker}
 use Rattle.taskaudit.proofs.report.yes_text.Goals as goal
 
 pub returns : goal.returns
-returns c = IfOk-weaker c.format.result _ _ (λ s h. h ∙ (rw (c.counts_of-entries.ensures.entries, c.counts_of-entries.ensures.tasks, c.counts_of-entries.ensures.waits))) c.format.ensures.ok
+returns c =
+    IfOk-weaker c.format.result _ _
+    (λ s h.
+    h
+    ∙ (rw (
+      c.counts_of-entries.ensures.entries,
+      c.counts_of-entries.ensures.tasks,
+      c.counts_of-entries.ensures.waits,
+    )))
+    c.format.ensures.ok

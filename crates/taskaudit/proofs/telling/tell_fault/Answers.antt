@@ -5,7 +5,8 @@ use Rattle.taskaudit.proofs.telling.tell_fault.Goals as goal
 pub returns-in-Some : goal.returns-in-Some
 returns-in-Some g c =
     let P : List ℕ → Type 0 = λ bytes. g.C.Console.made c.args.console.now (print bytes) in
-    with_text c.in-Some.ensures.made (subst P (c.as_str.ensures.value ∙ c.in-Some.ensures.text) c.print.ensures.made)
+    with_text c.in-Some.ensures.made
+    (subst P (c.as_str.ensures.value ∙ c.in-Some.ensures.text) c.print.ensures.made)
 
 pub returns-in-None : goal.returns-in-None
 returns-in-None g c = without_text c.in-None.ensures.made c.print-in-None.ensures.made

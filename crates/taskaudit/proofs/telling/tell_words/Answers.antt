@@ -16,9 +16,11 @@ returns-then-show_words g c =
 
 pub returns-then-usage_status-eq0 : goal.returns-then-usage_status-eq0
 returns-then-usage_status-eq0 g c =
-    unwritten (sym c.usage_status.ensures ∙ c.if-usage_status-eq0.true) (rw c.if-show_words.false at c.show_words.ensures) c.tell_fault-then-usage_status-eq0.ensures
+    unwritten (sym c.usage_status.ensures ∙ c.if-usage_status-eq0.true)
+    (rw c.if-show_words.false at c.show_words.ensures) c.tell_fault-then-usage_status-eq0.ensures
 
 pub returns : goal.returns
 returns g c =
     let other : kind_of c.args.error ≢ OutOfMemory = search rules in
-    wrong other (λ zero. c.if-usage_status-eq0.false (c.usage_status.ensures ∙ zero)) (rw c.if-show_words.false at c.show_words.ensures)
+    wrong other (λ zero. c.if-usage_status-eq0.false (c.usage_status.ensures ∙ zero))
+    (rw c.if-show_words.false at c.show_words.ensures)

@@ -23,11 +23,22 @@ returns-clause-app c =
     ap app_of_fields c.after_help.ensures ∙ ap app_of_fields c.about.ensures
     ∙ ap app_of_fields c.version.ensures ∙ ap with_version c.new.ensures.app in
     let top_is : app_of c.subcommand_required.result ≡ requiring (without_help (with_version (new_app (codes "taskaudit")))) =
-    ap app_of_fields c.subcommand_required.ensures ∙ ap requiring (ap app_of_fields c.disable_help_subcommand.ensures ∙ ap without_help plain_is) in
-    let with_check = c.in_ok-subcommand.ensures.shape c.in_ok-check.ensures.local ∙ ap₂ with_subcommand top_is c.in_ok-check.ensures.shape in
-    let with_order = c.in_ok-subcommand-2.ensures.shape c.plain-order.ensures.local ∙ ap₂ with_subcommand with_check c.plain-order.ensures.shape in
-    let with_record = c.in_ok-subcommand-3.ensures.shape c.plain-recording.ensures.local ∙ ap₂ with_subcommand with_order c.plain-recording.ensures.shape in
-    IfOk-weaker c.subcommand-4.result _ _ (λ r h. h.shape c.plain-upgrading.ensures.local ∙ ap₂ with_subcommand with_record c.plain-upgrading.ensures.shape) c.subcommand-4.ensures
+    ap app_of_fields c.subcommand_required.ensures
+    ∙ ap requiring (ap app_of_fields c.disable_help_subcommand.ensures ∙ ap without_help plain_is) in
+    let with_check =
+    c.in_ok-subcommand.ensures.shape c.in_ok-check.ensures.local
+    ∙ ap₂ with_subcommand top_is c.in_ok-check.ensures.shape in
+    let with_order =
+    c.in_ok-subcommand-2.ensures.shape c.plain-order.ensures.local
+    ∙ ap₂ with_subcommand with_check c.plain-order.ensures.shape in
+    let with_record =
+    c.in_ok-subcommand-3.ensures.shape c.plain-recording.ensures.local
+    ∙ ap₂ with_subcommand with_order c.plain-recording.ensures.shape in
+    IfOk-weaker c.subcommand-4.result _ _
+    (λ r h.
+    h.shape c.plain-upgrading.ensures.local
+    ∙ ap₂ with_subcommand with_record c.plain-upgrading.ensures.shape)
+    c.subcommand-4.ensures
 
 abbrev either : Bool → Bool → Bool
 either x y = x || y
@@ -36,6 +47,9 @@ pub returns-clause-local : goal.returns-clause-local
 returns-clause-local c =
     let top_is : (out-Command c.subcommand_required.result).has_globals ≡ false = search rules in
     let with_check = c.in_ok-subcommand.ensures.globals ∙ ap₂ either top_is c.in_ok-check.ensures.local in
-    let with_order = c.in_ok-subcommand-2.ensures.globals ∙ ap₂ either with_check c.plain-order.ensures.local in
-    let with_record = c.in_ok-subcommand-3.ensures.globals ∙ ap₂ either with_order c.plain-recording.ensures.local in
-    IfOk-weaker c.subcommand-4.result _ _ (λ r h. h.globals ∙ ap₂ either with_record c.plain-upgrading.ensures.local) c.subcommand-4.ensures
+    let with_order =
+    c.in_ok-subcommand-2.ensures.globals ∙ ap₂ either with_check c.plain-order.ensures.local in
+    let with_record =
+    c.in_ok-subcommand-3.ensures.globals ∙ ap₂ either with_order c.plain-recording.ensures.local in
+    IfOk-weaker c.subcommand-4.result _ _
+    (λ r h. h.globals ∙ ap₂ either with_record c.plain-upgrading.ensures.local) c.subcommand-4.ensures

@@ -2,13 +2,16 @@
 use Rattle.std.proofs.Common.{◌≡◌, ◌∙◌, ap, sym, subst, true, map}
 use Rattle.clap.specs.Words.{App, fault_of, HasKind, Kinds}
 use Rattle.clap.specs.Matches.{has_subcommand}
-use Rattle.taskaudit.proofs.CommandLemmas.{few_asked, is_free_line, meets_one, names_job, asks_for, shows_version}
+use Rattle.taskaudit.proofs.CommandLemmas.{few_asked, is_free_line, meets_one, names_job, asks_for}
+use Rattle.taskaudit.proofs.CommandLemmas.{shows_version}
 use Rattle.taskaudit.proofs.words.job.Goals as goal
 
 pub job_met-requires : goal.job_met-requires
 job_met-requires g c =
-    let met : has_subcommand c.in-Ok.matches ≡ true = meets_one _ _ c.in_ok-command.ensures.app c.in_ok-command.ensures.local c.in-Ok.ensures.parsed in
-    names_job _ _ c.in_ok-command.ensures.app _ c.in-Ok.ensures.matches (c.in-Ok.ensures.kinds (is_free_line _ c.in_ok-command.ensures.app)) met
+    let met : has_subcommand c.in-Ok.matches ≡ true =
+    meets_one _ _ c.in_ok-command.ensures.app c.in_ok-command.ensures.local c.in-Ok.ensures.parsed in
+    names_job _ _ c.in_ok-command.ensures.app _ c.in-Ok.ensures.matches
+    (c.in-Ok.ensures.kinds (is_free_line _ c.in_ok-command.ensures.app)) met
 
 pub returns-in-Ok-clause-asked : goal.returns-in-Ok-clause-asked
 returns-in-Ok-clause-asked g c =
@@ -16,7 +19,9 @@ returns-in-Ok-clause-asked g c =
 
 pub returns-in-Ok-clause-workers : goal.returns-in-Ok-clause-workers
 returns-in-Ok-clause-workers g c =
-    few_asked (map g.S.AsStr.text c.args.words.now) _ (asks_for _ _ c.in_ok-command.ensures.app _ c.in-Ok.ensures.matches c.job_met.result c.job_met.ensures)
+    few_asked (map g.S.AsStr.text c.args.words.now) _
+    (asks_for _ _ c.in_ok-command.ensures.app _ c.in-Ok.ensures.matches c.job_met.result
+    c.job_met.ensures)
 
 pub returns-in-Ok-clause-kinds : goal.returns-in-Ok-clause-kinds
 returns-in-Ok-clause-kinds g c =
@@ -25,12 +30,14 @@ returns-in-Ok-clause-kinds g c =
 
 pub returns-in-Err-clause-kinds : goal.returns-in-Err-clause-kinds
 returns-in-Err-clause-kinds g c =
-    subst (λ (a : App). HasKind (fault_of a (map g.S.AsStr.text c.args.words.now)) c.in-Err.error) c.in_ok-command.ensures.app
+    subst (λ (a : App). HasKind (fault_of a (map g.S.AsStr.text c.args.words.now)) c.in-Err.error)
+    c.in_ok-command.ensures.app
     (c.in-Err.ensures.kinds (is_free_line _ c.in_ok-command.ensures.app))
 
 pub returns-in-Ok-clause-version : goal.returns-in-Ok-clause-version
 returns-in-Ok-clause-version g c asks =
-    let passed = sym (ap (λ (a : App). fault_of a (map g.S.AsStr.text c.args.words.now)) c.in_ok-command.ensures.app)
+    let passed =
+    sym (ap (λ (a : App). fault_of a (map g.S.AsStr.text c.args.words.now)) c.in_ok-command.ensures.app)
     ∙ c.in-Ok.ensures.kinds (is_free_line _ c.in_ok-command.ensures.app) in
     let never = sym (shows_version _ asks) ∙ passed in
     cc
@@ -38,5 +45,6 @@ returns-in-Ok-clause-version g c asks =
 pub returns-in-Err-clause-version : goal.returns-in-Err-clause-version
 returns-in-Err-clause-version g c asks =
     subst (λ (kinds : Kinds). HasKind kinds c.in-Err.error) (shows_version _ asks)
-    (subst (λ (a : App). HasKind (fault_of a (map g.S.AsStr.text c.args.words.now)) c.in-Err.error) c.in_ok-command.ensures.app
+    (subst (λ (a : App). HasKind (fault_of a (map g.S.AsStr.text c.args.words.now)) c.in-Err.error)
+    c.in_ok-command.ensures.app
     (c.in-Err.ensures.kinds (is_free_line _ c.in_ok-command.ensures.app)))

@@ -5,5 +5,7 @@ use Rattle.taskaudit.proofs.words.workers_found.Goals as goal
 
 pub returns : goal.returns
 returns c =
-    number_found _ (λ bs r. ParsesUnsigned 32 10 bs r × ExplainsUnsignedError 10 bs r × HasUnsignedDigitsIfOk bs r) (λ u x g. g.0)
+    number_found _
+    (λ bs r. ParsesUnsigned 32 10 bs r × ExplainsUnsignedError 10 bs r × HasUnsignedDigitsIfOk bs r)
+    (λ u x g. g.0)
     (found_of c.args.found.now) c.get_one.result c.requires c.get_one.ensures.none c.get_one.ensures.value
