@@ -54,7 +54,8 @@ own_fault s rest = level_fault s [] nothing_held rest false []
 -- what a subcommand comes to, where the tests say which one is named
 named_if : (first second third fourth : Bool) (s t u v : Shape) (rest : List Text)
     → s.name ≡ codes "check" → t.name ≡ codes "order" → u.name ≡ codes "record" → v.name ≡ codes "upgrade"
-    → (own_fault s rest ≡ [] → is_some (check_by (one_of (codes "workers") (rows_after s.rules [] rest))) ≡ true)
+    → (own_fault s rest ≡ []
+    → is_some (check_by (one_of (codes "workers") (rows_after s.rules [] rest))) ≡ true)
     → option_map_or (λ (it : Shape). own_fault it rest)
     (cond first (Some s) (cond second (Some t) (cond third (Some u) (cond fourth (Some v) None)))) []
     ≡ []
@@ -134,13 +135,17 @@ number_read E G only t r e read = go (is_unsigned_in 1 256 t) refl e
 pub number_found : (E : Type 0) (G : Text → Result ℕ E → Type 0)
     → ((u : Text) (x : Result ℕ E) → G u x → ParsesUnsigned 32 10 u x)
     → (f : Found) (r : Option ℕ) → is_some (check_by (one_of (codes "workers") (rows_of f))) ≡ true
-    → (one_text f (codes "workers") ≡ None → r ≡ None) → ((t : Text) → one_text f (codes "workers") ≡ Some t → ReadsOne G t r)
+    → (one_text f (codes "workers") ≡ None → r ≡ None)
+    → ((t : Text) → one_text f (codes "workers") ≡ Some t → ReadsOne G t r)
     → check_by (one_of (codes "workers") (rows_of f)) ≡ Some (Check r)
 number_found E G only f r e none value =
-    go (one_of (codes "workers") (rows_of f)) e (λ is. none (one_text-rows f (codes "workers") ∙ is)) (λ t is. value t (one_text-rows f (codes "workers") ∙ is)) refl
+    go (one_of (codes "workers") (rows_of f)) e (λ is. none (one_text-rows f (codes "workers") ∙ is))
+    (λ t is. value t (one_text-rows f (codes "workers") ∙ is)) refl
   where
-    go : (o : Option Text) → is_some (check_by o) ≡ true → (one_of (codes "workers") (rows_of f) ≡ None → r ≡ None)
-        → ((t : Text) → one_of (codes "workers") (rows_of f) ≡ Some t → ReadsOne G t r) → one_of (codes "workers") (rows_of f) ≡ o → check_by o ≡ Some (Check r)
+    go : (o : Option Text) → is_some (check_by o) ≡ true
+        → (one_of (codes "workers") (rows_of f) ≡ None → r ≡ None)
+        → ((t : Text) → one_of (codes "workers") (rows_of f) ≡ Some t → ReadsOne G t r)
+        → one_of (codes "workers") (rows_of f) ≡ o → check_by o ≡ Some (Check r)
     go None some absent read is = ap (λ (n : Option ℕ). Some (Check n)) (sym (absent is))
     go (Some t) some absent read is = number_read E G only t r some (read t is)
 
@@ -149,7 +154,8 @@ few_named : (o : Option (Text × List Row)) (job : Job) → option_and_then job_
     → HasFewWorkers job
 few_named None job e = cc
 few_named (Some (name, rows)) job e =
-    go (bytes_eq name (codes "check")) (bytes_eq name (codes "order")) (bytes_eq name (codes "record")) (bytes_eq name (codes "upgrade"))
+    go (bytes_eq name (codes "check")) (bytes_eq name (codes "order")) (bytes_eq name (codes "record"))
+    (bytes_eq name (codes "upgrade"))
     (one_of (codes "workers") rows) e
   where
     of_value : (value : Text) (b : Bool) → is_unsigned_in 1 256 value ≡ b

@@ -36,13 +36,16 @@ shown_within rs (No i why) None order judged shown is = absurd shown
 shown_within rs (Malformed i cause) counter order judged shown is = absurd (cc)
 
 -- the line of a record
-line_read : (rs : List Record) (place : ℕ) (r : Record) → slice_get rs place ≡ Some r → place_line rs place ≡ decimal r.thread ++ (codes " " ++ (decimal r.seq ++ codes "\n"))
+line_read : (rs : List Record) (place : ℕ) (r : Record) → slice_get rs place ≡ Some r
+    → place_line rs place ≡ decimal r.thread ++ (codes " " ++ (decimal r.seq ++ codes "\n"))
 line_read rs place r read = rw read
 
 -- one line more
 pub lines_more : (rs : List Record) (order : List ℕ) (n place : ℕ) (r : Record) (start : List ℕ)
     → slice_get order n ≡ Some place → slice_get rs place ≡ Some r
-    → (start ++ order_lines rs (take n order)) ++ (decimal r.thread ++ (codes " " ++ (decimal r.seq ++ codes "\n"))) ≡ start ++ order_lines rs (take (n + 1) order)
+    → (start ++ order_lines rs (take n order))
+    ++ (decimal r.thread ++ (codes " " ++ (decimal r.seq ++ codes "\n")))
+    ≡ start ++ order_lines rs (take (n + 1) order)
 lines_more rs order n place r start stands read =
     let below : n < length order = slice_get_within order n place stands in
     let is : slice_index order n ≡ place =

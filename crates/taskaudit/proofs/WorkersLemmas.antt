@@ -118,8 +118,10 @@ of_workers again vs rows e h =
     let values = values_or_missing (filled workers_rule) vs in
     let set : set_fault again (filled workers_rule) values rows ≡ [] =
     no_second (range_kinds 1 1 (length vs)) _ e in
-    let kinds : values_kinds false parser values ≡ [] = no_second (repeat_fault again (codes "workers") rows) _ set in
-    with_passes (codes "workers") values (without (codes "workers") rows) (values_fit values kinds) (without_passes (codes "workers") rows h)
+    let kinds : values_kinds false parser values ≡ [] =
+    no_second (repeat_fault again (codes "workers") rows) _ set in
+    with_passes (codes "workers") values (without (codes "workers") rows) (values_fit values kinds)
+    (without_passes (codes "workers") rows h)
 
 used_passes : (again : Bool) (a : Rule) (vs : List Text) (rows : List Row) → IsWorkersOrHelp a
     → use_fault again a vs rows ≡ [] → Passed rows
@@ -421,4 +423,5 @@ one_fits (Some r) h = row_fits r h
 pub workers_fit : (s : Shape) → AllByRecursion IsWorkersOrHelp s.rules → (words : List Text)
     → level_fault s [] nothing_held words false [] ≡ []
     → IfSome (one_of (codes "workers") (rows_after s.rules [] words)) (λ t. is_unsigned_in 1 256 t ≡ true)
-workers_fit s known words e = one_fits _ (find_passed (λ r. bytes_eq r.id (codes "workers")) _ (rows_pass s known words e))
+workers_fit s known words e =
+    one_fits _ (find_passed (λ r. bytes_eq r.id (codes "workers")) _ (rows_pass s known words e))

@@ -22,7 +22,8 @@ returns-clause-app c =
     let plain_is : app_of c.after_help.result ≡ with_version (new_app (codes "taskaudit")) =
     ap app_of_fields c.after_help.ensures ∙ ap app_of_fields c.about.ensures
     ∙ ap app_of_fields c.version.ensures ∙ ap with_version c.new.ensures.app in
-    let top_is : app_of c.subcommand_required.result ≡ requiring (without_help (with_version (new_app (codes "taskaudit")))) =
+    let top_is : app_of c.subcommand_required.result
+    ≡ requiring (without_help (with_version (new_app (codes "taskaudit")))) =
     ap app_of_fields c.subcommand_required.ensures
     ∙ ap requiring (ap app_of_fields c.disable_help_subcommand.ensures ∙ ap without_help plain_is) in
     let with_check =
