@@ -68,8 +68,8 @@ pub record Runs (made : Call → Type 0) (words : Result (List Text) Refusal) (b
   pub served : IsServed words bytes old new ending
   pub ended : Ends made ending status
 
--- what a run does where the words ask for the version: its text is written, with status 0; or it is not, which is
--- told, with status 3; or memory ran out, which is told, with status 5
+-- what a run does where the words ask for the version: its text is written, with status 0; or it is not, which
+-- is told, with status 3; or memory ran out, which is told, with status 5
 pub data ShowsVersion (made : Call → Type 0) : ℕ → Type 0 where
   version_written : made (write VERSION_TEXT.now true) → ShowsVersion made 0
   version_unwritten : made (write VERSION_TEXT.now false) → made (print (fault_text_of (fault.Write Device)))

@@ -32,16 +32,16 @@ pub data IsToldFault (made : Call → Type 0) : AuditFault → AuditFault → Ty
   without_text : {fault : AuditFault} → made (text_of fault false) → made (print (fault_text_of Memory))
       → IsToldFault made fault Memory
 
--- what is shown of refused words, and whether it is written: the text of the version where it is asked for, and
--- else what clap says of the words
+-- what is shown of refused words, and whether it is written: the text of the version where it is asked for,
+-- and else what clap says of the words
 pub data IsShown (made : Call → Type 0) : Error → Bool → Type 0 where
   version : {error : Error} {written : Bool} → kind_of error ≡ DisplayVersion
       → made (write VERSION_TEXT.now written) → IsShown made error written
   said : {error : Error} {written : Bool} → kind_of error ≢ DisplayVersion → made (show error written)
       → IsShown made error written
 
--- refused words stay what they are, but help or a version that is not written is a fault of writing, and where clap ran out
--- of memory that is told
+-- refused words stay what they are, but help or a version that is not written is a fault of writing, and where
+-- clap ran out of memory that is told
 pub data IsToldWords (made : Call → Type 0) : Error → Refusal → Type 0 where
   shown : {error : Error} → kind_of error ≢ OutOfMemory → IsShown made error true
       → IsToldWords made error (Words error)
