@@ -90,8 +90,8 @@ def is_object_of(kit, thing, program):
 
 
 def object_at_hand(kit, program):
-    """Returns the path of the program's object file: where it was kept before, or beside the program, where its
-    build left it. None where there is none: `rt ci` leaves none of a program that it passed before."""
+    """Returns the path of the program's object file: where it was kept before, or beside the program, where
+    its build left it. None where there is none: `rt ci` leaves none of a program that it passed before."""
     kept = os.path.join(TOP, 'out', f'{sum_of(read(program))}.o')
     if is_object_of(kit, kept, program):
         return kept
@@ -132,8 +132,8 @@ def archive_of(members, seconds):
 
 
 def installed_files(program):
-    """Returns the files of the package, a mode and bytes by each name. The manual page and the completions are
-    made from the help that is kept in tools/texts."""
+    """Returns the files of the package, a mode and bytes by each name. The manual page and the completions
+    are made from the help that is kept in tools/texts."""
     pages = load('pages')
     helps = pages.Helps()
     files = {'usr/bin/taskaudit': program,

@@ -24,8 +24,7 @@ abbrev pub check_app : App
 check_app = with_rule (new_app (codes "check")) workers_rule
 
 -- what clap reads of the command: it has a version, and wants a subcommand, of which there are four, and
--- `check` alone has an
--- option
+-- `check` alone has an option
 unfoldable pub command_line : App
 command_line = record {
   top = record (new_app (codes "taskaudit")).top {

@@ -41,8 +41,7 @@ pub data IsShown (made : Call → Type 0) : Error → Bool → Type 0 where
       → IsShown made error written
 
 -- refused words stay what they are, but help or a version that is not written is a fault of writing, and
--- where clap ran out
--- of memory that is told
+-- where clap ran out of memory that is told
 pub data IsToldWords (made : Call → Type 0) : Error → Refusal → Type 0 where
   shown : {error : Error} → kind_of error ≢ OutOfMemory → IsShown made error true
       → IsToldWords made error (Words error)
