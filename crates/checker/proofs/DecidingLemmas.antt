@@ -11,11 +11,11 @@ use Rattle.trace_ledger.specs.Entries.{HasRightEntries}
 use Rattle.wait_coverage.specs.Coverage.{IsEnd}
 use Rattle.wait_coverage.specs.Done.{DoneView, records_of}
 use Rattle.wait_coverage.specs.Known.{AreCreditLengths}
-use Rattle.wait_coverage.specs.Shown.{IsCompleteShown, IsFirstOpenShown}
+use Rattle.wait_coverage.specs.Shown.{IsCompleteShown, IsFirstUnfinishedShown}
 use Rattle.wait_coverage.specs.Spans.{IsCoverComplete}
-use Rattle.wait_coverage.specs.Waits.{IsFirstOpen}
-use Rattle.wait_coverage.proofs.OpenLemmas.{EndsWaitAt, covers_at}
-use Rattle.wait_coverage.proofs.ShownLemmas.{open_shown, all_shown}
+use Rattle.wait_coverage.specs.Waits.{IsFirstCoveredUnfinished}
+use Rattle.wait_coverage.proofs.UnfinishedLemmas.{EndsWaitAt, covers_at}
+use Rattle.wait_coverage.proofs.ShownLemmas.{unfinished_shown, all_shown}
 use Rattle.checker.specs.declared.verdict.Why.{Why}
 use Rattle.checker.specs.declared.verdict.Why.TheVariants.{Unfinished, Predecessor}
 use Rattle.checker.specs.Readings.{Reading, by_task}
@@ -25,26 +25,27 @@ use Rattle.checker.specs.Starts.{AreReady, IsFirstLateAt}
 use Rattle.checker.specs.Deciding.{IsViolationAt}
 use Rattle.checker.proofs.LateLemmas.{ready_past}
 use Rattle.checker.proofs.ReadingLemmas.{of_tasks, clear_entries}
-use Rattle.checker.proofs.VerdictLemmas.{open_unfinished, late_unfinished, unfinished_cases}
+use Rattle.checker.proofs.VerdictLemmas.{covered_unfinished, late_unfinished, unfinished_cases}
 
 -- a task that is unfinished at the end of a wait
-pub violation_by_open : (rs : List Record) (own : OwnView) (number place task : ℕ) → IsOwnOf rs own
-    → IsOwn own → slice_get own.places number ≡ Some place → IsFirstOpen own number task
+pub violation_by_unfinished : (rs : List Record) (own : OwnView) (number place task : ℕ) → IsOwnOf rs own
+    → IsOwn own → slice_get own.places number ≡ Some place → IsFirstCoveredUnfinished own number task
     → IsViolationAt (by_task rs) place (Unfinished task)
-violation_by_open rs own number place task of is stands first =
-    let shown : IsFirstOpenShown rs place task =
-    open_shown rs own number place (Some task) of is stands first in
+violation_by_unfinished rs own number place task of is stands first =
+    let shown : IsFirstUnfinishedShown rs place task =
+    unfinished_shown rs own number place (Some task) of is stands first in
     record {
       unfinished =
-          open_unfinished (by_task rs) place task (shown.open_there.covered, shown.open_there.incomplete);
-      reason = shown.open_there.covered;
+          covered_unfinished (by_task rs) place task
+          (shown.unfinished_there.covered, shown.unfinished_there.incomplete);
+      reason = shown.unfinished_there.covered;
       creation = shown.creation;
       is_created = shown.is_created;
       created_first =
           λ k other low creates unfinished. elim (unfinished_cases (by_task rs) place other unfinished) [
             | inl opened ↦
                 shown.created_first k other low creates (record { covered = opened.0; incomplete = opened.1 })
-            | inr late ↦ (of_tasks rs).apart place task other shown.open_there.covered late.0
+            | inr late ↦ (of_tasks rs).apart place task other shown.unfinished_there.covered late.0
           ];
     }
 
@@ -101,14 +102,15 @@ stands_there view own number place same stands =
     let P : OwnView → Type 0 = λ o. slice_get o.places number ≡ Some place in
     subst P same stands
 
-pub open_decided : (view : ClearView) (own : OwnView) (done : DoneView) (number place task : ℕ)
+pub unfinished_decided : (view : ClearView) (own : OwnView) (done : DoneView) (number place task : ℕ)
     → IsClearView view → own ≡ view.own → own_of done.teams ≡ view.own → AreCreditLengths done
-    → slice_get own.places number ≡ Some place → FindsByLengths done (λ o. IsFirstOpen o number task)
+    → slice_get own.places number ≡ Some place
+    → FindsByLengths done (λ o. IsFirstCoveredUnfinished o number task)
     → IsViolationAt (by_task view.run.records) place (Unfinished task)
-open_decided view own done number place task clear same teams credit stands finds =
-    violation_by_open view.run.records view.own number place task clear.one.of_file clear.one.is_own
+unfinished_decided view own done number place task clear same teams credit stands finds =
+    violation_by_unfinished view.run.records view.own number place task clear.one.of_file clear.one.is_own
     (stands_there view own number place same stands)
-    (found_there view done (λ o. IsFirstOpen o number task) clear teams credit finds)
+    (found_there view done (λ o. IsFirstCoveredUnfinished o number task) clear teams credit finds)
 
 pub covered_decided : (view : ClearView) (own : OwnView) (done : DoneView) (number place : ℕ)
     → IsClearView view → own ≡ view.own → own_of done.teams ≡ view.own → AreCreditLengths done

@@ -36,7 +36,8 @@ use Rattle.trace_ledger.specs.Entries.{IsDone}
 use Rattle.checker.specs.declared.starts.Late.{Late}
 use Rattle.checker.specs.declared.starts.Dependent.{Dependent}
 use Rattle.checker.specs.Readings.{by_task, IsPrecededBy}
-use Rattle.checker.specs.Starts.{IsLate, AreReady, IsFirstLateAt, IsDependentAt, IsPrecededByNone, IsBound}
+use Rattle.checker.specs.Starts.{IsPredecessorUnfinished, AreReady, IsFirstLateAt, IsDependentAt}
+use Rattle.checker.specs.Starts.{IsPrecededByNone, IsBound}
 use Rattle.checker.specs.Starts.{AreNoLengths, AreStarts, StartsAt, StartsNoneAt, PrecedenceView}
 use Rattle.checker.specs.Starts.{IsPrecedence, IsUnfinishedPredecessor, AreDoneBefore, IsFirstBehind}
 use Rattle.checker.specs.Starts.{IsAmongFirst}
@@ -247,7 +248,7 @@ if_ok P Q (Err e) follows is = is
 -- late is what the entries don't finish of the predecessors of what depends on them there
 pub late_if : (rs : List Record) (own : RunView) (i index bound task : ℕ)
     → (is : IsDependentAt rs own i index bound)
-    → IsLate rs i task ↔ IsUnfinishedPredecessor own.records is.dependent bound task
+    → IsPredecessorUnfinished rs i task ↔ IsUnfinishedPredecessor own.records is.dependent bound task
 late_if rs own i index bound task is = (
   (λ late. ((is.same task).0 late.0, λ done. late.1 ((is.bounds task).1 done))),
   (λ behind. ((is.same task).1 behind.0, λ complete. behind.1 ((is.bounds task).0 complete))),
@@ -260,13 +261,14 @@ TellsLate own index bound task answer = (dependent : ℕ) → slice_get own.fami
 
 pub tells_late : (rs : List Record) (own : RunView) (i index bound task : ℕ) (answer : Bool)
     → IsDependentAt rs own i index bound → TellsLate own index bound task answer
-    → IsTrue answer ↔ IsLate rs i task
+    → IsTrue answer ↔ IsPredecessorUnfinished rs i task
 tells_late rs own i index bound task answer is tells =
     let exact = tells is.dependent is.there in
     let late = late_if rs own i index bound task is in
     ((λ yes_it. late.1 (exact.0 yes_it)), (λ is_late. exact.1 (late.0 is_late)))
 
-pub none_to_tell : (rs : List Record) (i task : ℕ) → IsPrecededByNone rs i → IsTrue false ↔ IsLate rs i task
+pub none_to_tell : (rs : List Record) (i task : ℕ) → IsPrecededByNone rs i
+    → IsTrue false ↔ IsPredecessorUnfinished rs i task
 none_to_tell rs i task none = ((λ never. absurd (false≢true never)), (λ late. absurd (none task late.0)))
 
 pub late_found : (rs : List Record) (own : RunView) (i index bound : ℕ) (found : Option ℕ)

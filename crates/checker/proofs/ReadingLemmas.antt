@@ -33,7 +33,8 @@ use Rattle.checker.specs.declared.verdict.Verdict.TheVariants.{Yes, No, Malforme
 use Rattle.checker.specs.declared.verdict.Why.{Why}
 use Rattle.checker.specs.declared.verdict.Why.TheVariants.{Unfinished, Predecessor}
 use Rattle.checker.specs.Readings.{Reading, by_task, by_file, IsPrecededBy, IsRequiredBy}
-use Rattle.checker.specs.Verdicts.{ShowsNone, IsLeastShown, IsOpenBy, IsUnfinished, IsMissed, IsFirstSo}
+use Rattle.checker.specs.Verdicts.{ShowsNone, IsLeastShown, IsCoveredUnfinishedBy, IsUnfinished, IsMissed}
+use Rattle.checker.specs.Verdicts.{IsFirstSo}
 use Rattle.checker.specs.Verdicts.{IsApproved, IsRejected, IsReason, IsVerdictBy, task_of}
 use Rattle.checker.specs.Counter.{IsEarliestOrder, IsCounterOrderBy, IsCounterBy}
 use Rattle.checker.specs.Search.{IsClear, SoundView, IsSoundView, ClearView, IsClearView, IsKnownOf}
@@ -47,7 +48,7 @@ use Rattle.trace_ledger.proofs.RightLemmas.{own_entries}
 use Rattle.teams.specs.Teams.{own_of}
 use Rattle.wait_coverage.specs.Done.{AreDone}
 use Rattle.wait_coverage.specs.Known.{KnownView, AreCreditLengths}
-use Rattle.wait_coverage.specs.Waits.{IsOpen}
+use Rattle.wait_coverage.specs.Waits.{IsCoveredUnfinished}
 use Rattle.wait_coverage.proofs.ShownLemmas.{own_open}
 use Rattle.checker.proofs.VerdictLemmas.{cover_ends, preceded_starts, at_cases, listed}
 
@@ -342,20 +343,21 @@ clear_and_known view order known sound clear linear greedy is =
 -- ---- what the searches in the tasks' own order find
 
 -- a task is open at a place exactly where it is at its number
-open_there : (rs : List Record) (own : OwnView) (number place task : ℕ) → IsOwnOf rs own → IsOwn own
+unfinished_there : (rs : List Record) (own : OwnView) (number place task : ℕ) → IsOwnOf rs own → IsOwn own
     → slice_get own.places number ≡ Some place
-    → IsOpen own.run.records number task ↔ IsOpenBy (by_task rs) place task
-open_there rs own number place task of is_own stands =
+    → IsCoveredUnfinished own.run.records number task ↔ IsCoveredUnfinishedBy (by_task rs) place task
+unfinished_there rs own number place task of is_own stands =
     let shown = own_open rs own number place task of is_own stands in (
       λ is. let there = shown.0 is in (there.covered, there.incomplete),
       λ is. shown.1 (record { covered = is.0; incomplete = is.1 }),
     )
 
 -- so a test by number tells it of the place
-pub open_told : (view : ClearView) (number place task : ℕ) (told : Bool) → IsClearView view
-    → slice_get view.own.places number ≡ Some place → IsTrue told ↔ IsOpen view.own.run.records number task
-    → IsTrue told ↔ IsOpenBy (by_task view.run.records) place task
-open_told view number place task told clear stands tells =
+pub unfinished_reported : (view : ClearView) (number place task : ℕ) (told : Bool) → IsClearView view
+    → slice_get view.own.places number ≡ Some place
+    → IsTrue told ↔ IsCoveredUnfinished view.own.run.records number task
+    → IsTrue told ↔ IsCoveredUnfinishedBy (by_task view.run.records) place task
+unfinished_reported view number place task told clear stands tells =
     let there =
-    open_there view.run.records view.own number place task clear.one.of_file clear.one.is_own stands in
+    unfinished_there view.run.records view.own number place task clear.one.of_file clear.one.is_own stands in
     (λ yes. there.0 (tells.0 yes), λ opened. tells.1 (there.1 opened))

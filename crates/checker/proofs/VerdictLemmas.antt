@@ -29,7 +29,8 @@ use Rattle.ompt_events.specs.declared.names.Endpoint.TheVariants.{End, BeginEnd}
 use Rattle.ompt_events.specs.Causes.{IsFreeOf, no_order}
 use Rattle.ompt_events.specs.CauseNames.{all_causes}
 use Rattle.checker.specs.Readings.{Reading, IsPrecededBy}
-use Rattle.checker.specs.Verdicts.{ShowsNone, AreComplete, IsAlwaysComplete, IsUnfinished, IsOpenBy, IsLateBy}
+use Rattle.checker.specs.Verdicts.{ShowsNone, AreComplete, IsAlwaysComplete, IsUnfinished}
+use Rattle.checker.specs.Verdicts.{IsCoveredUnfinishedBy, IsPredecessorUnfinishedBy}
 use Rattle.checker.specs.Verdicts.{IsApproved}
 use Rattle.std.proofs.lemmas.List.{length-take, get_or-take}
 use Rattle.std.proofs.lemmas.List.FromFn.{length-range_with_len, get_or-range_with_len}
@@ -62,14 +63,16 @@ complete_in rs order i task linear (inr (body, event)) =
 -- ---- what is unfinished
 
 -- what is unfinished is open where a wait ends, or late where a task starts or a taskwait is complete
-pub open_unfinished : (reading : Reading) (i task : ℕ) → IsOpenBy reading i task → IsUnfinished reading i task
-open_unfinished reading i task is = record { required = inl is.0; incomplete = is.1 }
+pub covered_unfinished : (reading : Reading) (i task : ℕ) → IsCoveredUnfinishedBy reading i task
+    → IsUnfinished reading i task
+covered_unfinished reading i task is = record { required = inl is.0; incomplete = is.1 }
 
-pub late_unfinished : (reading : Reading) (i task : ℕ) → IsLateBy reading i task → IsUnfinished reading i task
+pub late_unfinished : (reading : Reading) (i task : ℕ) → IsPredecessorUnfinishedBy reading i task
+    → IsUnfinished reading i task
 late_unfinished reading i task is = record { required = inr is.0; incomplete = is.1 }
 
 pub unfinished_cases : (reading : Reading) (i task : ℕ) → IsUnfinished reading i task
-    → IsOpenBy reading i task ⊎ IsLateBy reading i task
+    → IsCoveredUnfinishedBy reading i task ⊎ IsPredecessorUnfinishedBy reading i task
 unfinished_cases reading i task is = elim is.required [
   | inl covers ↦ inl (covers, is.incomplete)
   | inr precedes ↦ inr (precedes, is.incomplete)

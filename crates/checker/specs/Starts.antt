@@ -18,11 +18,11 @@ use Rattle.wait_coverage.specs.Done.{AreOwnLengths}
 use Rattle.trace_ledger.specs.Entries.{IsDone}
 use Rattle.checker.specs.declared.starts.Late.{Late}
 use Rattle.checker.specs.Readings.{by_task, IsPrecededBy}
-use Rattle.checker.specs.Verdicts.{IsLateBy}
+use Rattle.checker.specs.Verdicts.{IsPredecessorUnfinishedBy}
 
 -- the task must be complete at i as a predecessor, and isn't
-abbrev pub IsLate : List Record → ℕ → ℕ → Type 0
-IsLate rs = IsLateBy (by_task rs)
+abbrev pub IsPredecessorUnfinished : List Record → ℕ → ℕ → Type 0
+IsPredecessorUnfinished rs = IsPredecessorUnfinishedBy (by_task rs)
 
 -- all such tasks are complete at i
 abbrev pub AreReady : List Record → ℕ → Type 0
@@ -30,10 +30,11 @@ AreReady rs i = (task : ℕ) → IsPrecededBy (by_task rs) i task → IsComplete
 
 -- of the tasks that are late at i this one was created first in file order
 pub record IsFirstLateAt (rs : List Record) (i task : ℕ) : Type 0 where
-  pub late : IsLate rs i task
+  pub late : IsPredecessorUnfinished rs i task
   pub creation : ℕ
   pub is_created : at created rs creation ≡ Some task
-  pub created_first : (k other : ℕ) → k < creation → at created rs k ≡ Some other → IsLate rs i other → ⊥
+  pub created_first : (k other : ℕ) → k < creation → at created rs k ≡ Some other
+      → IsPredecessorUnfinished rs i other → ⊥
 
 -- ---- what the search knows
 

@@ -51,12 +51,13 @@ pub record IsMissed (reading : Reading) (i task : ℕ) : Type 0 where
   pub incomplete : IsCompleteIn reading.records order task i → ⊥
 
 -- a wait that covers the task ends at i, and the task isn't complete there
-abbrev pub IsOpenBy : Reading → ℕ → ℕ → Type 0
-IsOpenBy reading i task = reading.covers i task × (IsCompleteAt reading.records task i → ⊥)
+abbrev pub IsCoveredUnfinishedBy : Reading → ℕ → ℕ → Type 0
+IsCoveredUnfinishedBy reading i task = reading.covers i task × (IsCompleteAt reading.records task i → ⊥)
 
 -- the task must be complete at i as a predecessor, and isn't
-abbrev pub IsLateBy : Reading → ℕ → ℕ → Type 0
-IsLateBy reading i task = IsPrecededBy reading i task × (IsCompleteAt reading.records task i → ⊥)
+abbrev pub IsPredecessorUnfinishedBy : Reading → ℕ → ℕ → Type 0
+IsPredecessorUnfinishedBy reading i task =
+    IsPrecededBy reading i task × (IsCompleteAt reading.records task i → ⊥)
 
 -- the first record in file order with such a task, and of its tasks the one that was created first in file
 -- order

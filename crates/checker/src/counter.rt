@@ -16,7 +16,7 @@ use crate::starts::Precedence;
 use crate::verdict::{CheckFault, Order, Verdict};
 use ompt_events::{Fault, Trace};
 use std::alloc::Global;
-use wait_coverage::is_open;
+use wait_coverage::covers_unfinished;
 
 /// Returns an order of all records of a trace, allowed by them, in which the task is not complete at the
 /// place, although it must be: a wait ends there that covers it, or what starts or is complete there
@@ -112,7 +112,7 @@ fn is_unfinished(alloc: Global, clear: &Clear, at: usize, task: u64) -> Result<b
 {
     let sound = clear.sound();
     let known = clear.known();
-    if is_open(alloc, known, sound.own().number(at), task)? {
+    if covers_unfinished(alloc, known, sound.own().number(at), task)? {
         return Ok(true);
     }
     let precedence = Precedence::of(alloc, sound, known.own())?;

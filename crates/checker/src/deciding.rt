@@ -11,7 +11,7 @@ use crate::verdict::Why;
 use ompt_events::Fault;
 use std::alloc::{AllocError, Global};
 use std::marker::Model;
-use wait_coverage::{ends_wait, find_open};
+use wait_coverage::{ends_wait, find_unfinished};
 
 /// A trace without a cause, with the ledger lengths from which on its tasks are finished, and which tasks
 /// precede which.
@@ -64,7 +64,7 @@ impl<'a, 'r> Deciding<'a, 'r> {
         ensures memory_alone { IfErr result (λ fault. fault ≡ Memory) }
     {
         let own = self.clear.sound().own();
-        if let Some(task) = find_open(alloc, self.clear.known(), own.number(at))? {
+        if let Some(task) = find_unfinished(alloc, self.clear.known(), own.number(at))? {
             return Ok(Some(Why::Unfinished(task)));
         }
         match self.precedence.late_at(at)? {

@@ -8,7 +8,7 @@ ghost use Rattle.ompt_events.specs.Tree.{IsExplicit};
 ghost use Rattle.depend_edges.specs.Edges.{ArePredecessors};
 ghost use Rattle.wait_coverage.specs.Done.{AreOwnLengths};
 ghost use Rattle.trace_ledger.specs.Entries.{IsDone};
-ghost use Rattle.checker.specs.Starts.{IsLate, AreReady, IsPrecededByNone, IsDependentAt, IsFirstLateAt, IsBound, AreNoLengths, AreStarts, AreStartsBelow, StartsAt, StartsNoneAt, IsUnfinishedPredecessor, AreDoneBefore, IsFirstBehind, IsFirstOf, IsBehindAt, IsEarlierOf};
+ghost use Rattle.checker.specs.Starts.{IsPredecessorUnfinished, AreReady, IsPrecededByNone, IsDependentAt, IsFirstLateAt, IsBound, AreNoLengths, AreStarts, AreStartsBelow, StartsAt, StartsNoneAt, IsUnfinishedPredecessor, AreDoneBefore, IsFirstBehind, IsFirstOf, IsBehindAt, IsEarlierOf};
 
 use crate::schedule::first_started;
 use crate::sound::Sound;
@@ -134,7 +134,7 @@ impl<'a, 'r> Precedence<'a, 'r> {
     /// siblings. Fails only when out of memory.
     pub(crate) fn is_late(&self, at: usize, task: u64) -> Result<bool, Fault>
         requires { at < length self.now.file.records }
-        ensures late { IfOk result (λ late. IsTrue late ↔ IsLate self.now.file.records at task) }
+        ensures late { IfOk result (λ late. IsTrue late ↔ IsPredecessorUnfinished self.now.file.records at task) }
         ensures memory_alone { IfErr result (λ fault. fault ≡ Memory) }
     {
         match &self.starts {
@@ -265,7 +265,7 @@ impl Precedence<'_, '_> {
     fn is_late_by(&self, starts: &[u32], at: usize, task: u64) -> Result<bool, Fault>
         requires within { at < length self.now.file.records }
         requires starts { AreStarts self.now.file.records self.now.file.family.tasks starts.now }
-        ensures late { IfOk result (λ late. IsTrue late ↔ IsLate self.now.file.records at task) }
+        ensures late { IfOk result (λ late. IsTrue late ↔ IsPredecessorUnfinished self.now.file.records at task) }
         ensures memory_alone { IfErr result (λ fault. fault ≡ Memory) }
     {
         match self.dependent_at(starts, at) {

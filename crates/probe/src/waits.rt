@@ -78,8 +78,12 @@ fn of_end(rt: &HostRuntime, coverage: &Coverage, ledger: &Ledger, number: usize)
     let end = coverage.ends().get(number);
     let cover = coverage.cover(number);
     let spans = again!(rt, _, coverage.spans(number))?;
-    let open = again!(rt, _, coverage.first_open(number, ledger))?;
-    let twice = again!(rt, _, coverage.first_open_all(&[number, number], ledger))?;
+    let open = again!(rt, _, coverage.first_unfinished(number, ledger))?;
+    let twice = again!(
+        rt,
+        _,
+        coverage.first_unfinished_all(&[number, number], ledger)
+    )?;
     println!(rt; "{end:?}: {cover:?} {spans:?} open {open:?}, twice {twice:?}")?;
     Ok(())
 }

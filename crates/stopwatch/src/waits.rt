@@ -35,7 +35,7 @@ pub fn of_input(rt: &HostRuntime, searched: bool) -> Result<()> {
 fn of_ends(rt: &HostRuntime, coverage: &Coverage, ledger: &Ledger) -> Result<()> {
     let ends = coverage.ends().len();
     let all = numbers_below(rt.alloc(), ends)?;
-    let found = coverage.first_open_all(all.as_slice(), ledger)?;
+    let found = coverage.first_unfinished_all(all.as_slice(), ledger)?;
     let open = found.iter().filter(|task| task.is_some()).count();
     println!(rt; "{open} of {ends} ends are open")?;
     Ok(())

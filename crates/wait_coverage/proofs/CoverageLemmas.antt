@@ -37,12 +37,13 @@ use Rattle.task_tree.specs.Families.{IsOwnOf}
 use Rattle.task_states.specs.Regions.{RegionsView}
 use Rattle.task_states.specs.States.{StatesView, IsStates}
 use Rattle.teams.specs.Teams.{TeamsView, own_of, IsTeams, AreTeams, IsMemberNumbered}
-use Rattle.wait_coverage.specs.Waits.{EndsNoWaitAt, IsWaitAt, waits, groups, meets, cover_of, IsFirstOpen}
+use Rattle.wait_coverage.specs.Waits.{EndsNoWaitAt, IsWaitAt, waits, groups, meets, cover_of}
+use Rattle.wait_coverage.specs.Waits.{IsFirstCoveredUnfinished}
 use Rattle.wait_coverage.specs.Waits.{waiting}
 use Rattle.wait_coverage.specs.Coverage.{IsEnd, IsEndPlace, AreWaitEnds, AreWaits, IsEndNumber}
-use Rattle.wait_coverage.specs.Coverage.{IsFirstOpenAnswer}
+use Rattle.wait_coverage.specs.Coverage.{IsFirstUnfinishedAnswer}
 use Rattle.wait_coverage.specs.Coverage.{IsCoverAt, IsOnly, HasBegun, HaveBegun, IsMemberSpan, AreRosterSpans}
-use Rattle.wait_coverage.specs.Coverage.{CoverageView, IsCoverage, AreFirstOpen}
+use Rattle.wait_coverage.specs.Coverage.{CoverageView, IsCoverage, AreFirstUnfinished}
 use Rattle.wait_coverage.specs.declared.waits.Wait.{Wait}
 use Rattle.wait_coverage.specs.declared.waits.Wait.TheVariants.{Taskwait as ForTaskwait}
 use Rattle.wait_coverage.specs.declared.waits.Wait.TheVariants.{Taskgroup as ForTaskgroup}
@@ -54,7 +55,7 @@ use Rattle.wait_coverage.proofs.CreditLaw.{held_is_complete}
 use Rattle.teams.proofs.BarrierLemmas.{barrier_is_other, begun_subject, begin_says}
 use Rattle.wait_coverage.proofs.MateLemmas.{mate_of_number, begin_within}
 use Rattle.teams.proofs.MemberLemmas.{mate_index}
-use Rattle.wait_coverage.proofs.OpenLemmas.{barrier_waits}
+use Rattle.wait_coverage.proofs.UnfinishedLemmas.{barrier_waits}
 use Rattle.task_states.specs.Rows.{row_at}
 use Rattle.task_states.proofs.RowLemmas.{row_there}
 
@@ -522,23 +523,26 @@ one_number_of coverage index end other is (place, here, stands) (place', here', 
     (stands' ∙ ap Some (sym (same_Some place place' (sym here ∙ here'))))
 
 -- what the search finds where the lengths are those of the records
-pub open_first : (known : TeamsView) (done : DoneView) (number end : ℕ) (found : Option ℕ)
+pub first_of_unfinished : (known : TeamsView) (done : DoneView) (number end : ℕ) (found : Option ℕ)
     → done.teams ≡ known → IsDoneView done → AreDone done → number ≡ end
     → (AreChildrenDone done
     → MatchOption found (IsCoverComplete (records_of done) number)
-    (IsFirstOpen (own_of done.teams) number))
-    → MatchOption found (IsCoverComplete known.run.records end) (IsFirstOpen (own_of known) end)
-open_first known done number end found same is are at_end answer =
+    (IsFirstCoveredUnfinished (own_of done.teams) number))
+    → MatchOption found (IsCoverComplete known.run.records end) (IsFirstCoveredUnfinished (own_of known) end)
+first_of_unfinished known done number end found same is are at_end answer =
     let P : TeamsView → Type 0 =
-    λ t. MatchOption found (IsCoverComplete t.run.records number) (IsFirstOpen (own_of t) number) in
+    λ t.
+    MatchOption found (IsCoverComplete t.run.records number) (IsFirstCoveredUnfinished (own_of t) number)
+    in
     let Q : ℕ → Type 0 =
-    λ e. MatchOption found (IsCoverComplete known.run.records e) (IsFirstOpen (own_of known) e) in
+    λ e.
+    MatchOption found (IsCoverComplete known.run.records e) (IsFirstCoveredUnfinished (own_of known) e) in
     subst Q at_end (subst P same (answer (own_children_done done is are)))
 
 -- ---- several ends
 
 pub none_asked : (coverage : CoverageView) (of : List ℕ) (found : List (Option ℕ)) → found ≡ []
-    → AreFirstOpen coverage of 0 found
+    → AreFirstUnfinished coverage of 0 found
 none_asked coverage of found empty = record {
   count = ap length empty;
   each =
@@ -550,9 +554,9 @@ none_asked coverage of found empty = record {
 
 pub one_more : (coverage : CoverageView) (of : List ℕ) (n index : ℕ) (answer : Option ℕ)
     (found : List (Option ℕ))
-    → slice_get of n ≡ Some index → AreFirstOpen coverage of n found
-    → ((end : ℕ) → IsEndNumber coverage index end → IsFirstOpenAnswer coverage end answer)
-    → AreFirstOpen coverage of (n + 1) (found ++ answer ∷ [])
+    → slice_get of n ≡ Some index → AreFirstUnfinished coverage of n found
+    → ((end : ℕ) → IsEndNumber coverage index end → IsFirstUnfinishedAnswer coverage end answer)
+    → AreFirstUnfinished coverage of (n + 1) (found ++ answer ∷ [])
 one_more coverage of n index answer found asked are is = record {
   count = length_push found answer ∙ ap (λ k. k + 1) are.count;
   each = λ k other end x asked_there here there. elim (pushed_cases found answer x k there) [
@@ -560,7 +564,7 @@ one_more coverage of n index answer found asked are is = record {
     | inr last ↦
         let at_n : k ≡ n = last.0 ∙ are.count in
         let same = same_Some other index (sym asked_there ∙ ap (slice_get of) at_n ∙ asked) in
-        let P : Option ℕ → Type 0 = IsFirstOpenAnswer coverage end in
+        let P : Option ℕ → Type 0 = IsFirstUnfinishedAnswer coverage end in
         let Q : ℕ → Type 0 = λ k. IsEndNumber coverage k end in
         subst P last.1 (is end (subst Q same here))
   ];

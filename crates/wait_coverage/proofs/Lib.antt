@@ -9,7 +9,7 @@ pub mod LimitLemmas
 pub mod WaitKindLemmas
 pub mod WaitLemmas
 pub mod MeetingLemmas
-pub mod OpenLemmas
+pub mod UnfinishedLemmas
 pub mod NumberLemmas
 pub mod MateLemmas
 pub mod CreditLaw

@@ -17,10 +17,10 @@ use Rattle.task_tree.proofs.OwnRunLemmas.{own_says, own_covers, place_of_number,
 use Rattle.teams.proofs.RegionEndLemmas.{EndsAt, ends_at}
 use Rattle.trace_ledger.specs.Entries.{IsDone}
 use Rattle.wait_coverage.specs.Spans.{IsCoverComplete}
-use Rattle.wait_coverage.specs.Waits.{IsOpen, IsFirstOpen}
-use Rattle.wait_coverage.specs.Shown.{IsOpenShown, IsCompleteShown, IsFirstOpenShown}
+use Rattle.wait_coverage.specs.Waits.{IsCoveredUnfinished, IsFirstCoveredUnfinished}
+use Rattle.wait_coverage.specs.Shown.{IsUnfinishedShown, IsCompleteShown, IsFirstUnfinishedShown}
 use Rattle.wait_coverage.proofs.CoverLemmas.{done_there, complete_there}
-use Rattle.wait_coverage.proofs.OpenLemmas.{EndsWaitAt, covers_at}
+use Rattle.wait_coverage.proofs.UnfinishedLemmas.{EndsWaitAt, covers_at}
 
 -- ---- finished tasks
 
@@ -100,7 +100,7 @@ own_complete rs own number place task covered of is stands covers = (
 -- an end at a place is open there where its record is in the tasks' own order
 pub own_open : (rs : List Record) (own : OwnView) (number place task : ℕ) → IsOwnOf rs own → IsOwn own
     → slice_get own.places number ≡ Some place
-    → IsOpen own.run.records number task ↔ IsOpenShown rs place task
+    → IsCoveredUnfinished own.run.records number task ↔ IsUnfinishedShown rs place task
 own_open rs own number place task of is stands = (
   λ opened. record {
     covered = (own_covers rs own of number place stands task).0 opened.covered;
@@ -128,9 +128,10 @@ all_shown rs own number place of is stands all task covers =
     (own_complete rs own number place task task of is stands covered).0 (all task covered)
 
 first_shown : (rs : List Record) (own : OwnView) (number place task : ℕ) → IsOwnOf rs own → IsOwn own
-    → slice_get own.places number ≡ Some place → IsFirstOpen own number task → IsFirstOpenShown rs place task
+    → slice_get own.places number ≡ Some place → IsFirstCoveredUnfinished own number task
+    → IsFirstUnfinishedShown rs place task
 first_shown rs own number place task of is stands first = record {
-  open_there = (own_open rs own number place task of is stands).0 first.is_open;
+  unfinished_there = (own_open rs own number place task of is stands).0 first.unfinished;
   creation = first.creation;
   is_created =
       let made = first.is_created in sym (own_says created rs own of made.0 first.creation made.1) ∙ made.2;
@@ -142,10 +143,11 @@ first_shown rs own number place task of is stands first = record {
 }
 
 -- so what a search in the tasks' own order finds is what the trace shows
-pub open_shown : (rs : List Record) (own : OwnView) (number place : ℕ) (found : Option ℕ) → IsOwnOf rs own
+pub unfinished_shown : (rs : List Record) (own : OwnView) (number place : ℕ) (found : Option ℕ)
+    → IsOwnOf rs own
     → IsOwn own → slice_get own.places number ≡ Some place
-    → MatchOption found (IsCoverComplete own.run.records number) (IsFirstOpen own number)
-    → MatchOption found (IsCompleteShown rs place) (IsFirstOpenShown rs place)
-open_shown rs own number place None of is stands all = all_shown rs own number place of is stands all
-open_shown rs own number place (Some task) of is stands first =
+    → MatchOption found (IsCoverComplete own.run.records number) (IsFirstCoveredUnfinished own number)
+    → MatchOption found (IsCompleteShown rs place) (IsFirstUnfinishedShown rs place)
+unfinished_shown rs own number place None of is stands all = all_shown rs own number place of is stands all
+unfinished_shown rs own number place (Some task) of is stands first =
     first_shown rs own number place task of is stands first

@@ -27,7 +27,8 @@ use Rattle.task_tree.proofs.LineageLemmas.{parent_is_at, parent_at_is}
 use Rattle.credit_ledger.specs.declared.entry.Cover.TheVariants.{Descendants}
 use Rattle.wait_coverage.specs.Done.{IsDoneView, DoneView, records_of, IsParentsFirst}
 use Rattle.wait_coverage.specs.Waits.{IsWaitAt, waits, groups, IsOwnChild, IsAwaitedBy, IsAwaited, AreAwaited}
-use Rattle.wait_coverage.specs.Waits.{AreAwaitedMarked, EndsNoWaitAt, IsLateAt, cover_of, IsInWait}
+use Rattle.wait_coverage.specs.Waits.{AreAwaitedMarked, EndsNoWaitAt, IsAwaitedUnfinishedAt, cover_of}
+use Rattle.wait_coverage.specs.Waits.{IsInWait}
 use Rattle.wait_coverage.specs.Waits.{before_begin}
 use Rattle.wait_coverage.specs.Waits.{in_group, by_member, meets}
 use Rattle.wait_coverage.specs.Search.{SearchView, IsMarkedAbove}
@@ -315,14 +316,15 @@ begins_within run i index begin kind endpoint event begins =
 -- ---- late tasks
 
 pub late_more : (done : DoneView) (wait : Wait) (seen n : ℕ)
-    → ((k task : ℕ) → k < n → IsLateAt done wait seen k task → ⊥)
-    → ((task : ℕ) → IsLateAt done wait seen n task → ⊥) → (k task : ℕ) → k < n + 1
-    → IsLateAt done wait seen k task → ⊥
+    → ((k task : ℕ) → k < n → IsAwaitedUnfinishedAt done wait seen k task → ⊥)
+    → ((task : ℕ) → IsAwaitedUnfinishedAt done wait seen n task → ⊥) → (k task : ℕ) → k < n + 1
+    → IsAwaitedUnfinishedAt done wait seen k task → ⊥
 late_more done wait seen n before here k task below late = elim (cases_eq k n) [
-  | inl same ↦ let P : ℕ → Type 0 = λ j. IsLateAt done wait seen j task in here task (subst P same late)
+  | inl same ↦
+      let P : ℕ → Type 0 = λ j. IsAwaitedUnfinishedAt done wait seen j task in here task (subst P same late)
   | inr apart ↦ before k task (omega (arith, below, apart)) late
 ]
 
 pub late_within : (done : DoneView) (wait : Wait) (seen place task : ℕ) → IsDoneView done
-    → IsLateAt done wait seen place task → place < length (records_of done)
+    → IsAwaitedUnfinishedAt done wait seen place task → place < length (records_of done)
 late_within done wait seen place task is late = is.teams.placed.places.below late.0.0 place late.0.1

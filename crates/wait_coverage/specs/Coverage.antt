@@ -19,7 +19,7 @@ use Rattle.task_tree.specs.Own.{OwnView}
 use Rattle.teams.specs.Teams.{TeamsView, own_of, IsTeams}
 use Rattle.wait_coverage.specs.Numbers.{AreNumbers}
 use Rattle.wait_coverage.specs.Spans.{IsSpan, IsCoverComplete}
-use Rattle.wait_coverage.specs.Waits.{IsWaitAt, IsFirstOpen}
+use Rattle.wait_coverage.specs.Waits.{IsWaitAt, IsFirstCoveredUnfinished}
 use Rattle.wait_coverage.specs.declared.waits.Wait.{Wait}
 
 -- a region that waits for tasks ends at i (OpenMP 5.2, 15.3 to 15.5)
@@ -119,14 +119,15 @@ IsEndNumber coverage index number = (place : ℕ) × (slice_get coverage.ends in
 
 -- the result is the first unfinished task at the end with this number, or none if all that it covers is
 -- complete
-abbrev pub IsFirstOpenAnswer : CoverageView → ℕ → Option ℕ → Type 0
-IsFirstOpenAnswer coverage end answer = MatchOption answer (IsCoverComplete coverage.teams.run.records end)
-    (IsFirstOpen (own_of coverage.teams) end)
+abbrev pub IsFirstUnfinishedAnswer : CoverageView → ℕ → Option ℕ → Type 0
+IsFirstUnfinishedAnswer coverage end answer =
+    MatchOption answer (IsCoverComplete coverage.teams.run.records end)
+    (IsFirstCoveredUnfinished (own_of coverage.teams) end)
 
 -- the result for each of the first n of these ends, given by their indices among the ends
-pub record AreFirstOpen (coverage : CoverageView) (of : List ℕ) (n : ℕ)
+pub record AreFirstUnfinished (coverage : CoverageView) (of : List ℕ) (n : ℕ)
     (found : List (Option ℕ)) : Type 0 where
   pub count : length found ≡ n
   pub each : (k index end : ℕ) (answer : Option ℕ) → slice_get of k ≡ Some index
       → IsEndNumber coverage index end → slice_get found k ≡ Some answer
-      → IsFirstOpenAnswer coverage end answer
+      → IsFirstUnfinishedAnswer coverage end answer

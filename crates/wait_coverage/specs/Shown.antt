@@ -9,7 +9,7 @@ use Rattle.ompt_events.specs.Coverage.{Covers}
 use Rattle.ompt_events.specs.Completion.{IsCompleteAt}
 
 -- a wait that covers the task ends at the place in the file, and the task is unfinished there
-pub record IsOpenShown (rs : List Record) (place task : ℕ) : Type 0 where
+pub record IsUnfinishedShown (rs : List Record) (place task : ℕ) : Type 0 where
   pub covered : Covers (in_own_order rs) (own_place rs place) task
   pub incomplete : IsCompleteAt rs task place → ⊥
 
@@ -19,9 +19,9 @@ IsCompleteShown rs place =
     (task : ℕ) → Covers (in_own_order rs) (own_place rs place) task → IsCompleteAt rs task place
 
 -- of the tasks that are unfinished there this one was created first in the file
-pub record IsFirstOpenShown (rs : List Record) (place task : ℕ) : Type 0 where
-  pub open_there : IsOpenShown rs place task
+pub record IsFirstUnfinishedShown (rs : List Record) (place task : ℕ) : Type 0 where
+  pub unfinished_there : IsUnfinishedShown rs place task
   pub creation : ℕ
   pub is_created : at created rs creation ≡ Some task
   pub created_first : (k other : ℕ) → k < creation → at created rs k ≡ Some other
-      → IsOpenShown rs place other → ⊥
+      → IsUnfinishedShown rs place other → ⊥

@@ -98,7 +98,7 @@ pub record AreAwaitedMarked (rs : List Record) (tasks : List ℕ) (wait : Wait) 
 -- ---- what is unfinished
 
 -- the end at i covers the task, which is unfinished there
-pub record IsOpen (rs : List Record) (i task : ℕ) : Type 0 where
+pub record IsCoveredUnfinished (rs : List Record) (i task : ℕ) : Type 0 where
   pub covered : Covers rs i task
   pub incomplete : IsCompleteAt rs task i → ⊥
 
@@ -109,25 +109,25 @@ CreatesAtPlace own place task = (number : ℕ) × (slice_get own.places number �
 
 -- of the tasks that the end with this number covers and that are unfinished there, this one was created
 -- first in the file
-pub record IsFirstOpen (own : OwnView) (end task : ℕ) : Type 0 where
-  pub is_open : IsOpen own.run.records end task
+pub record IsFirstCoveredUnfinished (own : OwnView) (end task : ℕ) : Type 0 where
+  pub unfinished : IsCoveredUnfinished own.run.records end task
   pub creation : ℕ
   pub is_created : CreatesAtPlace own creation task
   pub created_first : (place other : ℕ) → place < creation → CreatesAtPlace own place other
-      → IsOpen own.run.records end other → ⊥
+      → IsCoveredUnfinished own.run.records end other → ⊥
 
 -- the task is waited for, and its length is above the one seen
-abbrev pub IsLateTask : DoneView → Wait → ℕ → ℕ → Type 0
-IsLateTask done wait seen task =
+abbrev pub IsAwaitedUnfinished : DoneView → Wait → ℕ → ℕ → Type 0
+IsAwaitedUnfinished done wait seen task =
     IsAwaited (records_of done) (tasks_of done) wait task × (IsEarly done seen task → ⊥)
 
 -- such a task, which is created at this place in the file
-abbrev pub IsLateAt : DoneView → Wait → ℕ → ℕ → ℕ → Type 0
-IsLateAt done wait seen place task =
-    CreatesAtPlace (own_of done.teams) place task × IsLateTask done wait seen task
+abbrev pub IsAwaitedUnfinishedAt : DoneView → Wait → ℕ → ℕ → ℕ → Type 0
+IsAwaitedUnfinishedAt done wait seen place task =
+    CreatesAtPlace (own_of done.teams) place task × IsAwaitedUnfinished done wait seen task
 
 -- the first such task in the file
 pub record IsFirstLate (done : DoneView) (wait : Wait) (seen task : ℕ) : Type 0 where
   pub place : ℕ
-  pub late : IsLateAt done wait seen place task
-  pub first : (k other : ℕ) → k < place → IsLateAt done wait seen k other → ⊥
+  pub late : IsAwaitedUnfinishedAt done wait seen place task
+  pub first : (k other : ℕ) → k < place → IsAwaitedUnfinishedAt done wait seen k other → ⊥

@@ -16,10 +16,10 @@ ghost use Rattle.trace_ledger.specs.Entries.{IsLedgerOf, HasRightEntries};
 ghost use Rattle.wait_coverage.specs.declared.waits.Wait.TheVariants.{Barrier};
 ghost use Rattle.wait_coverage.specs.Spans.{AreSpans, AreMemberSpans, IsSpan, IsCoverComplete};
 ghost use Rattle.wait_coverage.specs.Waits.{IsWaitAt, cover_of};
-ghost use Rattle.wait_coverage.specs.Coverage.{IsCoverage, AreAllHeld, AreShallow, AreWaitEnds, AreWaits, IsEndNumber, IsFirstOpenAnswer, AreFirstOpen, IsCoverAt, IsOnly, HasBegun, HaveBegun, IsMemberSpan, AreRosterSpans};
+ghost use Rattle.wait_coverage.specs.Coverage.{IsCoverage, AreAllHeld, AreShallow, AreWaitEnds, AreWaits, IsEndNumber, IsFirstUnfinishedAnswer, AreFirstUnfinished, IsCoverAt, IsOnly, HasBegun, HaveBegun, IsMemberSpan, AreRosterSpans};
 
 use crate::numbers::find_numbers;
-use crate::unfinished::{Known, open_at};
+use crate::unfinished::{Known, unfinished_at};
 use crate::waits::{Wait, wait_at};
 use credit_ledger::{Cover, Ledger, Span};
 use ompt_events::{Fault, Path, Trace};
@@ -129,13 +129,13 @@ impl<'a> Coverage<'a> {
     /// none if these entries hold the credit that the end waits for (F. Mattern, 1989). The contract
     /// guarantees this if the ledger is that of the trace and its records have right entries, as those
     /// without the causes 1 to 13 have. Fails only when out of memory.
-    pub fn first_open(&self, index: usize, ledger: &Ledger) -> Result<Option<u64>, CoverFault>
+    pub fn first_unfinished(&self, index: usize, ledger: &Ledger) -> Result<Option<u64>, CoverFault>
         requires { index < length self.now.ends }
         ensures fault { IfErr result (λ fault. fault ≡ Memory) }
         ensures first { IsLedgerOf self.now.teams.run.records ledger.now
             → HasRightEntries self.now.teams.run.records
             → IfOk result (λ found. (end : ℕ) → IsEndNumber self.now index end
-            → IsFirstOpenAnswer self.now end found) }
+            → IsFirstUnfinishedAnswer self.now end found) }
     {
         if self.is_end_held(index, ledger)? {
             return Ok(None);
@@ -143,12 +143,12 @@ impl<'a> Coverage<'a> {
         let alloc = *self.ends.allocator();
         let known = Known::of_ledger(alloc, self.teams(), ledger)?;
         let _done = known.done();
-        Ok(open_at(alloc, &known, self.end(index))?)
+        Ok(unfinished_at(alloc, &known, self.end(index))?)
     }
 
     /// Returns the same for several ends. Goes over the ledger's entries once for all of them. Takes a few
     /// steps for each end in time, and a few for each record for an end with an unfinished task.
-    pub fn first_open_all(
+    pub fn first_unfinished_all(
         &self,
         of: &[usize],
         ledger: &Ledger,
@@ -157,14 +157,14 @@ impl<'a> Coverage<'a> {
         ensures fault { IfErr result (λ fault. fault ≡ Memory) }
         ensures first { IsLedgerOf self.now.teams.run.records ledger.now
             → HasRightEntries self.now.teams.run.records
-            → IfOk result (λ found. AreFirstOpen self.now of.now (length of.now) found.items) }
+            → IfOk result (λ found. AreFirstUnfinished self.now of.now (length of.now) found.items) }
     {
         let alloc = *self.ends.allocator();
         let known = Known::of_ledger(alloc, self.teams(), ledger)?;
         let _done = known.done();
         let mut found = Vec::with_capacity(alloc, of.len())?;
         for asked in 0..of.len() {
-            found.push(open_at(alloc, &known, self.end(of[asked]))?)?;
+            found.push(unfinished_at(alloc, &known, self.end(of[asked]))?)?;
         }
         Ok(found)
     }

@@ -12,8 +12,8 @@ ghost use Rattle.credit_ledger.specs.declared.entry.Span.{Span};
 ghost use Rattle.credit_ledger.specs.declared.entry.Cover.{Cover};
 ghost use Rattle.trace_ledger.specs.Entries.{IsLedgerOf, HasRightEntries};
 ghost use Rattle.wait_coverage.specs.Spans.{AreSpans, AreHeldAt, IsCoverComplete};
-ghost use Rattle.wait_coverage.specs.Waits.{IsFirstOpen};
-ghost use Rattle.wait_coverage.specs.Shown.{IsCompleteShown, IsFirstOpenShown};
+ghost use Rattle.wait_coverage.specs.Waits.{IsFirstCoveredUnfinished};
+ghost use Rattle.wait_coverage.specs.Shown.{IsCompleteShown, IsFirstUnfinishedShown};
 
 /// The entries below the ledger length that an end names finish each task that it covers if and only if
 /// they hold the start share of each child of its spans: in its parent's pool for a taskwait, in the tree
@@ -28,11 +28,11 @@ pub fn held_is_complete()
 {}
 
 /// The unfinished task at a wait by the records in the tasks' own order is also the one that the trace
-/// shows. `find_open` searches the run in that order (`IsFirstOpen`); its result is also right by the trace
+/// shows. `find_unfinished` searches the run in that order (`IsFirstOpen`); its result is also right by the trace
 /// alone (`IsFirstOpenShown`).
-pub fn open_is_shown()
+pub fn unfinished_is_shown()
     ensures { (rs : List Record) (own : OwnView) (number place : ℕ) (found : Option ℕ) → IsOwnOf rs own
         → IsOwn own → slice_get own.places number ≡ Some place
-        → MatchOption found (IsCoverComplete own.run.records number) (IsFirstOpen own number)
-        → MatchOption found (IsCompleteShown rs place) (IsFirstOpenShown rs place) }
+        → MatchOption found (IsCoverComplete own.run.records number) (IsFirstCoveredUnfinished own number)
+        → MatchOption found (IsCompleteShown rs place) (IsFirstUnfinishedShown rs place) }
 {}

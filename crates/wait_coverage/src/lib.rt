@@ -1,8 +1,8 @@
 //! From which ledger length on each task is finished, and its credit is held; which tasks the end of a
 //! region waits for, and whether they are finished there.
 //!
-//! `Known` has the lengths, from the records (`find_known`) or from a ledger's entries. `find_open` returns
-//! the first created task that is unfinished at an end, `is_open` whether a given one is. `Coverage` works
+//! `Known` has the lengths, from the records (`find_known`) or from a ledger's entries. `find_unfinished` returns
+//! the first created task that is unfinished at an end, `covers_unfinished` whether a given one is. `Coverage` works
 //! on single ends with their credit, and `laws` says why held credit means finished tasks. Read
 //! `unfinished` first, then what it uses: `order` (tasks after their parents), `done` (after `lengths`: a
 //! length for each task, and one for it and its descendants), `limits` and `meetings` (a length for what
@@ -23,4 +23,4 @@ mod unfinished;
 mod waits;
 
 pub use coverage::{CoverFault, Coverage};
-pub use unfinished::{Known, ends_wait, find_known, find_open, is_open};
+pub use unfinished::{Known, covers_unfinished, ends_wait, find_known, find_unfinished};

@@ -9,7 +9,7 @@ ghost use Rattle.wait_coverage.specs.Known.{AreHeldFrom, AreCreditLengths};
 ghost use Rattle.wait_coverage.specs.Limits.{IsEndLimit};
 ghost use Rattle.wait_coverage.specs.Spans.{IsCoverComplete};
 ghost use Rattle.wait_coverage.specs.Coverage.{IsEnd};
-ghost use Rattle.wait_coverage.specs.Waits.{IsWaitAt, AreAwaited, IsOpen, IsFirstOpen, waiting};
+ghost use Rattle.wait_coverage.specs.Waits.{IsWaitAt, AreAwaited, IsCoveredUnfinished, IsFirstCoveredUnfinished, waiting};
 
 use crate::done::Done;
 use crate::limit::Limit;
@@ -132,19 +132,19 @@ pub fn find_known<'a>(alloc: Global, teams: &'a Teams<'a>) -> Result<Known<'a>, 
 /// which on the tasks are finished, or, with right entries, those from which on their credit is held (F.
 /// Mattern, 1989). Takes a few steps, and where a task is unfinished a few for each record and memory
 /// linear in the records. Fails only when out of memory.
-pub fn find_open(alloc: Global, known: &Known, number: usize) -> Result<Option<u64>, Fault>
+pub fn find_unfinished(alloc: Global, known: &Known, number: usize) -> Result<Option<u64>, Fault>
     requires { number < length known.now.done.teams.run.records }
     ensures first { AreDone known.now.done → IfOk result (λ found.
         MatchOption found (IsCoverComplete known.now.done.teams.run.records number)
-        (IsFirstOpen (own_of known.now.done.teams) number)) }
+        (IsFirstCoveredUnfinished (own_of known.now.done.teams) number)) }
     ensures first_by_credit { HasRightEntries known.now.done.teams.run.records
         → AreCreditLengths known.now.done → IfOk result (λ found.
         MatchOption found (IsCoverComplete known.now.done.teams.run.records number)
-        (IsFirstOpen (own_of known.now.done.teams) number)) }
+        (IsFirstCoveredUnfinished (own_of known.now.done.teams) number)) }
     ensures fault { IfErr result (λ fault. fault ≡ Memory) }
 {
     let _done = known.done();
-    Ok(open_at(alloc, known, number)?)
+    Ok(unfinished_at(alloc, known, number)?)
 }
 
 /// Returns whether the record with this number in the tasks' own order ends a region that waits for tasks
@@ -158,7 +158,7 @@ pub fn ends_wait(known: &Known, number: usize) -> bool
 
 /// Returns, of the tasks that the end with this number covers and that are unfinished there, the one
 /// created first in the file.
-pub(crate) fn open_at(
+pub(crate) fn unfinished_at(
     alloc: Global,
     known: &Known,
     number: usize,
@@ -166,7 +166,7 @@ pub(crate) fn open_at(
     requires { number < length known.now.done.teams.run.records }
     ensures { AreChildrenDone known.now.done → IfOk result (λ found.
         MatchOption found (IsCoverComplete known.now.done.teams.run.records number)
-        (IsFirstOpen (own_of known.now.done.teams) number)) }
+        (IsFirstCoveredUnfinished (own_of known.now.done.teams) number)) }
 {
     let done = known.done();
     match unmet_wait(known, number) {
@@ -182,10 +182,15 @@ pub(crate) fn open_at(
 /// unfinished there (OpenMP 5.2, 15.3 to 15.5). The contract guarantees this if the lengths are those from
 /// which on the tasks are finished. Takes a few steps for each record, and memory linear in the records.
 /// Fails only when out of memory.
-pub fn is_open(alloc: Global, known: &Known, number: usize, task: u64) -> Result<bool, Fault>
+pub fn covers_unfinished(
+    alloc: Global,
+    known: &Known,
+    number: usize,
+    task: u64,
+) -> Result<bool, Fault>
     requires { number < length known.now.done.teams.run.records }
-    ensures open { AreDone known.now.done → IfOk result (λ found.
-        IsTrue found ↔ IsOpen known.now.done.teams.run.records number task) }
+    ensures unfinished { AreDone known.now.done → IfOk result (λ found.
+        IsTrue found ↔ IsCoveredUnfinished known.now.done.teams.run.records number task) }
     ensures fault { IfErr result (λ fault. fault ≡ Memory) }
 {
     let done = known.done();

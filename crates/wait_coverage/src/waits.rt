@@ -6,7 +6,7 @@ ghost use Rattle.task_tree.specs.Runs.{IsWaitEvent};
 ghost use Rattle.task_states.specs.Rows.{row_at};
 ghost use Rattle.wait_coverage.specs.Done.{IsParentsFirst};
 ghost use Rattle.wait_coverage.specs.Search.{IsSearch, IsMarkedAbove};
-ghost use Rattle.wait_coverage.specs.Waits.{EndsNoWaitAt, IsWaitAt, IsInWait, IsOwnChild, IsAwaited, AreAwaited, IsLateTask, IsLateAt, IsFirstLate, cover_of, waiting};
+ghost use Rattle.wait_coverage.specs.Waits.{EndsNoWaitAt, IsWaitAt, IsInWait, IsOwnChild, IsAwaited, AreAwaited, IsAwaitedUnfinished, IsAwaitedUnfinishedAt, IsFirstLate, cover_of, waiting};
 ghost use Rattle.wait_coverage.specs.declared.waits.Wait.{Wait};
 
 use crate::done::Done;
@@ -236,7 +236,7 @@ pub(crate) fn first_late(done: &Done, marks: &[bool], seen: u32) -> Option<u64>
     requires { length marks.now ≡ length done.now.teams.run.family.tasks }
     ensures { (wait : Wait)
         → AreAwaited done.now.teams.run.records done.now.teams.run.family.tasks wait marks.now
-        → MatchOption result ((place task : ℕ) → IsLateAt done.now wait seen place task → ⊥)
+        → MatchOption result ((place task : ℕ) → IsAwaitedUnfinishedAt done.now wait seen place task → ⊥)
         (IsFirstLate done.now wait seen) }
 {
     for place in 0..done.run().len() {
@@ -254,8 +254,8 @@ fn late_at(done: &Done, marks: &[bool], place: usize, seen: u32) -> Option<u64>
     requires all { length marks.now ≡ length done.now.teams.run.family.tasks }
     ensures { (wait : Wait)
         → AreAwaited done.now.teams.run.records done.now.teams.run.family.tasks wait marks.now
-        → MatchOption result ((task : ℕ) → IsLateAt done.now wait seen place task → ⊥)
-        (IsLateAt done.now wait seen place) }
+        → MatchOption result ((task : ℕ) → IsAwaitedUnfinishedAt done.now wait seen place task → ⊥)
+        (IsAwaitedUnfinishedAt done.now wait seen place) }
 {
     let run = done.run();
     let index = run.created(done.teams().own().number(place))?;
@@ -271,7 +271,7 @@ pub(crate) fn is_late_task(done: &Done, marks: &[bool], task: u64, seen: u32) ->
     requires { length marks.now ≡ length done.now.teams.run.family.tasks }
     ensures { (wait : Wait)
         → AreAwaited done.now.teams.run.records done.now.teams.run.family.tasks wait marks.now
-        → IsTrue result ↔ IsLateTask done.now wait seen task }
+        → IsTrue result ↔ IsAwaitedUnfinished done.now wait seen task }
 {
     match done.run().index_of(task) {
         Some(index) => is_late_index(done, marks, index, seen),
@@ -286,7 +286,7 @@ fn is_late_index(done: &Done, marks: &[bool], index: usize, seen: u32) -> bool
     ensures { (wait : Wait) (task : ℕ)
         → AreAwaited done.now.teams.run.records done.now.teams.run.family.tasks wait marks.now
         → slice_get done.now.teams.run.family.tasks index ≡ Some task
-        → IsTrue result ↔ IsLateTask done.now wait seen task }
+        → IsTrue result ↔ IsAwaitedUnfinished done.now wait seen task }
 {
     if !marks[index] {
         return false;

@@ -7,12 +7,12 @@ use Rattle.task_tree.specs.Runs.{RunView}
 use Rattle.task_tree.specs.Own.{OwnView}
 use Rattle.task_tree.proofs.ShownLemmas.{own_long}
 use Rattle.teams.specs.Teams.{own_of}
-use Rattle.wait_coverage.specs.Waits.{IsOpen}
+use Rattle.wait_coverage.specs.Waits.{IsCoveredUnfinished}
 use Rattle.checker.specs.Readings.{by_task}
-use Rattle.checker.specs.Verdicts.{IsOpenBy, IsUnfinished}
-use Rattle.checker.specs.Starts.{IsLate}
-use Rattle.checker.proofs.VerdictLemmas.{open_unfinished, late_unfinished, unfinished_cases}
-use Rattle.checker.proofs.ReadingLemmas.{open_told}
+use Rattle.checker.specs.Verdicts.{IsCoveredUnfinishedBy, IsUnfinished}
+use Rattle.checker.specs.Starts.{IsPredecessorUnfinished}
+use Rattle.checker.proofs.VerdictLemmas.{covered_unfinished, late_unfinished, unfinished_cases}
+use Rattle.checker.proofs.ReadingLemmas.{unfinished_reported}
 use Rattle.checker.proofs.counter.is_unfinished.Goals as goal
 
 pub number-requires : goal.number-requires
@@ -40,14 +40,16 @@ returns-then-branch-clause-unfinished c =
     let view = c.args.clear.now in
     let Stands : OwnView → Type 0 = λ own. slice_get own.places c.number.result ≡ Some c.args.at in
     let Tells : OwnView → Type 0 =
-    λ own. IsTrue c.in_ok-is_open.field-0 ↔ IsOpen own.run.records c.number.result c.args.task in
+    λ own.
+    IsTrue c.in_ok-covers_unfinished.field-0
+    ↔ IsCoveredUnfinished own.run.records c.number.result c.args.task in
     let stands = subst Stands (c.own.ensures.value ∙ c.sound-sound.ensures.own) c.number.ensures.value in
     let known = c.known-known.ensures.own in
     let tells =
-    open_told view c.number.result c.args.at c.args.task c.in_ok-is_open.field-0
+    unfinished_reported view c.number.result c.args.at c.args.task c.in_ok-covers_unfinished.field-0
     c.sound-sound.ensures.is_clear stands
-    (subst Tells known (c.in_ok-is_open.ensures.open c.known-known.ensures.done)) in (
-      (λ _. open_unfinished (by_task view.run.records) c.args.at c.args.task (tells.0 c.if-branch.true)),
+    (subst Tells known (c.in_ok-covers_unfinished.ensures.unfinished c.known-known.ensures.done)) in (
+      (λ _. covered_unfinished (by_task view.run.records) c.args.at c.args.task (tells.0 c.if-branch.true)),
       (λ _. refl),
     )
 
@@ -59,21 +61,24 @@ returns-clause-unfinished c =
     let task = c.args.task in
     let Stands : OwnView → Type 0 = λ own. slice_get own.places c.number.result ≡ Some at in
     let Tells : OwnView → Type 0 =
-    λ own. IsTrue c.in_ok-is_open.field-0 ↔ IsOpen own.run.records c.number.result task in
+    λ own.
+    IsTrue c.in_ok-covers_unfinished.field-0 ↔ IsCoveredUnfinished own.run.records c.number.result task in
     let TellsLate : RunView → Type 0 =
-    λ run. IfOk c.is_late.result (λ found. IsTrue found ↔ IsLate run.records at task) in
+    λ run. IfOk c.is_late.result (λ found. IsTrue found ↔ IsPredecessorUnfinished run.records at task) in
     let stands = subst Stands (c.own.ensures.value ∙ c.sound-sound.ensures.own) c.number.ensures.value in
     let known = c.known-known.ensures.own in
     let tells =
-    open_told view c.number.result at task c.in_ok-is_open.field-0 c.sound-sound.ensures.is_clear stands
-    (subst Tells known (c.in_ok-is_open.ensures.open c.known-known.ensures.done)) in
-    let closed : IsOpenBy (by_task rs) at task → ⊥ = λ is. false≢true (sym c.if-branch.false ∙ tells.1 is) in
-    IfOk-weaker c.is_late.result (λ found. IsTrue found ↔ IsLate rs at task)
+    unfinished_reported view c.number.result at task c.in_ok-covers_unfinished.field-0
+    c.sound-sound.ensures.is_clear stands
+    (subst Tells known (c.in_ok-covers_unfinished.ensures.unfinished c.known-known.ensures.done)) in
+    let closed : IsCoveredUnfinishedBy (by_task rs) at task → ⊥ =
+    λ is. false≢true (sym c.if-branch.false ∙ tells.1 is) in
+    IfOk-weaker c.is_late.result (λ found. IsTrue found ↔ IsPredecessorUnfinished rs at task)
     (λ found. IsTrue found ↔ IsUnfinished (by_task rs) at task)
     (λ found late. (
       (λ yes. late_unfinished (by_task rs) at task (late.0 yes)),
       (λ is. elim (unfinished_cases (by_task rs) at task is) [
-        | inl is_open ↦ absurd (closed is_open)
+        | inl is_unfinished ↦ absurd (closed is_unfinished)
         | inr is_late ↦ late.1 is_late
       ]),
     ))

@@ -5,7 +5,7 @@ use Rattle.std.specs.Prelude.{MatchOption}
 use Rattle.teams.specs.Teams.{TeamsView}
 use Rattle.wait_coverage.specs.Done.{DoneView}
 use Rattle.wait_coverage.specs.Waits.{EndsNoWaitAt, IsWaitAt}
-use Rattle.wait_coverage.proofs.OpenLemmas.{limit_complete, none_or_wait}
+use Rattle.wait_coverage.proofs.UnfinishedLemmas.{limit_complete, none_or_wait}
 use Rattle.wait_coverage.proofs.unfinished.unmet_wait.Goals as goal
 
 pub returns-then-is_reached : goal.returns-then-is_reached

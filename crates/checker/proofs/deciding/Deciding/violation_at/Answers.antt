@@ -6,7 +6,8 @@ use Rattle.checker.specs.Verdicts.{AreComplete}
 use Rattle.checker.specs.Starts.{AreReady, IsFirstLateAt}
 use Rattle.checker.specs.Deciding.{IsViolationAt}
 use Rattle.checker.specs.declared.verdict.Why.TheVariants.{Unfinished, Predecessor}
-use Rattle.checker.proofs.DecidingLemmas.{number_within, open_decided, covered_decided, violation_by_late}
+use Rattle.checker.proofs.DecidingLemmas.{number_within, unfinished_decided, covered_decided}
+use Rattle.checker.proofs.DecidingLemmas.{violation_by_late}
 use Rattle.checker.proofs.DecidingLemmas.{complete_at}
 use Rattle.checker.proofs.deciding.Deciding.violation_at.Goals as goal
 
@@ -21,7 +22,8 @@ returns-in-Some-clause-decided c =
     let view = c.self.inside.clear.now in
     let P : ClearView → Type 0 =
     λ v. IsViolationAt (by_task v.run.records) c.args.at (Unfinished c.in-Some.task) in
-    subst P c.self.view_is (open_decided view c.own-own.result.now c.known.result.now.done c.number.result
+    subst P c.self.view_is (unfinished_decided view c.own-own.result.now c.known.result.now.done
+    c.number.result
     c.args.at c.in-Some.task c.sound.ensures.is_clear (c.own-own.ensures.value ∙ c.sound.ensures.own)
     c.known.ensures.own c.known.ensures.credit c.number.ensures.value
     (rw c.in-Some.is at c.in_ok-task.ensures.first_by_credit))

@@ -1,5 +1,5 @@
 use Rattle.std.specs.Prelude.{◌↔◌, IsTrue}
-use Rattle.checker.specs.Starts.{IsLate}
+use Rattle.checker.specs.Starts.{IsPredecessorUnfinished}
 use Rattle.checker.proofs.LateLemmas.{TellsLate, if_ok, tells_late, none_to_tell}
 use Rattle.checker.proofs.starts.Precedence.is_late_by.Goals as goal
 
@@ -8,7 +8,8 @@ returns-in-Some-clause-late c =
     let rs = c.args.self.now.file.records in
     let own = c.args.self.now.own.run in
     let d = c.in-Some.dependent in
-    if_ok (TellsLate own d.index d.bound c.args.task) (λ late. IsTrue late ↔ IsLate rs c.args.at c.args.task)
+    if_ok (TellsLate own d.index d.bound c.args.task)
+    (λ late. IsTrue late ↔ IsPredecessorUnfinished rs c.args.at c.args.task)
     c.is_late_of.result
     (λ answer. tells_late rs own c.args.at d.index d.bound c.args.task answer c.in-Some.ensures)
     c.is_late_of.ensures.late

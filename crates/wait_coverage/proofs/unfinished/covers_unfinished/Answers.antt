@@ -2,10 +2,10 @@ use Rattle.std.proofs.Common.{◌∙◌, sym, ap, arith}
 use Rattle.ompt_events.specs.Places.{seen_at}
 use Rattle.task_tree.specs.Runs.{RunView}
 use Rattle.wait_coverage.specs.Done.{DoneView, records_of, tasks_of}
-use Rattle.wait_coverage.proofs.OpenLemmas.{late_if_open, none_open}
+use Rattle.wait_coverage.proofs.UnfinishedLemmas.{late_if_unfinished, none_unfinished}
 use Rattle.wait_coverage.proofs.CoverageLemmas.{waiting_within}
 use Rattle.wait_coverage.proofs.HeldLemmas.{own_children_done}
-use Rattle.wait_coverage.proofs.unfinished.is_open.Goals as goal
+use Rattle.wait_coverage.proofs.unfinished.covers_unfinished.Goals as goal
 
 pub find_marks-requires : goal.find_marks-requires
 find_marks-requires c =
@@ -13,8 +13,8 @@ find_marks-requires c =
     (waiting_within (records_of c.args.known.now.done) (tasks_of c.args.known.now.done) c.args.number
     c.in-Some.wait c.in-Some.ensures)
 
-pub returns-in_ok-marks-in-Some-clause-open : goal.returns-in_ok-marks-in-Some-clause-open
-returns-in_ok-marks-in-Some-clause-open c = λ are.
+pub returns-in_ok-marks-in-Some-clause-unfinished : goal.returns-in_ok-marks-in-Some-clause-unfinished
+returns-in_ok-marks-in-Some-clause-unfinished c = λ are.
     let done = c.args.known.now.done in
     let exact = own_children_done done c.done-done.ensures.is_done are in
     let names =
@@ -25,12 +25,12 @@ returns-in_ok-marks-in-Some-clause-open c = λ are.
     let marked = rw c.done-done.ensures.value at c.in_ok-marks-in-Some.ensures in
     let tells = late c.in-Some.wait (rw c.as_slice.ensures.value marked) in
     let same =
-    late_if_open done c.args.number c.seen.result c.args.task c.in-Some.wait exact
+    late_if_unfinished done c.args.number c.seen.result c.args.task c.in-Some.wait exact
     (omega (arith, c.seen.type_inv)) c.in-Some.ensures (sym names) in
-    ((λ yes_it. same.0 (tells.0 yes_it)), (λ is_open. tells.1 (same.1 is_open)))
+    ((λ yes_it. same.0 (tells.0 yes_it)), (λ covers_unfinished. tells.1 (same.1 covers_unfinished)))
 
-pub returns-in-None-clause-open : goal.returns-in-None-clause-open
-returns-in-None-clause-open c =
+pub returns-in-None-clause-unfinished : goal.returns-in-None-clause-unfinished
+returns-in-None-clause-unfinished c =
     λ are.
-    none_open (records_of c.args.known.now.done) c.args.number c.args.task
+    none_unfinished (records_of c.args.known.now.done) c.args.number c.args.task
     (c.in-None.ensures (own_children_done c.args.known.now.done c.done-done.ensures.is_done are))

@@ -25,8 +25,10 @@ use Rattle.wait_coverage.specs.Spans.{IsCoverComplete}
 use Rattle.wait_coverage.specs.Done.{DoneView, records_of, tasks_of, IsDoneView, AreChildrenDone}
 use Rattle.wait_coverage.specs.Limits.{IsEndLimit}
 use Rattle.wait_coverage.specs.Waits.{EndsNoWaitAt, IsWaitAt, waits, groups, meets, IsInWait, before_begin}
-use Rattle.wait_coverage.specs.Waits.{in_group, by_member, cover_of, IsAwaitedBy, IsAwaited, IsOpen}
-use Rattle.wait_coverage.specs.Waits.{IsFirstOpen, IsLateTask, IsLateAt, IsFirstLate}
+use Rattle.wait_coverage.specs.Waits.{in_group, by_member, cover_of, IsAwaitedBy, IsAwaited}
+use Rattle.wait_coverage.specs.Waits.{IsCoveredUnfinished}
+use Rattle.wait_coverage.specs.Waits.{IsFirstCoveredUnfinished, IsAwaitedUnfinished, IsAwaitedUnfinishedAt}
+use Rattle.wait_coverage.specs.Waits.{IsFirstLate}
 use Rattle.wait_coverage.specs.declared.waits.Wait.{Wait}
 use Rattle.wait_coverage.specs.declared.waits.Wait.TheVariants.{Taskwait as ForTaskwait}
 use Rattle.wait_coverage.specs.declared.waits.Wait.TheVariants.{Taskgroup as ForTaskgroup}
@@ -316,10 +318,11 @@ none_or_wait done i None ends_none = λ exact. none_complete (records_of done) i
 none_or_wait done i (Some wait) is = is
 
 -- a task is open where it is waited for, and its length is above the one that the end names
-pub late_if_open : (done : DoneView) (i seen task : ℕ) (wait : Wait) → AreChildrenDone done → seen < 2 ^ 32
+pub late_if_unfinished : (done : DoneView) (i seen task : ℕ) (wait : Wait) → AreChildrenDone done
+    → seen < 2 ^ 32
     → IsWaitAt (records_of done) (tasks_of done) i wait → seen_at (records_of done) i ≡ seen
-    → IsLateTask done wait seen task ↔ IsOpen (records_of done) i task
-late_if_open done i seen task wait exact small is names = (
+    → IsAwaitedUnfinished done wait seen task ↔ IsCoveredUnfinished (records_of done) i task
+late_if_unfinished done i seen task wait exact small is names = (
   λ late. record {
     covered = awaited_covered (records_of done) (tasks_of done) i task wait is late.0;
     incomplete = λ complete.
@@ -330,13 +333,13 @@ late_if_open done i seen task wait exact small is names = (
         (done_there (records_of done) i ends.0 task ends.2 ends.3.endpoint ends.3.says
         complete)));
   },
-  λ is_open. (
-    covered_awaited (records_of done) (tasks_of done) i task wait is is_open.covered,
+  λ unfinished. (
+    covered_awaited (records_of done) (tasks_of done) i task wait is unfinished.covered,
     λ early.
-        is_open.incomplete
+        unfinished.incomplete
         (complete_there (records_of done) i task
         (subst (done_below done task) (sym names)
-        ((exact task seen (covered_explicit (records_of done) i task is_open.covered) small).0
+        ((exact task seen (covered_explicit (records_of done) i task unfinished.covered) small).0
         early))),
   ),
 )
@@ -344,13 +347,13 @@ late_if_open done i seen task wait exact small is names = (
     ends : (own begin : ℕ) × (kind : SyncKind) × EndsAt (records_of done) i own begin kind
     ends = wait_ends (records_of done) (tasks_of done) i wait is
 
-pub late_open : (done : DoneView) (i seen : ℕ) (wait : Wait) (found : Option ℕ) → IsDoneView done
+pub late_unfinished : (done : DoneView) (i seen : ℕ) (wait : Wait) (found : Option ℕ) → IsDoneView done
     → AreChildrenDone done → seen < 2 ^ 32 → IsWaitAt (records_of done) (tasks_of done) i wait
     → seen_at (records_of done) i ≡ seen
-    → MatchOption found ((place task : ℕ) → IsLateAt done wait seen place task → ⊥)
+    → MatchOption found ((place task : ℕ) → IsAwaitedUnfinishedAt done wait seen place task → ⊥)
     (IsFirstLate done wait seen)
-    → MatchOption found (IsCoverComplete (records_of done) i) (IsFirstOpen (own_of done.teams) i)
-late_open done i seen wait None view exact small is names in_time =
+    → MatchOption found (IsCoverComplete (records_of done) i) (IsFirstCoveredUnfinished (own_of done.teams) i)
+late_unfinished done i seen wait None view exact small is names in_time =
     λ task covers. elim (done_or_not (records_of done) seen task) [
       | inl finished ↦
           complete_there (records_of done) i task (subst (done_below done task) (sym names) finished)
@@ -366,19 +369,20 @@ late_open done i seen wait None view exact small is names in_time =
             (awaited, λ early. not_done ((exact task seen made small).0 early)),
           ))
     ]
-late_open done i seen wait (Some task) view exact small is names late = record {
-  is_open = (late_if_open done i seen task wait exact small is names).0 late.late.1;
+late_unfinished done i seen wait (Some task) view exact small is names late = record {
+  unfinished = (late_if_unfinished done i seen task wait exact small is names).0 late.late.1;
   creation = late.place;
   is_created = late.late.0;
   created_first =
-      λ place other below creates is_open.
+      λ place other below creates unfinished.
       late.first place other below
-      (creates, (late_if_open done i seen other wait exact small is names).1 is_open);
+      (creates, (late_if_unfinished done i seen other wait exact small is names).1 unfinished);
 }
 
 -- where all is complete no task is open
-pub none_open : (rs : List Record) (i task : ℕ) → IsCoverComplete rs i → IsTrue false ↔ IsOpen rs i task
-none_open rs i task complete = (
+pub none_unfinished : (rs : List Record) (i task : ℕ) → IsCoverComplete rs i
+    → IsTrue false ↔ IsCoveredUnfinished rs i task
+none_unfinished rs i task complete = (
   (λ never. absurd (false≢true never)),
-  (λ is_open. absurd (is_open.incomplete (complete task is_open.covered))),
+  (λ unfinished. absurd (unfinished.incomplete (complete task unfinished.covered))),
 )
