@@ -10,7 +10,7 @@ use Rattle.task_tree.specs.Own.{OwnView, IsFirstPlaceWith}
 use Rattle.teams.specs.Missed.{IsBarrierMissed}
 use Rattle.teams.specs.Seats.{AreSeated, IsWholeBefore}
 
--- the record with this number, which stands at the place in the file, is the first in the tasks' own order at
+-- the record with this number, which is at the place in the file, is the first in the tasks' own order at
 -- which a member begins that shows a team which lacks a member
 pub record IsFirstLack (own : OwnView) (place : ℕ) : Type 0 where
   pub number : ℕ
@@ -31,11 +31,11 @@ abbrev pub IsMissedAt : OwnView → ℕ → Type 0
 IsMissedAt own place =
     (number : ℕ) × (slice_get own.places number ≡ Some place) × IsBarrierMissed own.run.records number
 
--- none does before the place
+-- none ends before the place
 abbrev pub IsMissedNowhere : OwnView → ℕ → Type 0
 IsMissedNowhere own place = (k : ℕ) → k < place → IsMissedAt own k → ⊥
 
--- it is the first such place, before the end
+-- it is the first such place, and before the end
 pub record IsFirstMissedBarrier (own : OwnView) (end place : ℕ) : Type 0 where
   pub before : place < end
   pub missed : IsMissedAt own place
