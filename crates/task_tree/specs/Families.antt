@@ -11,7 +11,7 @@ use Rattle.task_tree.specs.Rising.{TurnsRise}
 use Rattle.task_tree.specs.Runs.{RunView, IsRun}
 use Rattle.task_tree.specs.Own.{OwnView}
 
--- the view of families: that by file order; the run of the arranged records, if file order is not the
+-- the view of families: that by file order; the run of the arranged records, none only if file order is the
 -- tasks' own order; the places in own order; and the first record with a turn gap
 pub record FamiliesView : Type 0 where
   pub file : FamilyView

@@ -28,7 +28,7 @@ use std::marker::Model;
 #[derive(Debug, Drop)]
 pub struct Families {
     file: Family,
-    /// None if file order is the tasks' own order.
+    /// None only if file order is the tasks' own order.
     arranged: Option<Arranged>,
     order: OwnOrder,
     gap: Option<usize>,
@@ -67,8 +67,8 @@ impl Model for Arranged {
 impl Families {
     /// Returns the families of the trace's tasks. Fails with CreatedTwice if a task or a parallel region is
     /// made twice, else with Rootless if a record names a task without a root or a region without a begin;
-    /// and when out of memory. If the turns of a task fall along the file, copies the records and puts them
-    /// into the tasks' own order.
+    /// and when out of memory. Copies the records into the tasks' own order, unless file order is that order
+    /// and no record has a turn gap.
     pub fn build(alloc: Global, trace: &Trace) -> Result<Families, Fault>
         ensures families { IfOk result (AreFamiliesOf trace.now.records) }
         ensures fault { IfErr result (IsFault trace.now.records (CreatedTwice ∷ Rootless ∷ [])) }
