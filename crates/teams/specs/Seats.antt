@@ -65,8 +65,8 @@ pub record AreFirstRosters (rs : List Record) (tasks sizes : List ℕ) (n : ℕ)
   pub each : (index : ℕ) (roster : Vec (Option ℕ)) → slice_get rosters index ≡ Some roster
       → AreFirstSeats rs tasks sizes index roster.items
 
--- the member's number is one of its team, which has as many members as it says, and each earlier one says
--- the same
+-- the member's number is below the size that it says; the team has at least that many members; each earlier
+-- member says the same size
 pub record FitsTeam (rs : List Record) (i : ℕ) (m : Membership) : Type 0 where
   pub inside : m.index < m.actual
   pub enough : m.actual ≤ length (members rs m.parallel)
@@ -81,7 +81,7 @@ pub record HasSeat (rs : List Record) (i : ℕ) (m : Membership) : Type 0 where
   pub fits : FitsTeam rs i m
   pub alone : (e : Membership) → Contains (members_before rs m.parallel i) e → e.index ≡ m.index → ⊥
 
--- the member that begins there, if one does, fits its team and has its own seat
+-- the member that begins there, if one does, fits its team, and no earlier member has its number
 abbrev pub LacksNothing : List Record → ℕ → Type 0
 LacksNothing rs i = (m : Membership) → at joined rs i ≡ Some m → HasSeat rs i m
 

@@ -1,4 +1,5 @@
--- The search for the first place in the file at which a record shows a team or a barrier that lacks a member.
+-- The search for the first place in the file at which a record shows a team or a barrier that lacks a
+-- member.
 use Rattle.std.specs.Prelude.{ℕ, ◌≡◌, ◌<◌, true, List, length, Option, Some, None, MatchOption, is_some}
 use Rattle.std.specs.Prelude.{slice_get}
 use Rattle.std.specs.Global.{Vec}
@@ -45,8 +46,8 @@ pub record IsFirstMissedBarrier (own : OwnView) (end place : ℕ) : Type 0 where
 abbrev pub FindsMissed : OwnView → ℕ → Option ℕ → Type 0
 FindsMissed own end found = MatchOption found (IsMissedNowhere own end) (IsFirstMissedBarrier own end)
 
--- no record shows a team or a barrier that lacks a member, and each member has its seat; or this is the first
--- place in the file at which one does
+-- no record shows a team or a barrier that lacks a member, and each member has its seat; or this is the
+-- first place in the file at which one does
 abbrev pub IsSearched : OwnView → List (Vec (Option ℕ)) → Option ℕ → Type 0
 IsSearched own rosters None =
     IsFreeOf own.run.records TeamShort

@@ -72,8 +72,8 @@ pub(crate) fn lacks_member(tables: &Tables, rosters: &mut Vec<Vec<Slot>>, at: us
     true
 }
 
-/// Returns whether the number of the member that begins at a place is one of its team, which has as many
-/// members as the member says and as the first one says.
+/// Returns whether the member that begins at a place fits its team: its number is below the size that it
+/// says, the team has at least that many members, and the first member says the same size.
 fn fits(tables: &Tables, lead: usize, member: Membership, at: usize) -> bool
     requires joins { IsJoining tables.now.run at member lead }
     requires whole { IsWholeBefore tables.now.run.records at }
