@@ -20,8 +20,8 @@ TurnsRise rs =
 abbrev pub NoneLater : List Record → ℕ → ℕ → ℕ → Type 0
 NoneLater rs i task turn = (k later : ℕ) → k < i → BeginsTurn rs k task later → later ≤ turn
 
--- up to the record in file order, no later turn began of its task than the one that it is in, nor of a task
--- that begins a turn there than that turn
+-- no earlier record begins a later turn of the record's task than the turn that the record is in, or a later
+-- turn of a task than the one that begins there
 pub record IsInOrder (rs : List Record) (i : ℕ) : Type 0 where
   pub own : (task : ℕ) → at running rs i ≡ Some task → NoneLater rs i task (turn_at rs i)
   pub begins : (task turn : ℕ) → BeginsTurn rs i task turn → NoneLater rs i task turn
