@@ -56,7 +56,7 @@ impl<'a> Edges<'a> {
     /// Returns the edges between the tasks of the run, which `own` has in the tasks' own order. Fails with
     /// DepsPlace, at the first such record in the file, if a list of dependences does not follow its
     /// creation there or is missing; and when out of memory. Takes one look at each record if the run has
-    /// no dependences, and else one more pass over the records.
+    /// no dependences, and else a few passes over the records.
     pub fn in_run(alloc: Global, run: &Run, own: &Own<'a>) -> Result<Edges<'a>, Fault>
         requires own { IsOwnOf run.now.records own.now }
         ensures run { IfOk result (λ edges. edges.run ≡ own.now.run) }
