@@ -67,8 +67,8 @@ impl Model for Arranged {
 impl Families {
     /// Returns the families of the trace's tasks. Fails with CreatedTwice if a task or a parallel region is
     /// made twice, else with Rootless if a record names a task without a root or a region without a begin;
-    /// and when out of memory. Copies the records into the tasks' own order, unless file order is that order
-    /// and no record has a turn gap.
+    /// and when out of memory. In version 2, copies the records into the tasks' own order, unless
+    /// `turns_rise` holds in file order.
     pub fn build(alloc: Global, trace: &Trace) -> Result<Families, Fault>
         ensures families { IfOk result (AreFamiliesOf trace.now.records) }
         ensures fault { IfErr result (IsFault trace.now.records (CreatedTwice ∷ Rootless ∷ [])) }
