@@ -16,7 +16,7 @@ pub record ArePredecessors (rs : List Record) (task : ℕ) (predecessors : List 
       → IsChild rs parent greater behind
       → number < greater
 
--- by index of the task the greatest of the lengths that its predecessors have, 0 where it has none
+-- by index of the task the greatest of the lengths that its predecessors have, 0 if it has none
 pub record ArePredecessorLengths (rs : List Record) (tasks own latest : List ℕ) : Type 0 where
   pub all : length latest ≡ length tasks
   pub each : (index task other predecessor : ℕ) → slice_get tasks index ≡ Some task
@@ -28,7 +28,7 @@ pub record ArePredecessorLengths (rs : List Record) (tasks own latest : List ℕ
 
 -- ---- the edges
 
--- what clauses see of edges: their run, and by index of the task the place of its list
+-- the view of edges: their run, and by index of the task the place of its list
 pub record EdgesView : Type 0 where
   pub run : RunView
   pub lists : List (Option ℕ)

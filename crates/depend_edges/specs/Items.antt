@@ -9,15 +9,15 @@ use Rattle.ompt_events.specs.Dependences.{DependsOn}
 abbrev pub Clash : Dep → Dep → Type 0
 Clash earlier item = (earlier.var ≡ item.var) × (conflict earlier.kind item.kind ≡ true)
 
--- some earlier item does with the one
+-- some earlier item conflicts so with this one
 abbrev pub HasClash : List Dep → Dep → Type 0
 HasClash earlier item = (other : Dep) × Contains earlier other × Clash other item
 
--- or with one of these
+-- some earlier item conflicts so with one of these
 abbrev pub HaveClash : List Dep → List Dep → Type 0
 HaveClash earlier items = (item : Dep) × Contains items item × HasClash earlier item
 
--- an item of the earlier task does with one of these
+-- an item of the earlier task conflicts so with one of these
 abbrev pub ClashesWith : List Record → ℕ → List Dep → Type 0
 ClashesWith rs earlier items =
     (item other : Dep) × Contains items item × DependsOn rs earlier other × Clash other item

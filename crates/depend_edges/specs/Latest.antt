@@ -28,7 +28,7 @@ pub record AreMaxima (rs : List Record) (tasks own siblings : List ℕ) (n : ℕ
       ⊎ ((index : ℕ) × (item : Dep) × IsUse rs tasks siblings n index item × (item.var ≡ var)
       × ConflictAlike item.kind kind × (maximum_at map var kind ≡ slice_index own index))
 
--- the greatest of the lengths of the task's predecessors, 0 where it has none
+-- the greatest of the lengths of the task's predecessors, 0 if it has none
 pub record IsGreatestLength (rs : List Record) (tasks own : List ℕ) (task latest : ℕ) : Type 0 where
   pub bound : (other predecessor : ℕ) → IsPredecessor rs task predecessor
       → slice_get tasks other ≡ Some predecessor → slice_index own other ≤ latest
@@ -40,7 +40,7 @@ abbrev pub IsChildPassed : List ℕ → ℕ → ℕ → ℕ → ℕ → Type 0
 IsChildPassed tasks up n parent number =
     (place : ℕ) × (slice_get tasks place ≡ Some parent) × ((place < up) ⊎ ((place ≡ up) × (number < n)))
 
--- the lengths are right for the children so far, and 0 or right for all tasks
+-- the lengths are right for the children so far, and for each task 0 or that of a predecessor
 pub record AreLatestSoFar (rs : List Record) (tasks own : List ℕ) (up n : ℕ) (latest : List ℕ) : Type 0 where
   pub all : length latest ≡ length tasks
   pub bound : (index task other predecessor : ℕ) → slice_get tasks index ≡ Some task
@@ -62,7 +62,7 @@ AreMaximaAt rs tasks own up n map =
 
 -- ---- by index of the task a length
 
--- what clauses see of lengths: the edges between their tasks, and by index of the task its length
+-- the view of lengths: the edges between their tasks, and by index of the task its length
 pub record LengthsView : Type 0 where
   pub edges : EdgesView
   pub own : List ℕ

@@ -1,4 +1,4 @@
--- What a caller is told of the predecessors of tasks. Which tasks are predecessors is defined in
+-- What a caller gets of the predecessors of tasks. Which tasks are predecessors is defined in
 -- `ompt_events`. Read `Edges`; the others serve the source files of their names.
 pub mod Edges
 pub mod Items

@@ -9,7 +9,7 @@ use Rattle.ompt_events.specs.declared.names.DepKind.TheVariants.{In, Out, Inout,
 use Rattle.ompt_events.specs.Names.{conflict}
 use Rattle.depend_edges.specs.declared.maxima.Maxima.{Maxima}
 
--- the greatest length of a task that uses the location so
+-- the greatest length of a task that uses the location in this way
 abbrev pub maximum : Maxima → DepKind → ℕ
 maximum maxima In = maxima.readers
 maximum maxima Out = maxima.writers
@@ -17,11 +17,11 @@ maximum maxima Inout = maxima.writers
 maximum maxima Mutexinoutset = maxima.mutexes
 maximum maxima Inoutset = maxima.sets
 
--- by location; 0 where no task uses it
+-- the same by location, 0 if no task uses it
 abbrev pub maximum_at : BTreeMap ℕ Maxima → ℕ → DepKind → ℕ
 maximum_at map var kind = option_map_or (λ (maxima : Maxima). maximum maxima kind) (get nat_cmp map var) 0
 
--- the two kinds conflict with the same
+-- the two kinds conflict with the same kinds
 abbrev pub ConflictAlike : DepKind → DepKind → Type 0
 ConflictAlike a b = (kind : DepKind) → conflict a kind ≡ conflict b kind
 
@@ -47,7 +47,7 @@ pub record AreLengthsEntered (old new : BTreeMap ℕ Maxima) (items : List Dep) 
         ⊎ ((item : Dep) × Contains items item × (item.var ≡ var) × ConflictAlike item.kind kind
         × (maximum_at new var kind ≡ task_length))
 
--- the greatest length of those that conflict with one of the first n items, 0 where there is none
+-- the greatest length of those that conflict with one of the first n items, 0 if there is none
 pub record IsGreatest (map : BTreeMap ℕ Maxima) (items : List Dep) (n greatest : ℕ) : Type 0 where
   pub bound : (k : ℕ) (item : Dep) (kind : DepKind) → k < n → slice_get items k ≡ Some item
       → conflict kind item.kind ≡ true → maximum_at map item.var kind ≤ greatest

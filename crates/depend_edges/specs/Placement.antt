@@ -29,7 +29,7 @@ BelongTogether rs create list =
 abbrev pub IsListMarked : List Bool → ℕ → Type 0
 IsListMarked marks i = slice_get marks i ≡ Some true
 
--- marked are the creations and their lists of which the list is one of the first n records
+-- marked are the creations and their lists, for each list among the first n records
 pub record AreListsMarked (rs : List Record) (n : ℕ) (marks : List Bool) : Type 0 where
   pub all : length marks ≡ length rs
   pub each : (a b : ℕ) → b < n → AreFollowed rs a b → IsListMarked marks a × IsListMarked marks b

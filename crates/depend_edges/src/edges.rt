@@ -16,11 +16,11 @@ use std::alloc::Global;
 use std::marker::Model;
 use task_tree::{Own, Run, Slot, Tree};
 
-/// Why edges can't be built: memory, or `DepsPlace`.
+/// The fault of a call on edges: Memory or DepsPlace.
 pub type EdgeFault = Fault;
 
-/// The dependences of the tasks of a run, and what follows from them. The records of the run stand in the tasks'
-/// own order, which is that of their turns; in a trace of version 1 it is the order of the file.
+/// The dependences of the tasks of a run, and what follows from them. The records of the run are in the
+/// tasks' own order, which is that of their turns; in a trace of version 1 that is file order.
 #[derive(Debug, Drop)]
 pub struct Edges<'a> {
     pub(crate) run: Run<'a>,
@@ -39,9 +39,9 @@ impl<'a> Model for Edges<'a> {
 }
 
 impl<'a> Edges<'a> {
-    /// The edges between the tasks of a trace, of either version. The tree must be that of its tasks. Refused is
-    /// a list of dependences that does not follow its creation in the file, or is missing there, at its first
-    /// record.
+    /// Returns the edges between the tasks of a trace, of either version. Requires that the tree is that of
+    /// its tasks. Fails with DepsPlace, at the first such record in the file, if a list of dependences does
+    /// not follow its creation there or is missing; and when out of memory.
     pub fn build(alloc: Global, trace: &'a Trace, tree: &'a Tree) -> Result<Edges<'a>, EdgeFault>
         requires tree { IsTreeOf trace.now.records tree.now }
         ensures own { IfOk result (λ edges. (places : List ℕ)
@@ -53,10 +53,10 @@ impl<'a> Edges<'a> {
         Edges::in_run(alloc, &families.run(trace), &families.own(trace))
     }
 
-    /// The edges between the tasks of the run, which `own` has in the tasks' own order. Refused is a list of
-    /// dependences that does not follow its creation in the file, or is missing there, at its first record.
-    /// Besides the search, which takes one look at each record where the run has no dependences, it takes one
-    /// pass over the records.
+    /// Returns the edges between the tasks of the run, which `own` has in the tasks' own order. Fails with
+    /// DepsPlace, at the first such record in the file, if a list of dependences does not follow its
+    /// creation there or is missing; and when out of memory. Takes one look at each record if the run has
+    /// no dependences, and else a few passes over the records.
     pub fn in_run(alloc: Global, run: &Run, own: &Own<'a>) -> Result<Edges<'a>, Fault>
         requires own { IsOwnOf run.now.records own.now }
         ensures run { IfOk result (λ edges. edges.run ≡ own.now.run) }
@@ -68,7 +68,7 @@ impl<'a> Edges<'a> {
         Ok(Edges { run, lists })
     }
 
-    /// The run whose tasks they are between. Its records stand in the tasks' own order.
+    /// Returns the run whose tasks the edges are between. Its records are in the tasks' own order.
     pub fn run(&self) -> &Run<'a>
         ensures value { result.now ≡ self.now.run }
         ensures is_edges { IsEdges self.now }
@@ -76,9 +76,9 @@ impl<'a> Edges<'a> {
         &self.run
     }
 
-    /// The predecessors of the task, in the order in which its parent created them (OpenMP 5.2, 15.9.5);
-    /// none for a task that no record makes. That order is the parent's own, turn by turn, also where the parent
-    /// went on on another thread (12.9). Fails only when out of memory.
+    /// Returns the predecessors of the task, in the order in which its parent created them (OpenMP 5.2,
+    /// 15.9.5); none for a task that no record makes. That order is the parent's own, turn by turn, also if
+    /// the parent went on on another thread (12.9). Fails only when out of memory.
     pub fn of(&self, task: u64) -> Result<Vec<u64>, EdgeFault>
         ensures predecessors { IfOk result (λ found. ArePredecessors self.now.run.records task found.items) }
         ensures memory_alone { IfErr result (λ fault. fault ≡ Memory) }
@@ -100,9 +100,9 @@ impl<'a> Edges<'a> {
         Ok(found)
     }
 
-    /// By index of the task the greatest of the lengths of its predecessors, 0 where it has none. It takes
-    /// n log n steps in the records and their dependences, however many predecessors there are, and memory
-    /// linear in them. Fails only when out of memory.
+    /// Returns by index of the task the greatest of the lengths of its predecessors, 0 if it has none.
+    /// Takes n log n steps in the records and their dependences, however many predecessors there are, and
+    /// memory linear in them. Fails only when out of memory.
     pub fn latest(&self, own: &[u64]) -> Result<Vec<u64>, EdgeFault>
         requires { length own.now ≡ length self.now.run.family.tasks }
         ensures latest { IfOk result (λ found. ArePredecessorLengths self.now.run.records

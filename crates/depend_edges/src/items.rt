@@ -10,7 +10,7 @@ use ompt_events::{Dep, conflicts};
 use task_tree::Run;
 
 impl<'a> Edges<'a> {
-    /// What the task depends on; nothing where no record makes the task.
+    /// Returns the items of the task's list of dependences, an empty slice if no record makes the task.
     pub(crate) fn items_of(&self, task: u64) -> &'a [Dep]
         ensures { (dep : Dep) → Contains result.now dep ↔ DependsOn self.now.run.records task dep }
     {
@@ -20,7 +20,7 @@ impl<'a> Edges<'a> {
         }
     }
 
-    /// What the task at this index depends on.
+    /// Returns the items of the list of the task at this index.
     pub(crate) fn items_at(&self, index: usize) -> &'a [Dep]
         requires { index < length self.now.run.family.tasks }
         ensures { (task : ℕ) → slice_get self.now.run.family.tasks index ≡ Some task → (dep : Dep)
@@ -33,7 +33,7 @@ impl<'a> Edges<'a> {
     }
 }
 
-/// The items that the record lists.
+/// Returns the items that the record lists.
 fn items_listed<'a>(run: &Run<'a>, at: usize) -> &'a [Dep]
     requires { at < length run.now.records }
     ensures { (task : ℕ) (items : List Dep) → says_at dependences run.now.records at ≡ Some (task, items)
@@ -45,21 +45,21 @@ fn items_listed<'a>(run: &Run<'a>, at: usize) -> &'a [Dep]
     }
 }
 
-/// Whether an earlier item conflicts with one of these.
+/// Returns whether an earlier item conflicts with one of these.
 pub(crate) fn have_clash(earlier: &[Dep], items: &[Dep]) -> bool
     ensures { IsTrue result ↔ HaveClash earlier.now items.now }
 {
     items.iter().any(|item| has_clash(earlier, *item))
 }
 
-/// Whether an earlier item conflicts with this one.
+/// Returns whether an earlier item conflicts with this one.
 fn has_clash(earlier: &[Dep], item: Dep) -> bool
     ensures { IsTrue result ↔ HasClash earlier.now item }
 {
     earlier.iter().any(|other| is_clash(*other, item))
 }
 
-/// Whether the earlier item conflicts with the other one at the same location.
+/// Returns whether the two items use the same location, and the earlier one conflicts with the other.
 fn is_clash(earlier: Dep, item: Dep) -> bool
     ensures { IsTrue result ↔ Clash earlier item }
 {

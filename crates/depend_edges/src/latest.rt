@@ -1,7 +1,7 @@
 //! The greatest length of the predecessors of each task.
 //!
-//! The children of a parent are taken in their order. For each location stand the greatest lengths of the
-//! children so far that use it, so that no pair of siblings is ever looked at.
+//! The children of a parent are visited in their order. For each location the greatest lengths are kept of
+//! the children so far that use it, so that no pair of siblings is ever compared.
 ghost use Rattle.std.specs.Prelude.{ℕ, ◌≡◌, ◌↔◌, ◌<◌, ◌+◌, IsTrue, IfOk, IfErr, OnOk, Contains, length, replicate, slice_get, slice_index};
 ghost use Rattle.ompt_events.specs.declared.fault.Fault.TheVariants.{Memory};
 ghost use Rattle.ompt_events.specs.Dependences.{DependsOn};
@@ -37,7 +37,7 @@ impl<'a> Model for Lengths<'a> {
 }
 
 impl<'a> Lengths<'a> {
-    /// The run whose tasks have the lengths.
+    /// Returns the run whose tasks have the lengths.
     fn run(&self) -> &'a Run<'a>
         ensures value { result.now ≡ self.now.edges.run }
         ensures is_edges { IsEdges self.now.edges }
@@ -47,7 +47,7 @@ impl<'a> Lengths<'a> {
         edges.run()
     }
 
-    /// By index of the task the place of its list of dependences.
+    /// Returns by index of the task the place of its list of dependences.
     fn lists(&self) -> &'a [Slot]
         ensures { result.now ≡ self.now.edges.lists }
     {
@@ -55,7 +55,7 @@ impl<'a> Lengths<'a> {
         edges.lists.as_slice()
     }
 
-    /// What the task at this index depends on.
+    /// Returns the items that the task at this index depends on.
     fn items_at(&self, index: usize) -> &'a [Dep]
         requires { index < length self.now.edges.run.family.tasks }
         ensures { (task : ℕ) → slice_get self.now.edges.run.family.tasks index ≡ Some task → (dep : Dep)
@@ -65,7 +65,7 @@ impl<'a> Lengths<'a> {
         edges.items_at(index)
     }
 
-    /// The length of the task at this index.
+    /// Returns the length of the task at this index.
     fn own(&self, index: usize) -> u64
         requires { index < length self.now.edges.run.family.tasks }
         ensures { result ≡ slice_index self.now.own index }
@@ -83,7 +83,7 @@ struct Child {
     task: u64,
 }
 
-/// By index of the task the greatest of the lengths of its predecessors, 0 where it has none.
+/// Returns by index of the task the greatest of the lengths of its predecessors, 0 if it has none.
 pub(crate) fn find_latest(alloc: Global, lengths: &Lengths) -> Result<Vec<u64>, Fault>
     ensures latest { IfOk result (λ found. ArePredecessorLengths lengths.now.edges.run.records
         lengths.now.edges.run.family.tasks lengths.now.own found.items) }
@@ -101,21 +101,22 @@ pub(crate) fn find_latest(alloc: Global, lengths: &Lengths) -> Result<Vec<u64>, 
     Ok(latest)
 }
 
-/// Whether any task has a list.
+/// Returns whether any task has a list.
 fn has_list(lists: &[Slot]) -> bool
     ensures { IsTrue result ↔ HasList lists.now }
 {
     lists.iter().any(|list| list.get().is_some())
 }
 
-/// So many times 0.
+/// Returns a length of 0 for each task.
 fn no_lengths(alloc: Global, count: usize) -> Result<Vec<u64>, AllocError>
     ensures { IfOk result (λ lengths. lengths.items ≡ replicate count 0) }
 {
     vec![in alloc; 0; count]
 }
 
-/// Takes the children of the parent at this index.
+/// Finds the greatest lengths for the children of the parent at this index. Requires those of earlier
+/// parents.
 fn take_children(
     alloc: Global,
     lengths: &Lengths,
@@ -140,7 +141,7 @@ fn take_children(
     Ok(())
 }
 
-/// Takes one child, after those of its parent that come before it.
+/// Finds the greatest length for one child. Requires those of the children before it.
 fn take_child(
     lengths: &Lengths,
     child: Child,
@@ -156,7 +157,7 @@ fn take_child(
         (child.number + 1) latest.new.items) }
     ensures memory_alone { IfErr result (λ fault. fault ≡ Memory) }
 {
-    // No child is without an index: the proof shows that this never returns.
+    // Each child has an index: the proof shows that this never returns.
     let Some(index) = lengths.run().index_of(child.task) else {
         return Ok(());
     };

@@ -11,8 +11,8 @@ use ompt_events::{Cause, Fault, exclude};
 use std::alloc::{AllocError, Global};
 use task_tree::{Own, Run, Slot};
 
-/// By index of the task, as the tasks' own order has it, the number of its list in that order. Refused is the
-/// first record of the file whose dependences are misplaced there.
+/// Returns by index of the task in its own order the number of its list in that order. Fails with DepsPlace
+/// at the first record of the file whose dependences are misplaced there, or when out of memory.
 pub(crate) fn find_lists(alloc: Global, run: &Run, own: &Own) -> Result<Vec<Slot>, Fault>
     requires own { IsOwnOf run.now.records own.now }
     ensures placed { OnOk result (IsFreeOf run.now.records DepsPlace) }
@@ -20,7 +20,7 @@ pub(crate) fn find_lists(alloc: Global, run: &Run, own: &Own) -> Result<Vec<Slot
         own.now.run.family.tasks lists.items) }
     ensures fault { IfErr result (IsFault run.now.records (DepsPlace ∷ [])) }
 {
-    // Most files have no dependences, and then one look at each record suffices.
+    // Most files have no dependences. Then one look at each record suffices.
     if has_none(run) {
         return Ok(no_places(alloc, own.run().task_count())?);
     }
@@ -30,7 +30,7 @@ pub(crate) fn find_lists(alloc: Global, run: &Run, own: &Own) -> Result<Vec<Slot
     Ok(note_lists(alloc, own.run())?)
 }
 
-/// Refuses the first record whose dependences are misplaced.
+/// Fails with DepsPlace at the first record whose dependences are misplaced, or when out of memory.
 fn exclude_misplaced(alloc: Global, run: &Run) -> Result<(), Fault>
     ensures placed { OnOk result (IsFreeOf run.now.records DepsPlace) }
     ensures fault { IfErr result (IsFault run.now.records (DepsPlace ∷ [])) }
@@ -39,7 +39,7 @@ fn exclude_misplaced(alloc: Global, run: &Run) -> Result<(), Fault>
     exclude(Cause::DepsPlace, marks.first_misplaced())
 }
 
-/// By index of the task the place of its list, where no task has two.
+/// Returns by index of the task the place of its list. Requires that no task has two.
 fn note_lists(alloc: Global, run: &Run) -> Result<Vec<Slot>, AllocError>
     requires { AreListedOnce run.now.records }
     ensures { IfOk result (λ lists. AreListed run.now.records (length run.now.records)

@@ -17,7 +17,7 @@ pub(crate) struct Maxima {
 }
 
 impl Maxima {
-    /// No task uses the location.
+    /// Returns the lengths of a location that no task uses.
     fn none() -> Maxima
         ensures { (kind : DepKind) → maximum result kind ≡ 0 }
     {
@@ -29,7 +29,7 @@ impl Maxima {
         }
     }
 
-    /// With one more task of this length.
+    /// Returns the lengths with one more task of this length, which uses the location in this way.
     fn raise(self, kind: DepKind, task_length: u64) -> Maxima
         ensures { IsKindRaised self result kind task_length }
     {
@@ -43,7 +43,7 @@ impl Maxima {
         raised
     }
 
-    /// The greatest length of the tasks that a task with such an item waits for.
+    /// Returns the greatest length of the tasks that a task with such an item waits for.
     fn awaited(self, kind: DepKind) -> u64
         ensures { IsGreatestConflicting self kind result }
     {
@@ -61,7 +61,7 @@ impl Maxima {
     }
 }
 
-/// The greatest lengths at a location.
+/// Returns the greatest lengths at a location.
 fn maxima_at(map: &BTreeMap<u64, Maxima>, var: u64) -> Maxima
     ensures { (kind : DepKind) → maximum result kind ≡ maximum_at map.now var kind }
 {
@@ -88,7 +88,7 @@ pub(crate) fn enter(
     Ok(())
 }
 
-/// The greatest length of the tasks that a task with these items waits for.
+/// Returns the greatest length of the tasks that a task with these items waits for.
 pub(crate) fn greatest(map: &BTreeMap<u64, Maxima>, items: &[Dep]) -> u64
     ensures { IsGreatest map.now items.now (length items.now) result }
 {

@@ -11,10 +11,10 @@ use std::alloc::{AllocError, Global};
 use std::marker::Model;
 use task_tree::{Run, Slot};
 
-/// How many threads there are: their numbers have 8 bits.
+/// The number of threads: a thread's number has 8 bits.
 const THREADS: usize = 256;
 
-/// Whether no record creates a task with dependences, or lists some. Most files are such.
+/// Returns true only if no record creates a task with dependences, or lists some. Most files are so.
 pub(crate) fn has_none(run: &Run) -> bool
     ensures { IsTrue result → (i : ℕ) → HasNoneAt run.now.records i }
 {
@@ -26,7 +26,7 @@ pub(crate) fn has_none(run: &Run) -> bool
     true
 }
 
-/// For each record of a run whether it creates a task with dependences that follow, or lists those of the
+/// For each record of a run, whether it creates a task with dependences that follow, or lists those of the
 /// task that was created before it.
 #[derive(Drop)]
 pub(crate) struct Marks<'a> {
@@ -47,7 +47,7 @@ impl<'a> Model for Marks<'a> {
 }
 
 impl Marks<'_> {
-    /// The first record whose dependences are misplaced.
+    /// Returns the place of the first record whose dependences are misplaced.
     pub(crate) fn first_misplaced(&self) -> Option<usize>
         ensures { FindsFirst self.now.records DepsPlace result }
     {
@@ -59,7 +59,7 @@ impl Marks<'_> {
         None
     }
 
-    /// Whether the record creates with dependences, or lists some, and has no mark.
+    /// Returns whether the record creates a task with dependences, or lists some, and has no mark.
     fn is_misplaced(&self, at: usize) -> bool
         requires { at < length self.now.records }
         ensures { IsTrue result ↔ HasMisplacedDeps self.now.records at }
@@ -69,7 +69,7 @@ impl Marks<'_> {
     }
 }
 
-/// Marks the records of the run.
+/// Returns the marks of the run's records.
 pub(crate) fn find_marks<'a>(alloc: Global, run: &Run<'a>) -> Result<Marks<'a>, AllocError>
     ensures { IfOk result (λ marked. marked ≡ run.now) }
 {
@@ -83,21 +83,21 @@ pub(crate) fn find_marks<'a>(alloc: Global, run: &Run<'a>) -> Result<Marks<'a>, 
     Ok(Marks { run, marks })
 }
 
-/// So many times no place.
+/// Returns this many empty slots.
 pub(crate) fn no_places(alloc: Global, len: usize) -> Result<Vec<Slot>, AllocError>
     ensures { IfOk result (λ places. places.items ≡ replicate len None) }
 {
     vec![in alloc; Slot::none(); len]
 }
 
-/// So many times no mark.
+/// Returns no mark for each record.
 fn no_marks(alloc: Global, len: usize) -> Result<Vec<bool>, AllocError>
     ensures { IfOk result (λ marks. marks.items ≡ replicate len false) }
 {
     vec![in alloc; false; len]
 }
 
-/// The record becomes the last of its thread.
+/// Notes the record as the last of its thread.
 fn note_last(last: &mut Vec<Slot>, run: &Run, at: usize)
     requires within { at < length run.now.records }
     requires last { AreLastOfThreads run.now.records at last.old.items }
@@ -109,7 +109,7 @@ fn note_last(last: &mut Vec<Slot>, run: &Run, at: usize)
     last[thread] = Slot::some(at);
 }
 
-/// Marks the record and the one before it in its thread, where they belong together.
+/// Marks the record and the one before it in its thread, if they belong together.
 fn mark(marks: &mut Vec<bool>, run: &Run, last: &[Slot], at: usize)
     requires within { at < length run.now.records }
     requires last { AreLastOfThreads run.now.records at last.now }
@@ -128,7 +128,7 @@ fn mark(marks: &mut Vec<bool>, run: &Run, last: &[Slot], at: usize)
     }
 }
 
-/// Whether the record lists dependences.
+/// Returns whether the record lists dependences.
 fn lists_items(run: &Run, at: usize) -> bool
     requires { at < length run.now.records }
     ensures { IsTrue result ↔ (is_some (says_at dependences run.now.records at) ≡ true) }
@@ -136,7 +136,7 @@ fn lists_items(run: &Run, at: usize) -> bool
     run.dependences(at).is_some()
 }
 
-/// The place of the record before it in its thread.
+/// Returns the place of the record before it in its thread.
 fn previous(run: &Run, last: &[Slot], at: usize) -> Option<usize>
     requires within { at < length run.now.records }
     requires last { AreLastOfThreads run.now.records at last.now }
@@ -146,13 +146,13 @@ fn previous(run: &Run, last: &[Slot], at: usize) -> Option<usize>
     last[thread].get()
 }
 
-/// Whether the one record creates a task with dependences, and the other lists those of that task.
+/// Returns whether the one record creates a task with dependences, and the other lists those of that task.
 fn belong_together(run: &Run, create: usize, list: usize) -> bool
     requires creation { create < length run.now.records }
     requires list { list < length run.now.records }
     ensures { IsTrue result ↔ BelongTogether run.now.records create list }
 {
-    // In a run no two indices are those of one task.
+    // In a run each task has one index only.
     let _tasks = run.task_count();
     let Some(task) = run.created_with_deps(create) else {
         return false;
@@ -163,7 +163,7 @@ fn belong_together(run: &Run, create: usize, list: usize) -> bool
     task == listed
 }
 
-/// Whether the record creates a task with dependences, or lists them.
+/// Returns whether the record creates a task with dependences, or lists them.
 fn has_dependences(run: &Run, at: usize) -> bool
     requires { at < length run.now.records }
     ensures { IsTrue result ↔ HasDependences run.now.records at }

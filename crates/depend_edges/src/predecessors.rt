@@ -7,7 +7,8 @@ use crate::items::have_clash;
 use ompt_events::Dep;
 use std::alloc::{AllocError, Global};
 
-/// Of the first so many siblings those with an item that conflicts with one of these.
+/// Returns, of the first siblings, as many as `number`, those with an item that conflicts with one of
+/// these.
 pub(crate) fn select(
     alloc: Global,
     edges: &Edges,

@@ -3,7 +3,7 @@ use Rattle.std.specs.Prelude.{ℕ, ◌≡◌, ◌<◌, ◌≤◌, ◌+◌, List,
 use Rattle.ompt_events.specs.declared.records.Record.{Record}
 use Rattle.ompt_events.specs.Places.{thread_at}
 
--- the place is that of the first record of the thread from a place on, or the end where there is none
+-- the place is that of the first record of the thread from a place on, or the end if there is none
 pub record IsFirstFrom (rs : List Record) (thread from place : ℕ) : Type 0 where
   pub behind : from ≤ place
   pub within : place ≤ length rs

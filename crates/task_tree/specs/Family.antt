@@ -13,9 +13,9 @@ use Rattle.task_tree.specs.Links.{AreLinks}
 use Rattle.task_tree.specs.Rows.{RowsView, AreChildren}
 use Rattle.task_tree.specs.Roots.{AreRoots}
 
--- what clauses see of a family: the tasks in the order in which they are made; by index of the task the
--- place of the record that makes it, the row of its children, its link to its parent and its root; and by
--- place of the record the indices of the tasks that it names
+-- the view of a family: the tasks in the order in which they are made; by index of the task the place of
+-- the record that makes it, the row of its children, its link to its parent and its root; and by place of
+-- the record the indices of the tasks that it names
 pub record FamilyView : Type 0 where
   pub tasks : List ℕ
   pub places : List ℕ
@@ -31,7 +31,7 @@ AreAligned tasks places rows links roots =
     (length rows.offsets ≡ length tasks + 1) × (length links ≡ length tasks) × (length roots ≡ length tasks)
     × (length places ≡ length tasks)
 
--- each table is right for all records, which make each task once and speak of tasks with roots alone
+-- each table is right for all records, which make each task once and name only tasks with roots
 pub record IsFamilyOf (rs : List Record) (family : FamilyView) : Type 0 where
   pub noted : AreNoted made rs (length rs) family.tasks
   pub makers : AreMade rs (length rs) family.tasks family.places
@@ -43,7 +43,7 @@ pub record IsFamilyOf (rs : List Record) (family : FamilyView) : Type 0 where
   pub once : IsFreeOf rs CreatedTwice
   pub rooted : IsFreeOf rs Rootless
 
--- the tasks stand in the order in which the records make them
+-- the tasks are in the order in which the records make them
 abbrev pub AreInFileOrder : List Record → List ℕ → Type 0
 AreInFileOrder rs tasks =
     (a b first second place later : ℕ) → a < b → slice_get tasks a ≡ Some first

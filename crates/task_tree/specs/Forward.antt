@@ -1,15 +1,15 @@
--- Where tasks stand, while they are gone over in the order in which they are made.
+-- The standings of tasks, while the tasks are visited in the order in which they are made.
 use Rattle.std.specs.Prelude.{ℕ, ◌≡◌, ◌≤◌, ◌+◌, List, length, Option, Some, None, slice_get}
 use Rattle.ompt_events.specs.declared.records.Record.{Record}
 use Rattle.task_tree.specs.declared.roots.Standing.{Standing}
 use Rattle.task_tree.specs.Roots.{StandsAt}
 
--- the task stands there, at most so many steps below its root
+-- the task has this standing, and is at most this many steps below its root
 pub record IsStood (rs : List Record) (most task : ℕ) (standing : Standing) : Type 0 where
   pub stands : StandsAt rs task standing
   pub shallow : standing.depth ≤ most
 
--- it is known of the first n tasks where each stands
+-- the standing of each of the first n tasks is known
 pub record AreStandingsKnown (rs : List Record) (n : ℕ) (tasks : List ℕ)
     (roots : List (Option Standing)) : Type 0 where
   pub all : length roots ≡ n

@@ -1,4 +1,4 @@
--- Where turns begin, and what a record tells that begins one which it may not.
+-- Where turns begin, and which begins of turns are wrong.
 use Rattle.std.specs.Prelude.{ℕ, ◌≡◌, ◌<◌, ◌≤◌, ◌+◌, ◌⊎◌, true, List, length, Some, None}
 use Rattle.std.specs.Option.{option_map_or}
 use Rattle.std.specs.Ordering.{nat_cmp, ordering_then}
@@ -28,7 +28,7 @@ pub record AreFirst (rs : List Record) (n : ℕ) (first : BTreeMap (ℕ × ℕ) 
   pub all : (task turn k : ℕ) → get pair_cmp first (task, turn) ≡ None → k < n
       → at begun_turn rs k ≡ Some (task, turn) → ⊥
 
--- the initial and implicit tasks that begin by the first n records
+-- the initial and implicit tasks that one of the first n records begins
 pub record AreRootsBegun (rs : List Record) (n : ℕ) (roots : BTreeSet ℕ) : Type 0 where
   pub only : (task : ℕ) → contains nat_cmp roots task ≡ true → IsRoot rs task
   pub all : (task k : ℕ) → k < n → at begun_root rs k ≡ Some task → contains nat_cmp roots task ≡ true
@@ -40,19 +40,19 @@ pub record AreFirstBegins (rs : List Record) (begins : Begins) : Type 0 where
 
 -- ---- the greatest turn of a task on a thread
 
--- the turn that is kept for a task on a thread, and 0 where none is
+-- the turn that is kept for a task on a thread, 0 if none is
 abbrev pub kept_turn : BTreeMap (ℕ × ℕ) ℕ → ℕ → ℕ → ℕ
 kept_turn kept thread task = option_map_or (λ (turn : ℕ). turn) (get pair_cmp kept (thread, task)) 0
 
--- the turn that the record begins is kept for its thread where it is greater
+-- the turn that the record begins is kept for its thread if it is greater
 pub record IsTurnRaised (old new : BTreeMap (ℕ × ℕ) ℕ) (r : Record) : Type 0 where
   pub rises : (thread task : ℕ) → kept_turn old thread task ≤ kept_turn new thread task
   pub raised : (task turn : ℕ) → begun_turn r.body ≡ Some (task, turn) → turn ≤ kept_turn new r.thread task
   pub only : (thread task : ℕ) → (kept_turn new thread task ≡ kept_turn old thread task)
       ⊎ ((thread ≡ r.thread) × (begun_turn r.body ≡ Some (task, kept_turn new thread task)))
 
--- for each task on each thread the greatest turn is kept that it began there by the first n records, and 0
--- where it began none
+-- kept is, for each task on each thread, the greatest turn that one of the first n records begins of it
+-- there, 0 if none does
 pub record AreGreatestTurns (rs : List Record) (n : ℕ) (kept : BTreeMap (ℕ × ℕ) ℕ) : Type 0 where
   pub bound : (k thread task turn : ℕ) → k < n → thread_at rs k ≡ Some thread
       → at begun_turn rs k ≡ Some (task, turn) → turn ≤ kept_turn kept thread task
@@ -60,7 +60,7 @@ pub record AreGreatestTurns (rs : List Record) (n : ℕ) (kept : BTreeMap (ℕ �
       → (k : ℕ) × (k < n) × (thread_at rs k ≡ Some thread)
       × (at begun_turn rs k ≡ Some (task, kept_turn kept thread task))
 
--- ---- what is told of a task that runs next
+-- ---- a task that runs next, and its turn
 
 -- an earlier record began the same turn
 abbrev pub IsBegunBefore : List Record → Start → Type 0

@@ -1,4 +1,4 @@
--- What a record tells that has no gap: what of it is seen in the record itself and in the turns that begin.
+-- The turns of a record without a gap: what the record itself shows of them, and the turns that begin.
 use Rattle.std.specs.Prelude.{ℕ, ◌≡◌, ◌+◌, List, Some}
 use Rattle.ompt_events.specs.declared.records.Record.{Record}
 use Rattle.ompt_events.specs.declared.records.Turns.{Turns}
@@ -13,7 +13,7 @@ pub record MayBeginThere (rs : List Record) (task turn : ℕ) : Type 0 where
   pub created : turn ≡ 0 → IsRoot rs task → ⊥
   pub before : (last : ℕ) → turn ≡ last + 1 → (k : ℕ) × BeginsTurn rs k task last
 
--- the record tells the turn of its prior task, and a turn of the next one that this may begin
+-- the record gives the turn of its prior task, and a turn of the next one that this may begin
 pub record TellsRightly (rs : List Record) (i : ℕ) : Type 0 where
   pub prior : (told : Turns) → at told_turns rs i ≡ Some told → told.prior ≡ turn_at rs i
   pub next : (task turn : ℕ) → at begun_turn rs i ≡ Some (task, turn) → MayBeginThere rs task turn

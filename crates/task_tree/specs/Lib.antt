@@ -1,10 +1,10 @@
 -- When a family or a tree is that of the records, and what the steps of building one know. What a tree of
 -- tasks is, is defined in `ompt_events` (Tree). Read Family, Own and Paths first, then the steps in their
--- order. The last ones are of turns: records in another order in which each task's own stand as they did,
--- which the laws speak of; where file order serves already; the chains of the threads' records; the turn of
--- each record; the first gap (the rows of the turns that begin, what a record without a gap tells, and the
--- search by maps); the own order, and the families by it. What a turn and the tasks' own order are, is
--- defined in `ompt_events` (Turns).
+-- order. The last ones are of turns: records in another order in which each task's own keep theirs, for the
+-- laws; when file order is the own order already; the chains of the threads' records; the turn of each
+-- record; the first gap (the rows of the turns that begin, a record without a gap, and the search by maps);
+-- the own order, and the families by it. What a turn and the tasks' own order are, is defined in
+-- `ompt_events` (Turns).
 pub mod Family
 pub mod Runs
 pub mod Own

@@ -12,11 +12,11 @@ abbrev pub parent_index : FamilyView → ℕ → Option ℕ
 parent_index family index = option_and_then (λ o. option_map (λ (l : Link). l.parent) o)
     (slice_get family.links index)
 
--- how many steps the task stands below its root; 0 where no task has the index
+-- how many steps the task is below its root; 0 if no task has the index
 abbrev pub depth_in : FamilyView → ℕ → ℕ
 depth_in family index =
     option_map_or (λ o. option_map_or (λ (s : Standing). s.depth) o 0) (slice_get family.roots index) 0
 
--- at the index stands the parent of the task
+-- the index is that of the task's parent
 abbrev pub IsParentAt : List Record → List ℕ → ℕ → ℕ → Type 0
 IsParentAt rs tasks up task = (parent : ℕ) × (slice_get tasks up ≡ Some parent) × IsParent rs parent task

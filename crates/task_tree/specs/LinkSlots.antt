@@ -17,7 +17,7 @@ abbrev pub link_parent : Option Link → ℕ
 link_parent None = 4294967295
 link_parent (Some link) = link.parent
 
--- without a parent the number is 0
+-- 0 is the number if there is no parent
 abbrev pub IsCode : ℕ → ℕ → Type 0
 IsCode number parent = parent ≡ 4294967295 → number ≡ 0
 

@@ -7,7 +7,7 @@ use Rattle.ompt_events.specs.Places.{at}
 use Rattle.ompt_events.specs.Tree.{children_before}
 use Rattle.task_tree.specs.declared.links.Link.{Link}
 
--- at the index of each task stands how many children it created by the first n records
+-- at the index of each task, how many children it created by the first n records
 pub record AreChildCounts (rs : List Record) (n : ℕ) (tasks counts : List ℕ) : Type 0 where
   pub all : length counts ≡ length tasks
   pub few : sum counts ≤ n
@@ -20,7 +20,7 @@ IsLink rs n tasks task link =
     (parent : ℕ) × (slice_get tasks link.parent ≡ Some parent)
     × (slice_get (children_before rs parent n) link.number ≡ Some task)
 
--- at the index of each task that one of the first n records creates, if its parent is made, stands its link
+-- at the index of each task that one of the first n records creates, if its parent is made: its link
 pub record AreLinks (rs : List Record) (n : ℕ) (tasks : List ℕ) (links : List (Option Link)) : Type 0 where
   pub all : length links ≡ length tasks
   pub linked : (i parent task index up : ℕ) → i < n → at creation rs i ≡ Some (parent, task)
@@ -29,7 +29,7 @@ pub record AreLinks (rs : List Record) (n : ℕ) (tasks : List ℕ) (links : Lis
   pub only : (index task : ℕ) (link : Link) → slice_get tasks index ≡ Some task
       → slice_get links index ≡ Some (Some link) → IsLink rs n tasks task link
 
--- the index is that of the task, which stands nowhere else
+-- the index is that of the task, and no other is
 pub record IsIndex (tasks : List ℕ) (task index : ℕ) : Type 0 where
   pub here : slice_get tasks index ≡ Some task
   pub alone : (other : ℕ) → slice_get tasks other ≡ Some task → other ≡ index
@@ -38,8 +38,8 @@ pub record IsIndex (tasks : List ℕ) (task index : ℕ) : Type 0 where
 abbrev pub IsSlotOf : List ℕ → ℕ → Option ℕ → Type 0
 IsSlotOf tasks task slot = (k : ℕ) → (slot ≡ Some k) ↔ (slice_get tasks k ≡ Some task)
 
--- one child more of the parent: it is counted, and has its link; where no record makes the parent, nothing
--- changes
+-- the parent has one child more: it is counted, and has its link; nothing changes if no record makes the
+-- parent
 pub data IsChildLinked (tasks : List ℕ) (parent child : ℕ) (counts : List ℕ) (links : List (Option Link))
     : List ℕ → List (Option Link) → Type 0 where
   unmade : ((up : ℕ) → slice_get tasks up ≡ Some parent → ⊥)

@@ -1,4 +1,4 @@
--- What is noted of the records while they are gone over.
+-- What is noted of the records while they are visited.
 use Rattle.std.specs.Prelude.{ℕ, ◌≡◌, ◌<◌, ◌≤◌, List, length, Option, Some, Contains, option_map, slice_get}
 use Rattle.ompt_events.specs.declared.records.Record.{Record}
 use Rattle.ompt_events.specs.declared.records.Body.{Body}
@@ -19,7 +19,7 @@ pub record ArePlacesBelow (n : ℕ) (places : List ℕ) : Type 0 where
       → slice_get places b ≡ Some later
       → place < later
 
--- at the index of each task stands the place of the record that makes it, of the first n records
+-- at the index of each task, the place of the record that makes it, one of the first n
 pub record AreMade (rs : List Record) (n : ℕ) (tasks places : List ℕ) : Type 0 where
   pub all : length places ≡ length tasks
   pub few : length tasks ≤ n
@@ -28,7 +28,7 @@ pub record AreMade (rs : List Record) (n : ℕ) (tasks places : List ℕ) : Type
       → (place : ℕ) × (slice_get places index ≡ Some place) × (place < n) × (at made rs place ≡ Some task)
   pub in_order : ArePlacesBelow n places
 
--- the ids are those that the first n records say
+-- the ids are those that the first n records name in this way
 pub record AreNoted (says : Body → Option ℕ) (rs : List Record) (n : ℕ) (ids : List ℕ) : Type 0 where
   pub each : (i id : ℕ) → i < n → at says rs i ≡ Some id → Contains ids id
   pub only : (id : ℕ) → Contains ids id → (i : ℕ) × (i < n) × (at says rs i ≡ Some id)
@@ -39,7 +39,7 @@ AreForkedOnce rs n =
     (i k region : ℕ) → k < i → i < n → at forked_region rs k ≡ Some region
     → at forked_region rs i ≡ Some region → ⊥
 
--- the tasks that the first n records make, each as often as it is made, and the places where
+-- the tasks that the first n records make, each as often as it is made, and the places of these records
 pub record AreGathered (rs : List Record) (n : ℕ) (tasks places : List ℕ) : Type 0 where
   pub all : length places ≡ length tasks
   pub few : length tasks ≤ n
@@ -49,7 +49,7 @@ pub record AreGathered (rs : List Record) (n : ℕ) (tasks places : List ℕ) : 
       → slice_get places index ≡ Some place → (place < n) × (at made rs place ≡ Some task)
   pub in_order : ArePlacesBelow n places
 
--- all that is known where nothing is made again
+-- all that is known if nothing is made twice
 pub record AreMadeOnce (rs : List Record) (tasks places regions : List ℕ) : Type 0 where
   pub noted : AreNoted made rs (length rs) tasks
   pub made_there : AreMade rs (length rs) tasks places

@@ -1,4 +1,4 @@
--- The records of a trace in the tasks' own order, and where each of them stands in the file.
+-- The records of a trace in the tasks' own order, and the place of each of them in the file.
 use Rattle.std.specs.Prelude.{ℕ, ◌≡◌, ◌<◌, ⊤, true, List, length, Option, Some, MatchOption, is_some}
 use Rattle.std.specs.Prelude.{slice_get}
 use Rattle.ompt_events.specs.declared.records.Record.{Record}
@@ -12,8 +12,8 @@ use Rattle.ompt_events.specs.Causes.{HasCause, IsFreeOf}
 use Rattle.task_tree.specs.Runs.{RunView, IsRun}
 use Rattle.task_tree.specs.OwnOrder.{AreAllPlaces}
 
--- what clauses see of a run in its tasks' own order: the run, whose records stand in that order, and by
--- number in it the place in the file
+-- the view of a run in its tasks' own order: the run, whose records are in that order, and by number in it
+-- the place in the file
 pub record OwnView : Type 0 where
   pub run : RunView
   pub places : List ℕ
@@ -37,7 +37,7 @@ pub data IsOwnCause : Cause → Type 0 where
   of_teams : IsOwnCause TeamShort
   of_claims : IsOwnCause ShareWrong
 
--- the record at the place in the file has the cause, as the tasks' own order has it
+-- the record at this place in the file has the cause in the tasks' own order
 abbrev pub HasCauseAt : OwnView → Cause → ℕ → Type 0
 HasCauseAt own cause place =
     (number : ℕ) × (slice_get own.places number ≡ Some place) × HasCause own.run.records number cause
@@ -47,12 +47,12 @@ pub record IsFirstPlaceWith (own : OwnView) (cause : Cause) (place : ℕ) : Type
   pub has : HasCauseAt own cause place
   pub first : (k : ℕ) → k < place → HasCauseAt own cause k → ⊥
 
--- a search for the cause found its first place in the file, or that no record has it
+-- the cause's first place in the file was found, or that no record has it
 abbrev pub FindsFirstPlace : OwnView → Cause → Option ℕ → Type 0
 FindsFirstPlace own cause found =
     MatchOption found (IsFreeOf own.run.records cause) (IsFirstPlaceWith own cause)
 
--- the cause was found, at its first place in the file, unless memory ran out
+-- the cause was found, at its first place in the file, unless the call ran out of memory
 abbrev pub IsOwnFault : OwnView → Cause → Fault → Type 0
 IsOwnFault own cause Memory = ⊤
 IsOwnFault own cause (Malformed place found) = (found ≡ cause) × IsFirstPlaceWith own cause place

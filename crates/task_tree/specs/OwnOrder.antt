@@ -21,7 +21,7 @@ abbrev pub IsOrder : Order → Type 0
 IsOrder (InFile records) = ⊤
 IsOrder (Arranged places numbers) = AreInverse places.items numbers.items
 
--- each of the first n places stands in the list once, and no other
+-- each of the first n places is in the list once, and no other is
 pub record AreAllPlaces (places : List ℕ) (n : ℕ) : Type 0 where
   pub all : length places ≡ n
   pub below : (number place : ℕ) → slice_get places number ≡ Some place → place < n
@@ -31,13 +31,13 @@ pub record AreAllPlaces (places : List ℕ) (n : ℕ) : Type 0 where
 
 -- ---- the steps
 
--- the places are below n, and none stands twice
+-- the places are below n, and none is there twice
 pub record AreApartBelow (ordered : List ℕ) (n : ℕ) : Type 0 where
   pub below : (number place : ℕ) → slice_get ordered number ≡ Some place → place < n
   pub apart : (number other place : ℕ) → slice_get ordered number ≡ Some place
       → slice_get ordered other ≡ Some place → number ≡ other
 
--- at each of the first n places in order stands its number
+-- at each of the first n places in order, its number
 pub record AreOrderNumbers (ordered : List ℕ) (n : ℕ) (numbers : List ℕ) : Type 0 where
   pub all : length numbers ≡ length ordered
   pub each : (number place : ℕ) → number < n → slice_get ordered number ≡ Some place

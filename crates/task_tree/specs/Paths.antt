@@ -6,15 +6,15 @@ use Rattle.ompt_events.specs.Tree.{HasPath}
 use Rattle.ompt_events.specs.Turns.{in_own_order}
 use Rattle.task_tree.specs.Families.{FamiliesView, AreFamiliesOf, own_family}
 
--- at the index of each task stands its path
+-- at the index of each task, its path
 pub record ArePaths (rs : List Record) (tasks : List ℕ) (paths : List (Vec ℕ)) : Type 0 where
   pub all : length paths ≡ length tasks
   pub each : (index task root : ℕ) (path : List ℕ) → slice_get tasks index ≡ Some task
       → HasPath rs root task path
       → option_map (λ (found : Vec ℕ). found.items) (slice_get paths index) ≡ Some path
 
--- after so many steps up from a task with this path: the index of the task that is reached, and the numbers
--- that were passed, the last one first
+-- after this many steps up from a task with this path: the index of the task that is reached, and the
+-- numbers that were passed, the last one first
 pub record IsClimbed (rs : List Record) (tasks : List ℕ) (root : ℕ) (path : List ℕ) (steps index : ℕ)
     (numbers : List ℕ) : Type 0 where
   pub current : ℕ
@@ -26,7 +26,7 @@ pub record IsClimbed (rs : List Record) (tasks : List ℕ) (root : ℕ) (path : 
   pub reversed : numbers ≡ reverse passed
   pub all : length passed ≡ steps
 
--- what clauses see of a tree: the families of its tasks, and by index of the task in its own order its path
+-- the view of a tree: the families of its tasks, and by index of the task in its own order its path
 pub record TreeView : Type 0 where
   pub families : FamiliesView
   pub paths : List (Vec ℕ)

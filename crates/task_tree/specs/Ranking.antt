@@ -26,7 +26,7 @@ pub record IsRanking (ids order : List ℕ) : Type 0 where
   pub within : AreIndicesWithin ids order
   pub rising : AreRanksRising ids order (length order)
 
--- all of them are, and none stands there twice
+-- all of them are, and none is there twice
 pub record IsRanked (ids order : List ℕ) : Type 0 where
   pub known : IsRanking ids order
   pub all : (index : ℕ) → index < length ids → Contains order index

@@ -1,4 +1,4 @@
--- The same records in another order of lines, in which nothing changes that a task can tell; they may tell
+-- The same records in another order of lines, in which nothing changes that a task can see. They may give
 -- other turns.
 use Rattle.std.specs.Prelude.{ℕ, ◌≡◌, ◌<◌, ◌≤◌, true, List, length, Some, None, is_some}
 use Rattle.ompt_events.specs.declared.records.Record.{Record}
@@ -16,8 +16,8 @@ untold body = body
 abbrev pub SayAlike : List Record → ℕ → List Record → ℕ → Type 0
 SayAlike rs i ss j = at (λ body. Some (untold body)) rs i ≡ at (λ body. Some (untold body)) ss j
 
--- the record at each place i of rs stands at the place `to i` of ss, and that at j of ss at `back j` of rs;
--- the records of each task stand in the same order, and so do those at which members of teams begin
+-- the record at each place i of rs is at the place `to i` of ss, and that at j of ss is at `back j` of rs;
+-- the records of each task are in the same order, and so are those at which members of teams begin
 pub record IsRenaming (rs ss : List Record) (to back : ℕ → ℕ) : Type 0 where
   pub to_within : (i : ℕ) → i < length rs → to i < length ss
   pub to_past : (i : ℕ) → length rs ≤ i → length ss ≤ to i

@@ -1,4 +1,4 @@
--- Where file order is the tasks' own order already, and what is known of the tasks while that is looked for.
+-- When file order is the tasks' own order already, and what is known of the tasks while this is checked.
 use Rattle.std.specs.Prelude.{ℕ, ◌≡◌, ◌<◌, ◌≤◌, ◌+◌, ◌⊎◌, ◌==◌, true, List, length, take, filter, slice_get}
 use Rattle.std.specs.Prelude.{Some, None}
 use Rattle.std.specs.Option.{unwrap_or}
@@ -20,13 +20,13 @@ TurnsRise rs =
 abbrev pub NoneLater : List Record → ℕ → ℕ → ℕ → Type 0
 NoneLater rs i task turn = (k later : ℕ) → k < i → BeginsTurn rs k task later → later ≤ turn
 
--- as far as the file has come to the record, no later turn has begun of the task that it is of than the one
--- that it is in, nor of a task that begins a turn there than that one
+-- no earlier record begins a later turn of the record's task than the turn that the record is in, or a later
+-- turn of a task than the one that begins there
 pub record IsInOrder (rs : List Record) (i : ℕ) : Type 0 where
   pub own : (task : ℕ) → at running rs i ≡ Some task → NoneLater rs i task (turn_at rs i)
   pub begins : (task turn : ℕ) → BeginsTurn rs i task turn → NoneLater rs i task turn
 
--- so of each record: along the file each task comes to its turns in order
+-- each record is so: along the file each task comes to its turns in order
 abbrev pub AreTurnsInOrder : List Record → Type 0
 AreTurnsInOrder rs = (i : ℕ) → IsInOrder rs i
 
@@ -40,7 +40,7 @@ not_begun = record { turn = None; thread = 0 }
 abbrev pub turn_now : Latest → ℕ
 turn_now known = unwrap_or known.turn 0
 
--- the task is in this turn wherever it runs, or where it runs on the thread on which it began it
+-- the task is in this turn: on any thread in turn 0, and else on the thread on which it began the turn
 abbrev pub IsOnTurn : Latest → ℕ → ℕ → Type 0
 IsOnTurn known thread turn = (turn ≡ turn_now known) × ((turn_now known ≡ 0) ⊎ (thread ≡ known.thread))
 
@@ -50,7 +50,7 @@ pub data IsNext (known : Latest) (turn : ℕ) : Type 0 where
   next_later : (last : ℕ) → known.turn ≡ Some last → turn ≡ last + 1 → IsNext known turn
 
 -- what the first n records say of the task: the turn that is known began, and on the thread that is known,
--- where it is not turn 0; no later one began; and the task is in it on that thread, or in turn 0 on any
+-- if it is not turn 0; no later one began; and the task is in it on that thread, or in turn 0 on any
 pub record IsLatestTurn (rs : List Record) (n task : ℕ) (known : Latest) : Type 0 where
   pub begun : (turn : ℕ) → known.turn ≡ Some turn → (k : ℕ) × (k < n) × BeginsTurn rs k task turn
       × ((turn ≡ 0) ⊎ (thread_at rs k ≡ Some known.thread))
@@ -59,7 +59,7 @@ pub record IsLatestTurn (rs : List Record) (n task : ℕ) (known : Latest) : Typ
   pub now : (thread turn : ℕ) → IsOnTurn known thread turn
       → turn_in task (filter (λ q. q.thread == thread) (take n rs)) ≡ turn
 
--- so by index of each task
+-- the same by index of each task
 pub record AreLatestTurns (rs : List Record) (n : ℕ) (tasks : List ℕ) (latest : List Latest) : Type 0 where
   pub all : length latest ≡ length tasks
   pub each : (index task : ℕ) (known : Latest) → slice_get tasks index ≡ Some task
@@ -88,8 +88,8 @@ pub record IsTurnBegin (rs : List Record) (tasks : List ℕ) (i index turn : ℕ
 abbrev pub BeginsNone : List Record → ℕ → Type 0
 BeginsNone rs i = (task turn : ℕ) → BeginsTurn rs i task turn → ⊥
 
--- a task of which this is known may begin the turn: no earlier one where none are told, and else the next,
--- which for a root is not turn 0
+-- a task of which this is known may begin the turn: no earlier one if the record gives no turns, and else
+-- the next, which for a root is not turn 0
 pub data MayBegin (rs : List Record) (task : ℕ) (body : Body) (known : Latest) (turn : ℕ) : Type 0 where
   may_untold : told_turns body ≡ None → turn_now known ≤ turn → MayBegin rs task body known turn
   may_next : IsNext known turn → (turn ≡ 0 → IsExplicit rs task) → MayBegin rs task body known turn

@@ -1,4 +1,4 @@
--- Which records speak of a task without a root, by what is known of tasks and regions.
+-- Which records name a task without a root, by what is known of tasks and regions.
 use Rattle.std.specs.Prelude.{ℕ, ◌≡◌, ◌<◌, ◌⊎◌, List, Option, Some, None, Contains, IsSomeAnd, slice_get}
 use Rattle.std.specs.List.{Any}
 use Rattle.ompt_events.specs.declared.records.Record.{Record}
@@ -6,7 +6,7 @@ use Rattle.ompt_events.specs.declared.records.Body.{Body}
 use Rattle.ompt_events.specs.Records.{named, created, region_named}
 use Rattle.task_tree.specs.declared.roots.Standing.{Standing}
 
--- each root below which a task is known to stand is in the list of tasks
+-- each known root is in the list of tasks
 abbrev pub AreRootsMade : List ℕ → List (Option Standing) → Type 0
 AreRootsMade tasks roots =
     (index : ℕ) (standing : Standing) → slice_get roots index ≡ Some (Some standing)
@@ -34,7 +34,7 @@ IsRootless tasks regions roots body =
 abbrev pub NamesKnown : List ℕ → List ℕ → Body → Type 0
 NamesKnown tasks regions body = (NamesUnmade tasks body → ⊥) × (NamesNoRegion regions body → ⊥)
 
--- so it is with each of the first n records
+-- each of the first n records is so
 abbrev pub AllNameKnown : List Record → ℕ → List ℕ → List ℕ → Type 0
 AllNameKnown rs n tasks regions =
     (i : ℕ) (r : Record) → i < n → slice_get rs i ≡ Some r → NamesKnown tasks regions r.body

@@ -1,4 +1,4 @@
--- The root of each task, by index of the task, while the tree is gone down from its roots.
+-- The root of each task, by index of the task, while the tree is visited from its roots down.
 use Rattle.std.specs.Prelude.{◌≤◌, ◌+◌, ℕ, zero, suc, ◌≡◌, ◌<◌, ◌++◌, ◌∷◌, [], List, length, Option, Some}
 use Rattle.std.specs.Prelude.{None, Contains, slice_get, slice_set}
 use Rattle.ompt_events.specs.declared.records.Record.{Record}
@@ -8,12 +8,12 @@ use Rattle.ompt_events.specs.Tree.{IsRooted, HasPath}
 use Rattle.task_tree.specs.declared.roots.Reached.{Reached}
 use Rattle.task_tree.specs.declared.roots.Standing.{Standing}
 
--- the task stands there: so many steps below its root
+-- the task has this standing: its root, and how many steps below it the task is
 abbrev pub StandsAt : List Record → ℕ → Standing → Type 0
 StandsAt rs task standing =
     (path : List ℕ) × HasPath rs standing.root task path × (length path ≡ standing.depth)
 
--- at the index of each task is where it stands, or nothing if its chain of parents reaches no root
+-- at the index of each task its standing, or nothing if its chain of parents reaches no root
 pub record AreRoots (rs : List Record) (tasks : List ℕ) (roots : List (Option Standing)) : Type 0 where
   pub all : length roots ≡ length tasks
   pub rooted : (index task : ℕ) (standing : Standing) → slice_get tasks index ≡ Some task
@@ -60,10 +60,10 @@ pub record IsReach (rs : List Record) (tasks : List ℕ) (roots : List (Option S
   pub known : (entry : Reached) → Contains order entry → slice_get roots entry.index ≡ Some
       (Some entry.standing)
   pub total : missing roots + length order ≡ length tasks
-  -- a task is reached behind all above it
+  -- a task is reached after all above it
   pub shallow : (k : ℕ) (entry : Reached) → slice_get order k ≡ Some entry → entry.standing.depth ≤ k
 
--- so are the roots that begin by the first n records
+-- the roots that begin by the first n records are reached
 pub record IsSeeded (rs : List Record) (n : ℕ) (tasks : List ℕ) (roots : List (Option Standing))
     (order : List Reached) : Type 0 where
   pub reach : IsReach rs tasks roots order

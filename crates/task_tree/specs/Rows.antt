@@ -1,11 +1,11 @@
--- The children of all tasks in one array, those of each task in a row.
+-- The children of all tasks in one array, with one row for each task.
 use Rattle.std.specs.Prelude.{ℕ, ◌≡◌, ◌<◌, ◌≤◌, ◌+◌, List, length, Option, Some, slice_get, slice_index}
 use Rattle.std.specs.Prelude.{slice_range}
 use Rattle.ompt_events.specs.declared.records.Record.{Record}
 use Rattle.ompt_events.specs.Tree.{children}
 use Rattle.task_tree.specs.declared.links.Link.{Link}
 
--- what clauses see of the rows: where each begins and the one before it ends, and all that stands in them
+-- the view of the rows: where each begins and the one before it ends, and the ids in them
 pub record RowsView : Type 0 where
   pub offsets : List ℕ
   pub ids : List ℕ
@@ -15,7 +15,7 @@ abbrev pub AreRising : List ℕ → Type 0
 AreRising offsets =
     (index : ℕ) → index + 1 < length offsets → slice_index offsets index ≤ slice_index offsets (index + 1)
 
--- each row lies within the array
+-- each row is within the array
 pub record AreWithin (offsets ids : List ℕ) : Type 0 where
   pub rising : AreRising offsets
   pub within : (index : ℕ) → index < length offsets → slice_index offsets index ≤ length ids
@@ -49,7 +49,7 @@ AreSingle links =
     (one other : ℕ) (link : Link) → slice_get links one ≡ Some (Some link)
     → slice_get links other ≡ Some (Some link) → one ≡ other
 
--- the first n tasks stand in the rows of their parents, at their numbers
+-- the first n tasks are in the rows of their parents, at their numbers
 abbrev pub AreFilled : ℕ → List ℕ → List (Option Link) → List ℕ → List ℕ → Type 0
 AreFilled n tasks links offsets ids =
     (index task : ℕ) (link : Link) → index < n → slice_get tasks index ≡ Some task

@@ -1,4 +1,4 @@
--- A run: the records of a trace and the family of its tasks; and what its records say by indices of tasks.
+-- A run: the records of a trace and the family of its tasks. What its records say, by indices of tasks.
 use Rattle.std.specs.Prelude.{ℕ, ◌≡◌, List, Option, Some, None, option_map, slice_get}
 use Rattle.ompt_events.specs.declared.records.Record.{Record}
 use Rattle.ompt_events.specs.declared.records.Body.{Body}
@@ -18,7 +18,7 @@ use Rattle.task_tree.specs.Subjects.{Calls}
 use Rattle.task_tree.specs.declared.run.ThreadEvent.{ThreadEvent}
 use Rattle.task_tree.specs.declared.run.ThreadEvent.TheVariants.{Scheduled, RootBegin, RootEnd, Running}
 
--- what clauses see of a run
+-- the view of a run
 pub record RunView : Type 0 where
   pub records : List Record
   pub family : FamilyView
@@ -30,7 +30,7 @@ pub record IsRun (run : RunView) : Type 0 where
   pub of_version : IsTraceOf version run.records
   pub family : IsFamilyOf run.records run.family
 
--- the index is that of the task that the record at the place names so; none where it names none
+-- the index is that of the task that the record at the place names in this way; none if it names none
 abbrev pub IsIndexOf : RunView → (Body → Option ℕ) → ℕ → Option ℕ → Type 0
 IsIndexOf run says i index = Calls run.family.tasks (at says run.records i) index
 

@@ -1,4 +1,4 @@
--- What a slot has of where a task stands.
+-- The standing that a slot holds.
 use Rattle.std.specs.Prelude.{◌≡◌, Option, Some, None}
 use Rattle.std.proofs.Common.{refl}
 use Rattle.task_tree.specs.declared.roots.Standing.{Standing}

@@ -26,17 +26,17 @@ object (TaskCreate deps flags task child) = Some child
 object (TaskSchedule status turns prior next share) = next
 object _ = None
 
--- the slot has the index of the task in the list of tasks, or nothing where the list does not have the task
+-- the slot has the index of the task in the list of tasks, or nothing if the list does not have the task
 abbrev pub Finds : List ℕ → Option ℕ → Option ℕ → Type 0
 Finds tasks found None = (task : ℕ) → found ≡ Some task → Contains tasks task → ⊥
 Finds tasks found (Some index) = (task : ℕ) × (found ≡ Some task) × (slice_get tasks index ≡ Some task)
 
--- the same where the list has each task that is named
+-- the same if the list has each task that is named
 abbrev pub Calls : List ℕ → Option ℕ → Option ℕ → Type 0
 Calls tasks None slot = slot ≡ None
 Calls tasks (Some task) slot = (index : ℕ) × (slot ≡ Some index) × (slice_get tasks index ≡ Some task)
 
--- so does each slot for what its record says, of the first n records
+-- each of the first n records has its slot, with the task that it names in this way
 pub record AreFound (says : Body → Option ℕ) (rs : List Record) (n : ℕ) (tasks : List ℕ)
     (slots : List (Option ℕ)) : Type 0 where
   pub all : length slots ≡ n

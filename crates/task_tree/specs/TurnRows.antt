@@ -4,13 +4,13 @@ use Rattle.ompt_events.specs.declared.records.Record.{Record}
 use Rattle.ompt_events.specs.Records.{begun_turn}
 use Rattle.ompt_events.specs.Places.{at}
 
--- a row further back begins no earlier
+-- a later row begins no earlier
 abbrev pub AreOffsetsRising : List ℕ → Type 0
 AreOffsetsRising offsets =
     (a b first second : ℕ) → a < b → slice_get offsets a ≡ Some first → slice_get offsets b ≡ Some second
     → first ≤ second
 
--- no row ends behind so many slots
+-- no row ends after this many slots
 abbrev pub AreOffsetsWithin : List ℕ → ℕ → Type 0
 AreOffsetsWithin offsets slots = (index end : ℕ) → slice_get offsets index ≡ Some end → end ≤ slots
 

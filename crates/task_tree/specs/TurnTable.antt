@@ -1,4 +1,4 @@
--- The turn of each record, and what is kept of turns while the records are gone over thread by thread.
+-- The turn of each record, and what is kept of turns while the records are visited thread by thread.
 use Rattle.std.specs.Prelude.{ℕ, ◌≡◌, ◌<◌, ◌≤◌, ◌⊎◌, ◌==◌, Bool, true, List, Some, if◌then◌else◌, length}
 use Rattle.std.specs.Prelude.{take, filter, map, slice_get}
 use Rattle.ompt_events.specs.declared.records.Record.{Record}
@@ -8,7 +8,7 @@ use Rattle.ompt_events.specs.Turns.{turn_in, turn_at}
 use Rattle.task_tree.specs.declared.turn_table.Mark.{Mark}
 use Rattle.task_tree.specs.declared.turn_table.Walk.{Walk}
 
--- what clauses see of the turns of records: the turn of each, and whether turns begin in order
+-- the view of the turns of records: the turn of each, and whether turns begin in order
 pub record TurnsView : Type 0 where
   pub turns : List ℕ
   pub in_order : Bool
@@ -23,7 +23,7 @@ TurnsBeginInOrder rs =
     (i k thread task turn later : ℕ) → k < i → thread_at rs i ≡ Some thread → thread_at rs k ≡ Some thread
     → at begun_turn rs i ≡ Some (task, turn) → at begun_turn rs k ≡ Some (task, later) → later ≤ turn
 
--- that they begin in order is told only where they do
+-- `in_order` is true only if they begin in order
 pub record IsOrderTold (rs : List Record) (in_order : Bool) : Type 0 where
   pub order : in_order ≡ true → TurnsBeginInOrder rs
 
@@ -33,12 +33,12 @@ pub record IsOrderTold (rs : List Record) (in_order : Bool) : Type 0 where
 abbrev pub no_mark : Mark
 no_mark = record { turn = 0; thread = 0 }
 
--- the turn in which the task with this mark is on the thread
+-- the turn that the task with this mark is in on the thread
 abbrev pub turn_on : Mark → ℕ → ℕ
 turn_on mark thread = if mark.thread == thread then mark.turn else 0
 
--- by the thread's records among the first n the marks have the turns of the tasks; by those of later threads,
--- of which none is gone over, each task is in turn 0
+-- by the thread's records among the first n the marks have the turns of the tasks; by those of later
+-- threads, of which none is visited, each task is in turn 0
 pub record AreTurnMarks (rs : List Record) (tasks : List ℕ) (thread n : ℕ) (marks : List Mark) : Type 0 where
   pub all : length marks ≡ length tasks
   pub here : (index task : ℕ) (mark : Mark) → slice_get tasks index ≡ Some task
@@ -59,7 +59,7 @@ BeginsNoEarlier rs thread i =
     (task turn : ℕ) → at begun_turn rs i ≡ Some (task, turn)
     → turn_in task (filter (λ q. q.thread == thread) (take i rs)) ≤ turn
 
--- the earlier threads are gone over, and of this one the first n records
+-- the earlier threads are visited, and of this one the first n records
 pub record IsTableAt (rs : List Record) (tasks : List ℕ) (thread n : ℕ) (walk : Walk) : Type 0 where
   pub marks : AreTurnMarks rs tasks thread n walk.marks.items
   pub all : length walk.turns.items ≡ length rs

@@ -5,16 +5,16 @@ ghost use Rattle.task_tree.specs.Chains.{AreChainsFrom};
 use ompt_events::Record;
 use std::alloc::{AllocError, Global};
 
-/// Where the records of each thread stand.
+/// The chains of the records' places, one for each thread.
 #[derive(Drop)]
 pub(crate) struct Chains {
-    /// By thread the place of its first record, or the number of all records where it has none.
+    /// By thread the place of its first record, or the number of all records if it has none.
     pub(crate) firsts: Vec<usize>,
-    /// By place the place of the next record of the same thread, or that number where there is none.
+    /// By place the place of the next record of the same thread, or that number if there is none.
     pub(crate) nexts: Vec<usize>,
 }
 
-/// The chains of the records: one pass from the last record to the first.
+/// Returns the chains of the records. Takes one pass from the last record to the first.
 pub(crate) fn find_chains(alloc: Global, records: &[Record]) -> Result<Chains, AllocError>
     ensures { IfOk result (λ chains. AreChainsFrom records.now 0 chains.firsts.items chains.nexts.items) }
 {
@@ -29,7 +29,7 @@ pub(crate) fn find_chains(alloc: Global, records: &[Record]) -> Result<Chains, A
     Ok(Chains { firsts, nexts })
 }
 
-/// So many chains that end at once.
+/// Returns this many chains, each of which ends at once.
 fn ends(alloc: Global, chains: usize, end: usize) -> Result<Vec<usize>, AllocError>
     ensures { IfOk result (λ places. places.items ≡ replicate chains end) }
 {

@@ -1,4 +1,4 @@
-//! The children of each task, and where each created task stands among them.
+//! The children of each task, and the place of each created task among them.
 ghost use Rattle.std.specs.Prelude.{◌≤◌, ◌^◌, IfOk, IsTrue, length};
 ghost use Rattle.ompt_events.specs.declared.cause.Cause.TheVariants.{CreatedTwice};
 ghost use Rattle.ompt_events.specs.Records.{made};
@@ -18,7 +18,7 @@ use crate::subjects::{Lookup, Subjects, find_subjects};
 use ompt_events::Record;
 use std::alloc::{AllocError, Global};
 
-/// The tasks that the records name; and by index of the task the row of its children, and for a created task
+/// The tasks that the records name; by index of the task the row of its children; and for a created task
 /// its link.
 #[derive(Drop)]
 pub(crate) struct Children {
@@ -27,7 +27,7 @@ pub(crate) struct Children {
     pub(crate) links: Vec<LinkSlot>,
 }
 
-/// The tasks that the records name, and the children of each task that they make.
+/// Returns the tasks that the records name, and the children of each task that they make.
 pub(crate) fn find_children(
     alloc: Global,
     records: &[Record],

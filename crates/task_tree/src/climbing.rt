@@ -1,4 +1,4 @@
-//! Where a task stands, by climbing from it to its root.
+//! Comparisons of the path of a task, by climbing from it to its root.
 ghost use Rattle.std.specs.Prelude.{ℕ, ◌≡◌, ◌↔◌, ◌<◌, List, Some, IsTrue, length, slice_get};
 ghost use Rattle.ompt_events.specs.declared.records.Record.{Record};
 ghost use Rattle.ompt_events.specs.Tree.{HasPath, children};
@@ -7,8 +7,8 @@ ghost use Rattle.task_tree.specs.Family.{IsFamilyOf};
 use crate::family::Family;
 
 impl Family {
-    /// Whether the task at this index stands below the root at this path, the numbers of the children from
-    /// the root down. It climbs as many steps as the path has numbers.
+    /// Returns whether the task at this index has this root and this path, the numbers of the children from
+    /// the root down. Climbs at most as many steps as the path has numbers.
     pub fn has_path(&self, index: usize, root: u64, path: &[u32]) -> bool
         requires { index < length self.now.tasks }
         ensures { (records : List Record) → IsFamilyOf records self.now → (task : ℕ)
@@ -27,7 +27,7 @@ impl Family {
         self.climbs(index, path)
     }
 
-    /// Whether a path of the same length as that of the task at this index is the same.
+    /// Returns whether this path, which has the length of that of the task at this index, is the same.
     fn climbs(&self, index: usize, path: &[u32]) -> bool
         ensures { (records : List Record) → IsFamilyOf records self.now → (root task : ℕ) (whole : List ℕ)
             → slice_get self.now.tasks index ≡ Some task → HasPath records root task whole
@@ -46,7 +46,7 @@ impl Family {
         true
     }
 
-    /// How many children the task at this index has.
+    /// Returns how many children the task at this index has.
     pub fn child_count(&self, index: usize) -> usize
         requires { index < length self.now.tasks }
         ensures { (records : List Record) → IsFamilyOf records self.now → (task : ℕ)

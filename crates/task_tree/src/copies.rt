@@ -1,10 +1,10 @@
-//! Copies of records. The lists of a record take memory.
+//! Copies of records. The lists in a record need memory.
 ghost use Rattle.std.specs.Prelude.{◌≡◌, IfOk};
 
 use ompt_events::{Body, Claim, Dep, Deps, Path, Record};
 use std::alloc::{AllocError, Global};
 
-/// The same record once more.
+/// Returns a copy of the record.
 pub(crate) fn copy_of(alloc: Global, event: &Record) -> Result<Record, AllocError>
     ensures { IfOk result (λ copy. copy ≡ event.now) }
 {
@@ -16,8 +16,8 @@ pub(crate) fn copy_of(alloc: Global, event: &Record) -> Result<Record, AllocErro
     })
 }
 
-// The same variant, by the names of its fields: those that are copied as they are, then one that has a function
-// that copies it.
+// Copies a variant, by the names of its fields: those that are copied as they are, then one that has a
+// function that copies it.
 macro_rules! same_variant {
     ($body:ident $alloc:ident $($variant:ident ($($field:ident)*) $($listed:ident by $copy:ident)?;)*) => {
         match $body {
@@ -29,7 +29,7 @@ macro_rules! same_variant {
     };
 }
 
-/// The same body once more.
+/// Returns a copy of the body.
 fn body_of(alloc: Global, body: &Body) -> Result<Body, AllocError>
     ensures { IfOk result (λ copy. copy ≡ body.now) }
 {
@@ -48,7 +48,7 @@ fn body_of(alloc: Global, body: &Body) -> Result<Body, AllocError>
     }
 }
 
-/// The same dependences once more.
+/// Returns a copy of the dependences.
 fn deps_of(alloc: Global, list: &Deps) -> Result<Deps, AllocError>
     ensures { IfOk result (λ copy. copy ≡ list.now) }
 {
@@ -57,7 +57,7 @@ fn deps_of(alloc: Global, list: &Deps) -> Result<Deps, AllocError>
     Ok(Deps::from_vec(items))
 }
 
-/// The same claim once more, if there is one.
+/// Returns a copy of the claim, if there is one.
 fn claim_of(alloc: Global, claim: &Option<Claim>) -> Result<Option<Claim>, AllocError>
     ensures { IfOk result (λ copy. copy ≡ claim.now) }
 {
@@ -71,7 +71,7 @@ fn claim_of(alloc: Global, claim: &Option<Claim>) -> Result<Option<Claim>, Alloc
     }))
 }
 
-/// The same path once more.
+/// Returns a copy of the path.
 fn path_of(alloc: Global, path: &Path) -> Result<Path, AllocError>
     ensures { IfOk result (λ copy. copy ≡ path.now) }
 {

@@ -1,4 +1,4 @@
-//! The tasks of a trace, as the file has them and by their own order.
+//! The tasks of a trace, by file order and by their own order.
 ghost use Rattle.std.specs.Prelude.{◌≡◌, ◌∷◌, [], false, IfOk, IfErr, IsTrue, length, slice_get};
 ghost use Rattle.std.specs.List.{filter_map};
 ghost use Rattle.ompt_events.specs.declared.cause.Cause.TheVariants.{CreatedTwice, Rootless, TurnGap};
@@ -24,11 +24,11 @@ use ompt_events::{Fault, Record, Trace};
 use std::alloc::{AllocError, Global};
 use std::marker::Model;
 
-/// The tasks of a trace: by the order of the file, and by their own order.
+/// The families of a trace's tasks: by file order, and by the tasks' own order.
 #[derive(Debug, Drop)]
 pub struct Families {
     file: Family,
-    /// None where file order is the tasks' own order.
+    /// None only if file order is the tasks' own order.
     arranged: Option<Arranged>,
     order: OwnOrder,
     gap: Option<usize>,
@@ -65,9 +65,10 @@ impl Model for Arranged {
 }
 
 impl Families {
-    /// The families of the trace's tasks. Refused are records in which a task or a parallel region is made
-    /// again, or else one is spoken of that has no root or no begin; and any records where memory runs out.
-    /// Where the turns of a task fall along the file, the records are copied and put into the tasks' own order.
+    /// Returns the families of the trace's tasks. Fails with CreatedTwice if a task or a parallel region is
+    /// made twice, else with Rootless if a record names a task without a root or a region without a begin;
+    /// and when out of memory. In version 2, copies the records into the tasks' own order, unless
+    /// `turns_rise` holds in file order.
     pub fn build(alloc: Global, trace: &Trace) -> Result<Families, Fault>
         ensures families { IfOk result (AreFamiliesOf trace.now.records) }
         ensures fault { IfErr result (IsFault trace.now.records (CreatedTwice ∷ Rootless ∷ [])) }
@@ -93,7 +94,7 @@ impl Families {
         })
     }
 
-    /// The run of the trace, whose families these must be.
+    /// Returns the run of the trace. Requires that the families are those of the trace.
     pub fn run<'a>(&'a self, trace: &'a Trace) -> Run<'a>
         requires { AreFamiliesOf trace.now.records self.now }
         ensures records { result.records ≡ trace.now.records }
@@ -102,7 +103,7 @@ impl Families {
         Run::of(trace, &self.file)
     }
 
-    /// The run of the trace in the tasks' own order.
+    /// Returns the run of the trace in the tasks' own order. Requires the same.
     pub fn own<'a>(&'a self, trace: &'a Trace) -> Own<'a>
         requires { AreFamiliesOf trace.now.records self.now }
         ensures { IsOwnOf trace.now.records result }
@@ -113,7 +114,7 @@ impl Families {
         }
     }
 
-    /// The family by the tasks' own order.
+    /// Returns the family by the tasks' own order.
     pub fn own_family(&self) -> &Family
         ensures { result.now ≡ own_family self.now }
     {
@@ -123,7 +124,8 @@ impl Families {
         }
     }
 
-    /// The first record that tells turns which are not those of its tasks.
+    /// Returns the place of the first record with a turn gap: the turns that it gives are not those of its
+    /// tasks.
     pub fn gap(&self) -> Option<usize>
         ensures { result ≡ self.now.gap }
     {
@@ -131,8 +133,8 @@ impl Families {
     }
 }
 
-/// Whether file order is the tasks' own order already and no record has a turn gap, as in each trace of
-/// version 1.
+/// Returns true only if file order is the tasks' own order and no record has a turn gap. Returns true for
+/// each trace of version 1.
 fn is_in_own_order(alloc: Global, trace: &Trace, family: &Family) -> Result<bool, AllocError>
     requires { IsFamilyOf trace.now.records family.now }
     ensures rises { IfOk result (λ own. IsTrue own → TurnsRise trace.now.records) }
@@ -147,8 +149,9 @@ fn is_in_own_order(alloc: Global, trace: &Trace, family: &Family) -> Result<bool
 }
 
 impl Arranged {
-    /// The records of a trace of version 2 in the tasks' own order, where each task and each parallel region is
-    /// made once, and none is spoken of that has no root or no begin.
+    /// Returns the records of a trace in the tasks' own order. Requires a trace of version 2 that makes
+    /// each task and each parallel region once, and names none without a root or a begin. Fails only when
+    /// out of memory.
     fn of(alloc: Global, trace: &Trace, order: &OwnOrder) -> Result<Arranged, Fault>
         requires version { trace.now.version ≡ 2 }
         requires once { IsFreeOf trace.now.records CreatedTwice }
@@ -164,7 +167,7 @@ impl Arranged {
         Ok(Arranged { trace, family })
     }
 
-    /// The run of these records.
+    /// Returns the run of these records.
     fn run(&self) -> Run<'_>
         ensures { result ≡ self.now }
     {
@@ -172,7 +175,7 @@ impl Arranged {
     }
 }
 
-/// Copies of the records, in this order.
+/// Returns copies of the records, in this order.
 fn arranged_records(
     alloc: Global,
     records: &[Record],

@@ -24,7 +24,7 @@ use std::alloc::Global;
 use std::marker::Model;
 
 /// The tasks that the records of a trace make, each with its parent, its number, its root and its children.
-/// Its memory is linear in the records, whatever the tree.
+/// Its memory is linear in the records, whatever the tree is.
 #[derive(Debug, Drop)]
 pub struct Family {
     tasks: Numbering,
@@ -57,8 +57,9 @@ impl Model for Family {
 }
 
 impl Family {
-    /// The family of the trace's tasks. Refused are records in which a task or a parallel region is made
-    /// again, or else one is spoken of that has no root or no begin; and any records where memory runs out.
+    /// Returns the family of the trace's tasks. Fails with CreatedTwice if a task or a parallel region is
+    /// made twice, else with Rootless if a record names a task without a root or a region without a begin;
+    /// and when out of memory.
     pub fn build(alloc: Global, trace: &Trace) -> Result<Family, Fault>
         ensures family { IfOk result (IsFamilyOf trace.now.records) }
         ensures order { IfOk result (λ family. AreInFileOrder trace.now.records family.tasks) }
@@ -85,14 +86,14 @@ impl Family {
         })
     }
 
-    /// The tasks in the order in which the records make them.
+    /// Returns the tasks in the order in which the records make them.
     pub fn tasks(&self) -> &Numbering
         ensures { result.now ≡ self.now.tasks }
     {
         &self.tasks
     }
 
-    /// The place of the record that makes the task; none where no record does.
+    /// Returns the place of the record that makes the task, none if no record does.
     pub fn maker(&self, task: u64) -> Option<usize>
         ensures { (records : List Record) → IsFamilyOf records self.now → (place : ℕ)
             → (result ≡ Some place) ↔ (says_at made records place ≡ Some task) }
@@ -103,7 +104,7 @@ impl Family {
         }
     }
 
-    /// The place of the record that makes the task at this index.
+    /// Returns the place of the record that makes the task at this index.
     pub fn made_at(&self, index: usize) -> usize
         requires { index < length self.now.tasks }
         ensures { (records : List Record) → IsFamilyOf records self.now
@@ -112,9 +113,9 @@ impl Family {
         self.places[index] as usize
     }
 
-    /// The index of the task that the record at a place is of: the root that begins or ends, the parent that
-    /// creates, the prior task of a schedule, the task that is discarded, or the one that does what the
-    /// record says; none for the begin or end of a thread.
+    /// Returns the index of the task that the record at a place is of: the root that begins or ends, the
+    /// parent that creates, the prior task of a schedule, the task that is discarded, or the one that does
+    /// what the record says. Returns none for the begin or end of a thread.
     pub fn subject(&self, at: usize) -> Option<usize>
         ensures { (records : List Record) → IsFamilyOf records self.now
             → Calls self.now.tasks (says_at subject records at) result }
@@ -122,8 +123,8 @@ impl Family {
         slot_at(self.subjects.as_slice(), at)
     }
 
-    /// The index of the second task that the record names: the child that is created, or the next task of a
-    /// schedule.
+    /// Returns the index of the second task that the record names: the child that is created, or the next
+    /// task of a schedule.
     pub fn object(&self, at: usize) -> Option<usize>
         ensures { (records : List Record) → IsFamilyOf records self.now
             → Calls self.now.tasks (says_at object records at) result }
@@ -131,7 +132,7 @@ impl Family {
         slot_at(self.objects.as_slice(), at)
     }
 
-    /// The same as `subject` where there is a record, without a look at how many there are.
+    /// Returns the same as `subject`. Requires a record at the place, and doesn't check how many there are.
     pub(crate) fn subject_of(&self, at: usize) -> Option<usize>
         requires { at < length self.now.subjects }
         ensures { (records : List Record) → IsFamilyOf records self.now
@@ -140,7 +141,7 @@ impl Family {
         slot_of(self.subjects.as_slice(), at)
     }
 
-    /// The same as `object` where there is a record, without a look at how many there are.
+    /// Returns the same as `object`. Requires a record at the place, and doesn't check how many there are.
     pub(crate) fn object_of(&self, at: usize) -> Option<usize>
         requires { at < length self.now.objects }
         ensures { (records : List Record) → IsFamilyOf records self.now
@@ -149,7 +150,7 @@ impl Family {
         slot_of(self.objects.as_slice(), at)
     }
 
-    /// Whether the task is an initial or implicit one.
+    /// Returns whether the task is an initial or implicit one.
     pub fn is_root(&self, task: u64) -> bool
         ensures { (records : List Record) → IsFamilyOf records self.now
             → IsTrue result ↔ IsRoot records task }
@@ -160,7 +161,7 @@ impl Family {
         }
     }
 
-    /// Whether another task created the task.
+    /// Returns whether another task created the task.
     pub fn is_explicit(&self, task: u64) -> bool
         ensures { (records : List Record) → IsFamilyOf records self.now
             → IsTrue result ↔ IsExplicit records task }
@@ -171,7 +172,7 @@ impl Family {
         }
     }
 
-    /// Whether another task created the task at this index.
+    /// Returns whether another task created the task at this index.
     pub fn is_explicit_at(&self, index: usize) -> bool
         requires { index < length self.now.tasks }
         ensures { (records : List Record) → IsFamilyOf records self.now → (task : ℕ)
@@ -180,7 +181,7 @@ impl Family {
         self.links[index].get().is_some()
     }
 
-    /// The task that created this one; none for a root, or where no record makes the task.
+    /// Returns the task that created this one, none for a root and for a task that no record makes.
     pub fn parent(&self, task: u64) -> Option<u64>
         ensures { (records : List Record) → IsFamilyOf records self.now → (parent : ℕ)
             → (result ≡ Some parent) ↔ IsParent records parent task }
@@ -191,8 +192,8 @@ impl Family {
         }
     }
 
-    /// How many children the task's parent created before it; none for a root, or where no record makes the
-    /// task.
+    /// Returns how many children the task's parent created before it, none for a root and for a task that
+    /// no record makes.
     pub fn number(&self, task: u64) -> Option<u32>
         ensures { (records : List Record) → IsFamilyOf records self.now → (number : ℕ)
             → (result ≡ Some number) ↔ ((parent : ℕ) × IsChild records parent number task) }
@@ -200,8 +201,8 @@ impl Family {
         self.link_of(task).map(|link| link.number)
     }
 
-    /// The initial or implicit task at the top of the task's chain of parents, which is the task itself if
-    /// it is one; none where no record makes the task.
+    /// Returns the initial or implicit task at the top of the task's chain of parents. It is the task
+    /// itself if that is one. Returns none if no record makes the task.
     pub fn root(&self, task: u64) -> Option<u64>
         ensures { (records : List Record) → IsFamilyOf records self.now → (root : ℕ)
             → (result ≡ Some root) ↔ ((path : List ℕ) × HasPath records root task path) }
@@ -209,7 +210,8 @@ impl Family {
         self.standing_of(task).map(|standing| standing.root)
     }
 
-    /// The children of the task in the order of their numbers; empty where no record makes the task.
+    /// Returns the children of the task in the order of their numbers, an empty slice if no record makes
+    /// the task.
     pub fn children(&self, task: u64) -> &[u64]
         ensures { (records : List Record) → IsFamilyOf records self.now
             → result.now ≡ children records task }
@@ -220,7 +222,7 @@ impl Family {
         }
     }
 
-    /// The children of the task at this index, in the order of their numbers.
+    /// Returns the children of the task at this index, in the order of their numbers.
     pub fn children_at(&self, index: usize) -> &[u64]
         requires { index < length self.now.tasks }
         ensures { (records : List Record) → IsFamilyOf records self.now → (task : ℕ)
@@ -229,7 +231,7 @@ impl Family {
         self.rows.row(index)
     }
 
-    /// The link of the created task at this index.
+    /// Returns the link of the created task at this index.
     pub(crate) fn link_at(&self, index: usize) -> Option<Link>
         ensures { (link : Link) → (result ≡ Some link) ↔ (slice_get self.now.links index ≡ Some (Some link)) }
     {
@@ -240,14 +242,14 @@ impl Family {
         }
     }
 
-    /// The link of a created task.
+    /// Returns the link of a created task.
     pub(crate) fn link_of(&self, task: u64) -> Option<Link>
         ensures { (link : Link) → (result ≡ Some link) ↔ IsLinkOf self.now task link }
     {
         self.link_at(self.tasks.index_of(task)?)
     }
 
-    /// Where the task at this index stands.
+    /// Returns the standing of the task at this index: its root and its depth.
     pub(crate) fn standing_at(&self, index: usize) -> Option<Standing>
         ensures { (standing : Standing) → (result ≡ Some standing)
             ↔ (slice_get self.now.roots index ≡ Some (Some standing)) }
@@ -259,7 +261,7 @@ impl Family {
         }
     }
 
-    /// Where the task stands.
+    /// Returns the standing of the task.
     pub(crate) fn standing_of(&self, task: u64) -> Option<Standing>
         ensures { (standing : Standing) → (result ≡ Some standing) ↔ IsStandingOf self.now task standing }
     {
@@ -267,7 +269,7 @@ impl Family {
     }
 }
 
-/// The index that stands in the slot there, if one does.
+/// Returns the index that the slot at a place holds, if there is a slot and it holds one.
 fn slot_at(slots: &[Slot], at: usize) -> Option<usize>
     ensures { result ≡ slice_index_or slots.now at None }
 {
@@ -278,7 +280,7 @@ fn slot_at(slots: &[Slot], at: usize) -> Option<usize>
     }
 }
 
-/// The index that stands in the slot there, which must be one of the slots.
+/// Returns the same. Requires a slot at the place.
 fn slot_of(slots: &[Slot], at: usize) -> Option<usize>
     requires { at < length slots.now }
     ensures { result ≡ slice_index_or slots.now at None }

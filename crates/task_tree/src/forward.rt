@@ -1,4 +1,4 @@
-//! Where each task stands, where all are made later in the file than their parents.
+//! The standing of each task, if each is made later in the file than its parent.
 ghost use Rattle.std.specs.Prelude.{ℕ, ◌≡◌, ◌<◌, ◌≤◌, ◌+◌, ◌^◌, IfOk, IfSome, length, slice_get, slice_index};
 ghost use Rattle.ompt_events.specs.Records.{begun_root};
 ghost use Rattle.ompt_events.specs.Places.{at as says_at};
@@ -13,7 +13,7 @@ use crate::standing_slot::StandingSlot;
 use ompt_events::Record;
 use std::alloc::{AllocError, Global};
 
-/// By index of the task where it stands; none where a task is made before its parent, or has no root.
+/// Returns by index of the task its standing; none if a task is made before its parent, or has no root.
 pub(crate) fn find_forward(
     alloc: Global,
     records: &[Record],
@@ -37,7 +37,7 @@ pub(crate) fn find_forward(
     Ok(Some(roots))
 }
 
-/// Where the task at this index stands, where it is a root or its parent's standing is known.
+/// Returns the standing of the task at this index, if it is a root or its parent's standing is known.
 fn standing_at(
     records: &[Record],
     tasks: &[u64],
@@ -60,7 +60,7 @@ fn standing_at(
     }
 }
 
-/// One step below the task at this index, where it is known where that stands.
+/// Returns the standing one step below the task at this index, if that task's is known.
 fn below(roots: &[StandingSlot], parent: usize) -> Option<Standing>
     requires { (above : Standing) → slice_get roots.now parent ≡ Some (Some above) → above.depth < 2 ^ 22 }
     ensures { IfSome result (StandsBelow roots.now parent) }
@@ -72,7 +72,7 @@ fn below(roots: &[StandingSlot], parent: usize) -> Option<Standing>
     })
 }
 
-/// Where the root stands that the record begins, if it begins one.
+/// Returns the standing of the root that the record begins, if it begins one.
 fn root_made(event: &Record) -> Option<Standing>
     ensures { IfSome result (λ standing. (begun_root event.now.body ≡ Some standing.root)
         × (standing.depth ≡ 0)) }

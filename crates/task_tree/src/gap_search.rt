@@ -1,7 +1,8 @@
-//! The search for the first record that tells turns which are not those of its tasks.
+//! The search for the first record with a turn gap: the turns that it gives are not those of its tasks.
 //!
-//! A first pass notes where each turn of each task begins, and which tasks are roots. A second pass compares
-//! what each record tells, and keeps the greatest turn that each task began so far on each thread.
+//! A first pass notes where each turn of each task begins, and which tasks are roots. A second pass checks
+//! the turns that each record gives. It keeps, for each thread, the greatest turn that each task began on
+//! it so far.
 ghost use Rattle.std.specs.Prelude.{ℕ, ◌≡◌, ◌↔◌, ◌<◌, ◌+◌, List, Some, IfOk, OnOk, IsTrue, length, slice_get};
 ghost use Rattle.std.specs.BTreeMap.{get};
 ghost use Rattle.ompt_events.specs.declared.records.Record.{Record};
@@ -16,16 +17,16 @@ use ompt_events::Record;
 use std::alloc::{AllocError, Global};
 use std::collections::{BTreeMap, BTreeSet};
 
-/// Where the turns begin.
+/// The places at which the turns begin.
 #[derive(Drop)]
 struct Begins {
-    /// By task and turn the first record after which the task runs in the turn.
+    /// By task and turn the place of the first record after which the task runs in the turn.
     first: BTreeMap<(u64, u32), usize>,
-    /// The initial and implicit tasks, of which turn 0 begins where they do.
+    /// The initial and implicit tasks. Turn 0 of each begins where it does.
     roots: BTreeSet<u64>,
 }
 
-/// A record tells that a task runs next, and in which turn.
+/// A task that a record says runs next, and the turn that it begins.
 #[derive(Clone, Copy)]
 struct Start {
     at: usize,
@@ -34,8 +35,8 @@ struct Start {
     turn: u32,
 }
 
-/// Searches for the first record that tells turns which are not those of its tasks, given the turn of each
-/// record. The records need be no trace.
+/// Returns the place of the first record with a turn gap, given the turn of each record. The records need
+/// not be a trace.
 pub(crate) fn search_gap(
     alloc: Global,
     records: &[Record],
@@ -56,7 +57,7 @@ pub(crate) fn search_gap(
     Ok(None)
 }
 
-/// Where the turns of the records begin.
+/// Returns the places at which the turns of the records begin.
 fn find_begins(alloc: Global, records: &[Record]) -> Result<Begins, AllocError>
     ensures { IfOk result (AreFirstBegins records.now) }
 {
@@ -65,7 +66,7 @@ fn find_begins(alloc: Global, records: &[Record]) -> Result<Begins, AllocError>
     Ok(Begins { first, roots })
 }
 
-/// By task and turn the first record after which the task runs in the turn.
+/// Returns by task and turn the place of the first record after which the task runs in the turn.
 fn find_first(alloc: Global, records: &[Record]) -> Result<BTreeMap<(u64, u32), usize>, AllocError>
     ensures { IfOk result (AreFirst records.now (length records.now)) }
 {
@@ -95,14 +96,14 @@ fn note_first(
     Ok(())
 }
 
-/// The first record after which the task runs in the turn.
+/// Returns the place of the first record after which the task runs in the turn.
 fn first_begin(first: &BTreeMap<(u64, u32), usize>, turn: (u64, u32)) -> Option<usize>
     ensures { result ≡ get pair_cmp first.now turn }
 {
     first.get(&turn).copied()
 }
 
-/// The initial and implicit tasks.
+/// Returns the initial and implicit tasks.
 fn find_roots(alloc: Global, records: &[Record]) -> Result<BTreeSet<u64>, AllocError>
     ensures { IfOk result (AreRootsBegun records.now (length records.now)) }
 {
@@ -125,7 +126,7 @@ fn note_root(roots: &mut BTreeSet<u64>, records: &[Record], at: usize) -> Result
     Ok(())
 }
 
-/// The turn that is kept for a task on a thread, and 0 where none is.
+/// Returns the turn that is kept for a task on a thread, 0 if none is.
 fn kept_turn(kept: &BTreeMap<(u8, u64), u32>, thread: u8, task: u64) -> u32
     ensures { result ≡ kept_turn kept.now thread task }
 {
@@ -148,8 +149,7 @@ fn raise_turn(kept: &mut BTreeMap<(u8, u64), u32>, event: &Record) -> Result<(),
     Ok(())
 }
 
-/// Whether the record at a place, which is in this turn of its task, tells other turns than those of its
-/// tasks.
+/// Returns whether the record at a place, which is in this turn of its task, has a turn gap.
 fn has_gap(
     begins: &Begins,
     greatest: &BTreeMap<(u8, u64), u32>,
@@ -179,7 +179,7 @@ fn has_gap(
     is_wrong(begins, greatest, start)
 }
 
-/// Whether the task may not begin that turn there.
+/// Returns whether the task may not begin that turn there.
 fn is_wrong(begins: &Begins, greatest: &BTreeMap<(u8, u64), u32>, start: Start) -> bool
     ensures { (records : List Record) → AreFirstBegins records begins.now
         → AreGreatestTurns records start.at greatest.now → IsTrue result ↔ IsWrongStart records start }
@@ -196,7 +196,7 @@ fn is_wrong(begins: &Begins, greatest: &BTreeMap<(u8, u64), u32>, start: Start) 
     lacks_before(begins, start)
 }
 
-/// Whether an earlier record began the same turn of the task.
+/// Returns whether an earlier record began the same turn of the task.
 fn is_begun_before(begins: &Begins, start: Start) -> bool
     ensures { (records : List Record) → AreFirstBegins records begins.now
         → IsTrue result ↔ IsBegunBefore records start }
@@ -207,7 +207,7 @@ fn is_begun_before(begins: &Begins, start: Start) -> bool
     }
 }
 
-/// Whether an earlier record of the thread began a later turn of the task.
+/// Returns whether an earlier record of the thread began a later turn of the task.
 fn is_falling(greatest: &BTreeMap<(u8, u64), u32>, start: Start) -> bool
     ensures { (records : List Record) → AreGreatestTurns records start.at greatest.now
         → IsTrue result ↔ IsFalling records start }
@@ -215,7 +215,7 @@ fn is_falling(greatest: &BTreeMap<(u8, u64), u32>, start: Start) -> bool
     start.turn < kept_turn(greatest, start.thread, start.task)
 }
 
-/// Whether no record begins the turn before.
+/// Returns whether no record begins the turn before.
 fn lacks_before(begins: &Begins, start: Start) -> bool
     ensures { (records : List Record) → AreFirstBegins records begins.now
         → IsTrue result ↔ LacksBefore records start }
@@ -223,7 +223,7 @@ fn lacks_before(begins: &Begins, start: Start) -> bool
     start.turn > 0 && !has_begun(begins, start.task, start.turn - 1)
 }
 
-/// Whether a record begins the turn of the task.
+/// Returns whether a record begins the turn of the task.
 fn has_begun(begins: &Begins, task: u64, turn: u32) -> bool
     ensures { (records : List Record) → AreFirstBegins records begins.now
         → IsTrue result ↔ ((k : ℕ) × BeginsTurn records k task turn) }
@@ -234,7 +234,7 @@ fn has_begun(begins: &Begins, task: u64, turn: u32) -> bool
     }
 }
 
-/// Whether it is turn 0 of a root, which begins where the root does.
+/// Returns whether it is turn 0 of a root, which begins where the root does.
 fn begins_root(begins: &Begins, task: u64, turn: u32) -> bool
     ensures { (records : List Record) → AreFirstBegins records begins.now
         → IsTrue result ↔ BeginsRoot records task turn }

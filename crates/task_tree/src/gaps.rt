@@ -1,7 +1,7 @@
-//! The first record that tells turns which are not those of its tasks.
+//! The first record with a turn gap: the turns that it gives are not those of its tasks.
 //!
-//! A few passes see whether no record does. Only where one does, or may, the first is searched for, which
-//! takes longer.
+//! A few passes check that no record has a gap. Only if one has, or may have, the first is searched for,
+//! which takes longer.
 ghost use Rattle.std.specs.Prelude.{ℕ, ◌≡◌, ◌<◌, IfOk, IsTrue, Some, length, slice_get};
 ghost use Rattle.ompt_events.specs.declared.cause.Cause.TheVariants.{TurnGap};
 ghost use Rattle.ompt_events.specs.Turns.{turn_at};
@@ -20,9 +20,8 @@ use crate::turn_table::RecordTurns;
 use ompt_events::Record;
 use std::alloc::{AllocError, Global};
 
-/// Finds the first record that tells turns which are not those of its tasks, given the turn of each record.
-/// It takes a few steps for each record where no record tells such turns. Of the records nothing is assumed
-/// but that the family is theirs.
+/// Returns the place of the first record with a turn gap, given the turn of each record. Takes a few steps
+/// for each record if each gives the right turns. Requires of the records only that the family is theirs.
 pub fn find_gap(
     alloc: Global,
     records: &[Record],
@@ -40,8 +39,8 @@ pub fn find_gap(
     search_gap(alloc, records, turns.as_slice())
 }
 
-/// Whether no record tells such turns. It may be false where none does, but only if a task runs next at a
-/// record that tells no turns.
+/// Returns true only if no record has a turn gap. Returns false without one only if a task runs next at a
+/// record that gives no turns.
 fn is_gapless(
     alloc: Global,
     records: &[Record],
@@ -62,7 +61,8 @@ fn is_gapless(
     }
 }
 
-/// Whether each record tells the turn of its prior task, and a turn of the next one that may begin there.
+/// Returns true only if each record gives the turn of its prior task, and a turn of the next one that may
+/// begin there.
 fn tell_rightly(records: &[Record], family: &Family, rows: &TurnRows, turns: &[u32]) -> bool
     requires family { IsFamilyOf records.now family.now }
     requires rows { AreTurnRows records.now family.now.tasks rows.now.offsets.items rows.now.begun.items }
@@ -77,7 +77,7 @@ fn tell_rightly(records: &[Record], family: &Family, rows: &TurnRows, turns: &[u
     true
 }
 
-/// The same of the record at a place, which is in this turn of its task.
+/// Returns the same of the record at a place, which is in this turn of its task.
 fn tells_rightly(records: &[Record], family: &Family, rows: &TurnRows, turn: u32, at: usize) -> bool
     requires within { at < length records.now }
     requires family { IsFamilyOf records.now family.now }
@@ -94,7 +94,8 @@ fn tells_rightly(records: &[Record], family: &Family, rows: &TurnRows, turn: u32
     }
 }
 
-/// Whether the turn before begins as well. Turn 0 of a root begins where the root does, and there alone.
+/// Returns true only if the turn before begins too, and it is not turn 0 of a root: that begins where the
+/// root does.
 fn may_begin(records: &[Record], family: &Family, rows: &TurnRows, begin: Begin) -> bool
     requires family { IsFamilyOf records.now family.now }
     requires rows { AreTurnRows records.now family.now.tasks rows.now.offsets.items rows.now.begun.items }

@@ -1,9 +1,9 @@
-//! Where the tasks that a record names probably stand in the list of tasks, so that few are searched for.
-//! Nothing depends on a hint but the time.
+//! Guesses of the indices of the tasks that a record names, so that few tasks are searched for. Nothing but
+//! the time depends on a hint.
 
 use ompt_events::Endpoint;
 
-/// What was seen of the threads so far.
+/// What the records so far say of the threads.
 #[derive(Drop)]
 pub(crate) struct Hints {
     /// How many tasks the records made.
@@ -15,7 +15,7 @@ pub(crate) struct Hints {
 }
 
 impl Hints {
-    /// Before the first record.
+    /// Returns the hints before the first record.
     pub(crate) fn new() -> Hints {
         Hints {
             made: 0,
@@ -24,31 +24,32 @@ impl Hints {
         }
     }
 
-    /// Where the task stands that the thread runs.
+    /// Returns the likely index of the task that the thread runs.
     pub(crate) fn running(&self, thread: u8) -> usize {
         self.running[usize::from(thread)]
     }
 
-    /// Where the task stands that was made last.
+    /// Returns the likely index of the task that was made last.
     pub(crate) fn last_made(&self) -> usize {
         self.made.wrapping_sub(1)
     }
 
-    /// Where the task stands that a record makes now.
+    /// Returns the likely index of the task that a record makes now, and counts it.
     pub(crate) fn take_made(&mut self) -> usize {
         let next = self.made;
         self.made = next.wrapping_add(1);
         next
     }
 
-    /// Takes into account that the thread runs the task there from here on, if one was found.
+    /// Notes that the thread runs the task at this index from here on, if one was found.
     pub(crate) fn note_running(&mut self, thread: u8, found: Option<usize>) {
         if let Some(index) = found {
             self.running[usize::from(thread)] = index;
         }
     }
 
-    /// Where an implicit task stands: a record makes it where it begins, and the thread runs it where it ends.
+    /// Returns the likely index of an implicit task: a record makes it at its begin, and the thread runs it
+    /// at its end.
     pub(crate) fn implicit(&mut self, endpoint: Endpoint, running: usize) -> usize {
         match endpoint {
             Endpoint::Begin => self.take_made(),
@@ -56,12 +57,12 @@ impl Hints {
         }
     }
 
-    /// Where the root stands that the thread claims.
+    /// Returns the likely index of the root that the thread claims.
     pub(crate) fn root(&self, thread: u8) -> usize {
         self.roots[usize::from(thread)]
     }
 
-    /// Takes into account that the thread claimed the root there.
+    /// Notes that the thread claimed the root at this index.
     pub(crate) fn note_root(&mut self, thread: u8, index: usize) {
         self.roots[usize::from(thread)] = index;
     }

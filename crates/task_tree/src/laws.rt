@@ -19,8 +19,8 @@ ghost use Rattle.ompt_events.specs.Causes.{HasCause, Shows, IsFreeOf};
 ghost use Rattle.task_tree.specs.Renaming.{IsRenaming};
 ghost use Rattle.task_tree.specs.Rising.{TurnsRise};
 
-/// The tasks' own order has each record of the file once: of two records the one in the earlier turn comes
-/// first, and of two in one turn the one that is earlier in the file.
+/// The tasks' own order has each record of the file once. Of two records, the one in the earlier turn comes
+/// first; of two in one turn, the one that is earlier in the file.
 pub fn own_order_is_by_turn()
     ensures permuted { (records : List Record) → IsPermutation (places records) (own_places records) }
     ensures as_long { (records : List Record)
@@ -37,10 +37,10 @@ pub fn own_order_is_by_turn()
         ↔ ((turn_at records i < turn_at records k) ⊎ ((turn_at records i ≡ turn_at records k) × (i < k))) }
 {}
 
-/// Records in another order, in which each task's own records keep their order, and so do those at which
-/// members of teams begin, say the same, whatever turns they tell: each task has the same children, stands at the same paths and waits
-/// for the same earlier siblings; the end of each region waits for the same tasks; and the causes of
-/// regions, of teams and of claims are at the same records.
+/// Records in another order say the same, whatever turns they give, if each task's own records keep their
+/// order, and so do those at which members of teams begin. Each task has the same children and the same
+/// paths, and waits for the same earlier siblings; the end of each region waits for the same tasks; and the
+/// causes of regions, of teams and of claims are at the same records.
 pub fn renamed_records_say_the_same()
     ensures children { (rs ss : List Record) (to back : ℕ → ℕ) → IsRenaming rs ss to back
         → (task : ℕ) → children rs task ≡ children ss task }
@@ -58,15 +58,15 @@ pub fn renamed_records_say_the_same()
         → (i : ℕ) → HasCause rs i ShareWrong ↔ HasCause ss (to i) ShareWrong }
 {}
 
-/// Where no task's turns fall along the file, the tasks' own order keeps the order of each task's records,
-/// and that of the records at which members of teams begin.
+/// If no task's turns fall along the file, the tasks' own order keeps the order of each task's records, and
+/// that of the records at which members of teams begin.
 pub fn rising_turns_are_a_renaming()
     ensures { (records : List Record) → TurnsRise records
         → IsRenaming records (in_own_order records) (own_place records) (slice_index (own_places records)) }
 {}
 
-/// Where no task's turns fall along the file, file order says what the tasks' own order says: the causes that
-/// the records show and the tasks that must be complete at a record are those of the file as it stands.
+/// If no task's turns fall along the file, file order says what the tasks' own order says: the causes that
+/// the records show, and the tasks that must be complete at a record, are those by file order.
 pub fn rising_turns_change_nothing()
     ensures causes { (records : List Record) → TurnsRise records → (i : ℕ) (cause : Cause)
         → Shows records i cause ↔ HasCause records i cause }
@@ -74,13 +74,13 @@ pub fn rising_turns_change_nothing()
         → MustBeComplete records i task ↔ IsRequired records i task }
 {}
 
-/// Where no record tells a turn, no task's turns fall along the file.
+/// If no record gives a turn, no task's turns fall along the file.
 pub fn without_turns_all_rise()
     ensures { (records : List Record) → TellsNoTurns records → TurnsRise records }
 {}
 
-/// A trace of version 1 tells no turns, so its records show the causes that the file shows as it stands, and
-/// what must be complete at a record is what must be complete there by the order of the file.
+/// A trace of version 1 gives no turns. So its records show the causes that they have by file order, and
+/// what must be complete at a record is what must be complete there by file order.
 pub fn version_1_is_read_in_file_order()
     ensures causes { (records : List Record) → IsTraceOf 1 records → (i : ℕ) (cause : Cause)
         → Shows records i cause ↔ HasCause records i cause }
@@ -89,16 +89,16 @@ pub fn version_1_is_read_in_file_order()
     ensures gapless { (records : List Record) → IsTraceOf 1 records → IsFreeOf records TurnGap }
 {}
 
-/// Where no record is the first of its thread that speaks for a task which the thread does not run, no
-/// record at all speaks for such a task.
+/// If no record is the first of its thread that speaks for a task which the thread does not run, no record
+/// at all speaks for such a task.
 pub fn without_not_current_none_misfits()
     ensures { (records : List Record) → IsFreeOf records NotCurrent → (i : ℕ) → MisfitsAt records i → ⊥ }
 {}
 
-/// In version 2 a created task is suspended at most once in each of its turns, so that a record at which it
-/// runs on awaits at most one record at which it was suspended. It is assumed that no record shows causes
-/// 2, 4 and 5: no task is made twice, each record is of the task that its thread runs, and the turns that
-/// are told are those of the tasks.
+/// In version 2 a created task is suspended at most once in each of its turns. So a record at which it runs
+/// on awaits at most one record at which it was suspended. This assumes that no record shows the causes 2,
+/// 4 and 5: no task is made twice, each record is of the task that its thread runs, and the turns that the
+/// records give are those of the tasks.
 pub fn suspended_once_in_a_turn()
     ensures suspended { (records : List Record) → IsTraceOf 2 records → IsFreeOf records CreatedTwice
         → IsFreeOf records NotCurrent → IsFreeOf records TurnGap

@@ -1,20 +1,20 @@
-//! The tree of tasks: which task created which, in which order, and the root below which each one stands.
+//! The tree of tasks: which task created which, in which order, and the root and the path of each.
 //!
 //! `Family` has parents, numbers, roots and children, and the index of each task that a record names, so
 //! that no later phase searches for a task again. `Run` is the records with their family, which all later
-//! phases take: it says by place what a record is. `Own` is a run whose records stand in the tasks' own order;
-//! `Families` have both, and `Tree` has the paths too. Read `run`, `own`, `family`, `families` and `tree` for
-//! what a caller sees, then `makers`, `children` (after `links`, `subjects` and `rows`), `roots` (after
-//! `forward`) and `rootless`, the steps of a build. `numbering` is the list of ids that they share
-//! (`ranking` searches it), `slot` an index or none in 32 bits, `link_slot` a link or none, `standing_slot`
-//! where a task stands or nothing, and `hints` says where a task is looked for first.
+//! phases take: it says by place what a record is. `Own` is a run whose records are in the tasks' own
+//! order; `Families` have both, and `Tree` has the paths too. Read `run`, `own`, `family`, `families` and
+//! `tree` for what a caller sees, then the steps of a build: `makers`, `children` (after `links`,
+//! `subjects` and `rows`), `roots` (after `forward`) and `rootless`. `numbering` is the list of ids that
+//! they share (`ranking` searches it), `slot` an index or none in 32 bits, `link_slot` a link or none,
+//! `standing_slot` the root and depth of a task or none, and `hints` guesses the index of a task.
 //!
 //! A task that runs on on another thread has its records in turns. `laws` says what follows from the
-//! definitions of turns alone. `rising` says in one pass whether file order is the tasks' own order already;
-//! where it is not, `turn_table` has the turn of each record, `gaps` the first record that tells turns which
-//! are not those of its tasks, and `own_order` is the tasks' own order. `turn_table` goes over the records by
-//! `chains`; `gaps` stands on `turn_rows`, and on `gap_search` where a record has a gap. `families` puts this
-//! together: the tasks by the order of the file and by their own.
+//! definitions of turns alone. `rising` checks in one pass whether file order is the tasks' own order
+//! already. If it is not, `turn_table` has the turn of each record, `gaps` the first record with a turn
+//! gap, and `own_order` the tasks' own order. `turn_table` visits the records by `chains`; `gaps` uses
+//! `turn_rows`, and `gap_search` if a record has a gap. `families` puts this together: the tasks by file
+//! order and by their own.
 #![tactic(auto)]
 
 mod chains;

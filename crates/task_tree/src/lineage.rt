@@ -5,7 +5,7 @@ ghost use Rattle.task_tree.specs.Lineage.{parent_index, depth_in};
 use crate::family::Family;
 
 impl Family {
-    /// The index of the task that created the one at this index; none for a root.
+    /// Returns the index of the task that created the one at this index, none for a root.
     pub fn parent_at(&self, index: usize) -> Option<usize>
         ensures { result ≡ parent_index self.now index }
     {
@@ -15,7 +15,7 @@ impl Family {
         }
     }
 
-    /// How many steps the task at this index stands below its root.
+    /// Returns how many steps the task at this index is below its root.
     pub fn depth_at(&self, index: usize) -> usize
         ensures { result ≡ depth_in self.now index }
     {

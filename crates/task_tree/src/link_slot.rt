@@ -7,7 +7,7 @@ use std::marker::Model;
 /// A link to a parent whose index is below 2^32 - 1, or none.
 #[derive(Clone, Copy, Debug)]
 pub(crate) struct LinkSlot {
-    /// 0 where there is no link.
+    /// 0 if there is no link.
     number: u32,
     parent: u32,
 }
@@ -29,11 +29,11 @@ impl Model for LinkSlot {
         link_again (λ number parent. record { number = number; parent = parent }) slot.number slot.parent is_code };
 }
 
-/// The parent of no link.
+/// The parent that stands for no link.
 const NONE: u32 = u32::MAX;
 
 impl LinkSlot {
-    /// None.
+    /// Returns the slot without a link.
     pub(crate) fn none() -> LinkSlot
         ensures { result ≡ None }
     {
@@ -43,7 +43,7 @@ impl LinkSlot {
         }
     }
 
-    /// This link.
+    /// Returns the slot of this link.
     pub(crate) fn some(link: Link) -> LinkSlot
         requires { link.parent < 4294967295 }
         ensures { result ≡ Some link }
@@ -52,7 +52,7 @@ impl LinkSlot {
         LinkSlot { number, parent }
     }
 
-    /// The link.
+    /// Returns the link, if there is one.
     pub(crate) fn get(self) -> Option<Link>
         ensures { result ≡ self }
     {

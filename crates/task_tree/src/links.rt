@@ -6,7 +6,7 @@ use crate::link_slot::LinkSlot;
 use crate::slot::Slot;
 use std::alloc::{AllocError, Global};
 
-/// Where a created task stands: the index of its parent, and its number among the parent's children.
+/// A created task's index of its parent, and its number among the parent's children.
 #[derive(Clone, Copy)]
 pub(crate) struct Link {
     pub(crate) number: u32,
@@ -20,8 +20,8 @@ pub(crate) struct Linked {
     pub(crate) links: Vec<LinkSlot>,
 }
 
-/// Counts the child for its parent, and notes its link. A parent that no record makes is found later, as a cause
-/// of malformed records.
+/// Counts the child for its parent, and notes its link. Ignores a parent that no record makes: that is
+/// found later, as a cause of malformed records.
 pub(crate) fn link_child(
     parent: Slot,
     child: Slot,
@@ -46,14 +46,14 @@ pub(crate) fn link_child(
     }
 }
 
-/// No child of any task.
+/// Returns a count of no children for each task.
 pub(crate) fn no_counts(alloc: Global, tasks: usize) -> Result<Vec<u32>, AllocError>
     ensures { IfOk result (λ counts. counts.items ≡ replicate tasks 0) }
 {
     vec![in alloc; 0; tasks]
 }
 
-/// No link for any task.
+/// Returns no link for each task.
 pub(crate) fn no_links(alloc: Global, tasks: usize) -> Result<Vec<LinkSlot>, AllocError>
     ensures { IfOk result (λ links. links.items ≡ replicate tasks None) }
 {

@@ -10,22 +10,23 @@ use crate::numbering::Numbering;
 use ompt_events::{Body, Cause, Fault, Record};
 use std::alloc::{AllocError, Global};
 
-/// The tasks that the records make and the parallel regions that they begin, each in file order, and by index
-/// of the task the place of the record that makes it.
+/// The tasks that the records make and the parallel regions that they begin, each in file order, and by
+/// index of the task the place of the record that makes it.
 pub(crate) struct Made {
     pub(crate) tasks: Numbering,
     pub(crate) places: Vec<u32>,
     pub(crate) regions: Numbering,
 }
 
-/// The same while it is not known whether a task is made again.
+/// The same, before it is known whether a task is made twice.
 struct Gathered {
     ids: Vec<u64>,
     places: Vec<u32>,
     regions: Numbering,
 }
 
-/// Notes what the records make, or finds the first record that makes a task or a region again.
+/// Returns what the records make. Fails with CreatedTwice at the first record that makes a task or a region
+/// again, or when out of memory.
 pub(crate) fn find_made(alloc: Global, records: &[Record]) -> Result<Made, Fault>
     requires few { length records.now ≤ 2 ^ 22 }
     ensures tasks { IfOk result (λ found. AreNoted made records.now (length records.now) found.tasks) }
@@ -42,7 +43,7 @@ pub(crate) fn find_made(alloc: Global, records: &[Record]) -> Result<Made, Fault
     }
 }
 
-/// Notes what the records make; none where one makes a task or a region again.
+/// Returns what the records make, none if one makes a task or a region again.
 fn made_at_once(alloc: Global, records: &[Record]) -> Result<Option<Made>, AllocError>
     requires few { length records.now ≤ 2 ^ 22 }
     ensures { IfOk result (λ found. IfSome found (λ made.
@@ -66,7 +67,7 @@ fn made_at_once(alloc: Global, records: &[Record]) -> Result<Option<Made>, Alloc
     }
 }
 
-/// Notes each task that is made, however often it is; none where a region begins again.
+/// Returns each task that is made, as often as it is made; none if a region begins again.
 fn gather(alloc: Global, records: &[Record]) -> Result<Option<Gathered>, AllocError>
     requires few { length records.now ≤ 2 ^ 22 }
     ensures tasks { IfOk result (λ found. IfSome found (λ gathered. AreGathered records.now
@@ -112,7 +113,7 @@ fn add_task(
     add_place(places, at)
 }
 
-/// The same one record after another, up to the first that makes a task or a region again.
+/// Returns the same as `find_made`, record by record up to the first that makes a task or a region again.
 fn made_in_turn(alloc: Global, records: &[Record]) -> Result<Made, Fault>
     requires few { length records.now ≤ 2 ^ 22 }
     ensures tasks { IfOk result (λ found. AreNoted made records.now (length records.now) found.tasks) }
@@ -147,7 +148,6 @@ fn made_in_turn(alloc: Global, records: &[Record]) -> Result<Made, Fault>
     })
 }
 
-/// Adds a place.
 fn add_place(places: &mut Vec<u32>, at: usize) -> Result<(), AllocError>
     requires { at < 2 ^ 32 }
     ensures { OnOk result (places.new.items ≡ places.old.items ++ at ∷ []) }
@@ -156,7 +156,7 @@ fn add_place(places: &mut Vec<u32>, at: usize) -> Result<(), AllocError>
     Ok(())
 }
 
-/// The parallel region that begins.
+/// Returns the parallel region that begins.
 fn forked_region(body: &Body) -> Option<u64>
     ensures { result ≡ forked_region body.now }
 {

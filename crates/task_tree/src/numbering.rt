@@ -1,4 +1,4 @@
-//! A list of ids, each once, in which the place of an id is found without a walk.
+//! A list of ids, each once, in which the index of an id is found without a walk.
 ghost use Rattle.std.specs.Prelude.{◌≡◌, ◌↔◌, ◌++◌, ◌∷◌, Some, [], ℕ, slice_get, Contains, IsTrue, IfOk, IfSome, OnOk, ◌≤◌, ◌^◌, length};
 ghost use Rattle.task_tree.specs.Numbering.{AreApart, IsNoted};
 
@@ -7,8 +7,8 @@ use std::alloc::{AllocError, Global};
 use std::collections::BTreeMap;
 use std::marker::Model;
 
-/// Ids in the order in which they were noted, each once. An id's index is its place in the list.
-/// Look-ups take logarithmic time whatever the ids are: no file can choose ids that make them slow.
+/// Ids in the order in which they were noted, each once. An id's index is its place in the list. A look-up
+/// takes logarithmic time whatever the ids are: no file can choose ids that make it slow.
 #[derive(Debug, Drop)]
 pub struct Numbering {
     ids: Vec<u64>,
@@ -32,7 +32,7 @@ impl Model for Numbering {
 }
 
 impl Numbering {
-    /// No id.
+    /// Returns an empty list.
     pub(crate) fn new(alloc: Global) -> Numbering
         ensures { result ≡ [] }
     {
@@ -43,7 +43,7 @@ impl Numbering {
         }
     }
 
-    /// These ids; none where one of them stands there twice.
+    /// Returns the list of these ids, none if one of them is there twice.
     pub(crate) fn of(alloc: Global, ids: Vec<u64>) -> Result<Option<Numbering>, AllocError>
         requires few { length ids.items ≤ 2 ^ 22 }
         ensures same { IfOk result (λ found. IfSome found (λ numbering. numbering ≡ ids.items)) }
@@ -59,14 +59,14 @@ impl Numbering {
         }
     }
 
-    /// The ids in order.
+    /// Returns the ids in the order in which they were noted.
     pub fn as_slice(&self) -> &[u64]
         ensures { result.now ≡ self.now }
     {
         self.ids.as_slice()
     }
 
-    /// The id that stands at the index, if one does.
+    /// Returns the id at the index, if there is one.
     pub(crate) fn id_at(&self, index: usize) -> Option<u64>
         ensures { result ≡ slice_get self.now index }
     {
@@ -77,7 +77,7 @@ impl Numbering {
         }
     }
 
-    /// The id's index, if it was noted.
+    /// Returns the id's index, if it was noted.
     pub fn index_of(&self, id: u64) -> Option<usize>
         ensures { (index : ℕ) → (result ≡ Some index) ↔ (slice_get self.now index ≡ Some id) }
     {
@@ -87,7 +87,8 @@ impl Numbering {
         }
     }
 
-    /// The id's index, looked for here first. It mostly stands there, and a call would take longer than that.
+    /// Returns the same, but looks at the index `near` first. The id is mostly there, and a call would take
+    /// longer.
     #[inline(always)]
     pub(crate) fn index_near(&self, id: u64, near: usize) -> Option<usize>
         ensures { (index : ℕ) → (result ≡ Some index) ↔ (slice_get self.now index ≡ Some id) }
@@ -100,21 +101,21 @@ impl Numbering {
         self.index_of(id)
     }
 
-    /// Whether this is the id's index.
+    /// Returns whether this is the id's index.
     pub(crate) fn stands_at(&self, id: u64, index: usize) -> bool
         ensures { IsTrue result ↔ (slice_get self.now index ≡ Some id) }
     {
         index < self.ids.len() && self.ids[index] == id
     }
 
-    /// Whether the id was noted.
+    /// Returns whether the id was noted.
     pub fn contains(&self, id: u64) -> bool
         ensures { IsTrue result ↔ Contains self.now id }
     {
         self.index_of(id).is_some()
     }
 
-    /// Notes the id, if there is one, and answers whether it was noted before.
+    /// Notes the id, if there is one. Returns whether it was noted before.
     pub(crate) fn note(&mut self, found: Option<u64>) -> Result<bool, AllocError>
         ensures { IfOk result (IsNoted self.old self.new found) }
     {
@@ -124,7 +125,7 @@ impl Numbering {
         }
     }
 
-    /// Notes the id, and answers whether it was noted before.
+    /// Notes the id. Returns whether it was noted before.
     pub(crate) fn note_id(&mut self, id: u64) -> Result<bool, AllocError>
         ensures { IfOk result (IsNoted self.old self.new (Some id)) }
     {
@@ -135,7 +136,7 @@ impl Numbering {
         Ok(false)
     }
 
-    /// Adds an id that was not noted before.
+    /// Adds an id. Requires that it was not noted before.
     fn add(&mut self, id: u64) -> Result<(), AllocError>
         requires { Contains self.old id → ⊥ }
         ensures { OnOk result (self.new ≡ self.old ++ id ∷ []) }

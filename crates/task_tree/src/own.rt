@@ -1,4 +1,4 @@
-//! The run of a trace in its tasks' own order, and where each record stands in the file.
+//! The run of a trace in its tasks' own order, and the place of each record in the file.
 ghost use Rattle.std.specs.Prelude.{◌≡◌, ◌<◌, Some, length, slice_get};
 ghost use Rattle.task_tree.specs.OwnOrder.{AreAllPlaces};
 ghost use Rattle.task_tree.specs.Own.{IsOwn, KeepsMembers};
@@ -7,7 +7,7 @@ use crate::own_order::OwnOrder;
 use crate::run::Run;
 use std::marker::Model;
 
-/// A run whose records stand in the tasks' own order, and where each of them stands in the file.
+/// A run whose records are in the tasks' own order, and the place of each of them in the file.
 #[derive(Debug, Drop)]
 pub struct Own<'a> {
     run: Run<'a>,
@@ -25,7 +25,7 @@ impl<'a> Model for Own<'a> {
 }
 
 impl<'a> Own<'a> {
-    /// The run of records in this order. Takes no memory.
+    /// Returns the run of records in this order. Takes no memory.
     pub fn of(run: Run<'a>, order: &'a OwnOrder) -> Own<'a>
         requires places { AreAllPlaces order.now (length run.records) }
         requires members { KeepsMembers run.records order.now }
@@ -35,7 +35,7 @@ impl<'a> Own<'a> {
         Own { run, order }
     }
 
-    /// The same once more. Takes no memory.
+    /// Returns a second view of the same run. Takes no memory.
     pub fn again(&self) -> Own<'a>
         ensures { result ≡ self.now }
     {
@@ -45,7 +45,7 @@ impl<'a> Own<'a> {
         }
     }
 
-    /// The run, whose records stand in the tasks' own order.
+    /// Returns the run, whose records are in the tasks' own order.
     pub fn run(&self) -> &Run<'a>
         ensures value { result.now ≡ self.now.run }
         ensures is_own { IsOwn self.now }
@@ -53,7 +53,7 @@ impl<'a> Own<'a> {
         &self.run
     }
 
-    /// The place in the file of the record with this number.
+    /// Returns the place in the file of the record with this number.
     #[inline(always)]
     pub fn place(&self, number: usize) -> usize
         requires { number < length self.now.run.records }
@@ -63,7 +63,7 @@ impl<'a> Own<'a> {
         self.order.place(number)
     }
 
-    /// The number of the record at a place in the file.
+    /// Returns the number of the record at a place in the file.
     #[inline(always)]
     pub fn number(&self, place: usize) -> usize
         requires { place < length self.now.run.records }

@@ -1,4 +1,4 @@
-//! The tasks' own order, in which the records stand by turn and then as in the file.
+//! The tasks' own order, in which the records are by turn and then as in the file.
 ghost use Rattle.std.specs.Prelude.{◌≡◌, ◌<◌, ◌^◌, IfOk, Some, length, map, slice_get, slice_index};
 ghost use Rattle.std.specs.List.{range_with_len};
 ghost use Rattle.ompt_events.specs.Turns.{own_places};
@@ -9,8 +9,8 @@ use ompt_events::Record;
 use std::alloc::{AllocError, Global};
 use std::marker::Model;
 
-/// An order of the records of a trace, which contracts see as the list of their places in the file. A record's
-/// number is its place in that order.
+/// An order of the records of a trace, in clauses the list of their places in the file. A record's number
+/// is its place in that order.
 #[derive(Debug, Drop)]
 pub struct OwnOrder {
     order: Order,
@@ -19,7 +19,7 @@ pub struct OwnOrder {
 /// An order of records.
 #[derive(Debug, Drop)]
 enum Order {
-    /// So many records as they stand in the file.
+    /// This many records in file order.
     InFile(usize),
     /// By number the place in the file, and by place the number.
     Arranged(Vec<u32>, Vec<u32>),
@@ -37,7 +37,7 @@ impl Model for OwnOrder {
 }
 
 impl OwnOrder {
-    /// So many records as they stand in the file. Takes no memory.
+    /// Returns file order for this many records. Takes no memory.
     pub fn in_file(records: usize) -> OwnOrder
         ensures { result ≡ range_with_len 0 records }
     {
@@ -46,7 +46,8 @@ impl OwnOrder {
         }
     }
 
-    /// The order of these places. In the second list stands at each place its number. Takes no memory.
+    /// Returns the order of these places. Requires that the second list holds at each place its number.
+    /// Takes no memory.
     pub fn arranged(places: Vec<u32>, numbers: Vec<u32>) -> OwnOrder
         requires { AreInverse places.items numbers.items }
         ensures { result ≡ places.items }
@@ -56,7 +57,7 @@ impl OwnOrder {
         }
     }
 
-    /// How many records there are.
+    /// Returns how many records there are.
     pub fn len(&self) -> usize
         ensures { result ≡ length self.now }
     {
@@ -66,7 +67,7 @@ impl OwnOrder {
         }
     }
 
-    /// The place in the file of the record with this number.
+    /// Returns the place in the file of the record with this number.
     #[inline(always)]
     pub fn place(&self, number: usize) -> usize
         requires { number < length self.now }
@@ -78,7 +79,7 @@ impl OwnOrder {
         }
     }
 
-    /// The number of the record at a place in the file.
+    /// Returns the number of the record at a place in the file.
     #[inline(always)]
     pub fn number(&self, place: usize) -> usize
         requires { place < length self.now }
@@ -91,7 +92,8 @@ impl OwnOrder {
     }
 }
 
-/// The own order of the records, given the turn of each: a sort, and one pass. The records need be no trace.
+/// Returns the own order of the records, given the turn of each. Takes a sort and one pass. The records
+/// need not be a trace.
 pub fn arrange(alloc: Global, records: &[Record], turns: &[u32]) -> Result<OwnOrder, AllocError>
     requires few { length records.now < 2 ^ 32 }
     requires turns { AreTurns records.now turns.now }
@@ -104,7 +106,7 @@ pub fn arrange(alloc: Global, records: &[Record], turns: &[u32]) -> Result<OwnOr
     Ok(OwnOrder::arranged(places, numbers))
 }
 
-/// The turn of each record and the record's place, in file order.
+/// Returns the turn and the place of each record, in file order.
 fn keys_of(alloc: Global, turns: &[u32]) -> Result<Vec<(u32, u32)>, AllocError>
     requires few { length turns.now < 2 ^ 32 }
     ensures { IfOk result (λ keys. keys.items ≡ map (λ at. (slice_index turns.now at, at))
@@ -117,7 +119,7 @@ fn keys_of(alloc: Global, turns: &[u32]) -> Result<Vec<(u32, u32)>, AllocError>
     Ok(keys)
 }
 
-/// The places of these keys.
+/// Returns the places of these keys.
 fn places_of(alloc: Global, keys: &[(u32, u32)]) -> Result<Vec<u32>, AllocError>
     ensures { IfOk result (λ places. places.items ≡ map (λ key. key.1) keys.now) }
 {
@@ -128,7 +130,7 @@ fn places_of(alloc: Global, keys: &[(u32, u32)]) -> Result<Vec<u32>, AllocError>
     Ok(places)
 }
 
-/// By place its number among the places.
+/// Returns by place its number among the places.
 fn numbers_of(alloc: Global, places: &[u32]) -> Result<Vec<u32>, AllocError>
     requires few { length places.now < 2 ^ 32 }
     requires apart { AreApartBelow places.now (length places.now) }

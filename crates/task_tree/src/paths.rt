@@ -8,7 +8,7 @@ ghost use Rattle.task_tree.specs.Paths.{ArePaths};
 use crate::family::Family;
 use std::alloc::{AllocError, Global};
 
-/// By index of the task its path.
+/// Returns by index of the task its path.
 pub(crate) fn find_paths(alloc: Global, family: &Family) -> Result<Vec<Vec<u32>>, AllocError>
     ensures { IfOk result (λ paths. (records : List Record) → IsFamilyOf records family.now
         → ArePaths records family.now.tasks paths.items) }
@@ -21,7 +21,7 @@ pub(crate) fn find_paths(alloc: Global, family: &Family) -> Result<Vec<Vec<u32>>
     Ok(paths)
 }
 
-/// The numbers of the children from the root down to the task at this index.
+/// Returns the numbers of the children from the root down to the task at this index.
 fn path_of(alloc: Global, family: &Family, index: usize) -> Result<Vec<u32>, AllocError>
     ensures { IfOk result (λ found. (records : List Record) → IsFamilyOf records family.now
         → (root task : ℕ) (path : List ℕ) → slice_get family.now.tasks index ≡ Some task

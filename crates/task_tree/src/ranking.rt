@@ -8,14 +8,14 @@ use std::alloc::{AllocError, Global};
 /// The indices of ids in the order of the ids' values. The rank of an id is its place in that order.
 #[derive(Debug, Drop)]
 pub(crate) enum Ranks {
-    /// So many ids stand in that order already.
+    /// This many ids, which are in that order already.
     Rising(usize),
     /// By rank the index of the id.
     Listed(Vec<u32>),
 }
 
 impl Ranks {
-    /// How many ids are ranked.
+    /// Returns how many ids are ranked.
     #[inline]
     fn len(&self) -> usize
         ensures { result ≡ length (order_of self.now) }
@@ -26,7 +26,7 @@ impl Ranks {
         }
     }
 
-    /// The index of the id that has this rank.
+    /// Returns the index of the id that has this rank.
     #[inline]
     fn index_at(&self, rank: usize) -> usize
         requires { rank < length (order_of self.now) }
@@ -39,8 +39,8 @@ impl Ranks {
     }
 }
 
-/// The order of the ids by their values; none where an id stands there twice. Takes no memory where the ids
-/// stand in that order already.
+/// Returns the order of the ids by their values, none if an id is there twice. Takes no memory if the ids
+/// are in that order already.
 pub(crate) fn rank(alloc: Global, ids: &[u64]) -> Result<Option<Ranks>, AllocError>
     requires few { length ids.now ≤ 2 ^ 22 }
     ensures { IfOk result (λ found. IfSome found (λ ranks. IsRanked ids.now (order_of ranks))) }
@@ -56,7 +56,7 @@ pub(crate) fn rank(alloc: Global, ids: &[u64]) -> Result<Option<Ranks>, AllocErr
     Ok(None)
 }
 
-/// The indices of the ids, sorted by the ids.
+/// Returns the indices of the ids, sorted by the ids.
 fn sort(alloc: Global, ids: &[u64]) -> Result<Vec<u32>, AllocError>
     requires few { length ids.now ≤ 2 ^ 22 }
     ensures { IfOk result (λ order. IsPermutation (range_with_len 0 (length ids.now)) order.items) }
@@ -69,7 +69,7 @@ fn sort(alloc: Global, ids: &[u64]) -> Result<Vec<u32>, AllocError>
     Ok(order)
 }
 
-/// Whether each id in this order is greater than the one before it.
+/// Returns true only if each id in this order is greater than the one before it.
 fn is_rising(ids: &[u64], ranks: &Ranks) -> bool
     requires { AreIndicesWithin ids.now (order_of ranks.now) }
     ensures { IsTrue result → AreRanksRising ids.now (order_of ranks.now) (length (order_of ranks.now)) }
@@ -82,7 +82,7 @@ fn is_rising(ids: &[u64], ranks: &Ranks) -> bool
     true
 }
 
-/// The index of the id, if it is ranked.
+/// Returns the index of the id, if it is ranked.
 pub(crate) fn search(ids: &[u64], ranks: &Ranks, id: u64) -> Option<usize>
     requires { IsRanking ids.now (order_of ranks.now) }
     ensures { MatchOption result (IsUnranked ids.now (order_of ranks.now) id) (λ index. slice_get ids.now index ≡ Some id) }
@@ -93,7 +93,7 @@ pub(crate) fn search(ids: &[u64], ranks: &Ranks, id: u64) -> Option<usize>
     }
 }
 
-/// The index of the id, where the ids below it have no gap: runtimes often count their tasks.
+/// Returns the index of the id, if the ids below it have no gap: runtimes often count their tasks.
 fn guess(ids: &[u64], ranks: &Ranks, id: u64) -> Option<usize>
     requires { AreIndicesWithin ids.now (order_of ranks.now) }
     ensures { IfSome result (λ index. slice_get ids.now index ≡ Some id) }
@@ -101,7 +101,7 @@ fn guess(ids: &[u64], ranks: &Ranks, id: u64) -> Option<usize>
     if ranks.len() == 0 {
         return None;
     }
-    // An id below the first one wraps to a rank far behind the last.
+    // An id below the first one wraps to a rank far beyond the last.
     let rank = id.wrapping_sub(ids[ranks.index_at(0)]) as usize;
     if rank >= ranks.len() {
         return None;
@@ -110,7 +110,7 @@ fn guess(ids: &[u64], ranks: &Ranks, id: u64) -> Option<usize>
     if ids[index] == id { Some(index) } else { None }
 }
 
-/// The index of the id, by halves.
+/// Returns the index of the id. Searches by halves.
 fn bisect(ids: &[u64], ranks: &Ranks, id: u64) -> Option<usize>
     requires { IsRanking ids.now (order_of ranks.now) }
     ensures { MatchOption result (IsUnranked ids.now (order_of ranks.now) id) (λ index. slice_get ids.now index ≡ Some id) }

@@ -1,4 +1,4 @@
-//! Whether file order is the tasks' own order already: one pass over the records, which costs little.
+//! A check whether file order is the tasks' own order already: one cheap pass over the records.
 ghost use Rattle.std.specs.Prelude.{ℕ, ◌≡◌, ◌≢◌, ◌↔◌, ◌<◌, List, Some, None, true, false, IfOk, IsTrue, IsSomeAnd, MatchOption, length, replicate, slice_get};
 ghost use Rattle.ompt_events.specs.declared.records.Record.{Record};
 ghost use Rattle.ompt_events.specs.declared.cause.Cause.TheVariants.{TurnGap};
@@ -14,14 +14,15 @@ use crate::family::Family;
 use ompt_events::Record;
 use std::alloc::{AllocError, Global};
 
-/// What is known of a task: the turn that it began last, if it began one, and the thread on which it did.
+/// What is known of a task: the turn that it began last, if it began one, and the thread on which it began
+/// it.
 #[derive(Clone, Copy)]
 struct Latest {
     turn: Option<u32>,
     thread: u8,
 }
 
-/// The task at an index begins a turn.
+/// A task, by its index, and the turn that it begins.
 #[derive(Clone, Copy)]
 pub(crate) struct Begin {
     pub(crate) index: usize,
@@ -29,7 +30,7 @@ pub(crate) struct Begin {
 }
 
 impl Latest {
-    /// The task began no turn.
+    /// Returns what is known of a task that began no turn.
     fn none() -> Latest
         ensures { result ≡ not_begun }
     {
@@ -39,8 +40,8 @@ impl Latest {
         }
     }
 
-    /// The turn that the task is in, if that can be told, where it runs on this thread. In turn 0 it may run
-    /// on any.
+    /// Returns the turn that the task is in if it runs on this thread, none if that is unknown. In turn 0
+    /// it may run on any thread.
     fn turn_on(self, thread: u8) -> Option<u32>
         ensures on { (turn : ℕ) → result ≡ Some turn → IsOnTurn self thread turn }
         ensures off { result ≡ None → (turn_now self ≢ 0) × (thread ≢ self.thread) }
@@ -53,7 +54,7 @@ impl Latest {
         }
     }
 
-    /// Whether this turn is the task's next.
+    /// Returns whether this turn is the task's next.
     fn is_next(self, turn: u32) -> bool
         ensures { IsTrue result ↔ IsNext self turn }
     {
@@ -64,10 +65,10 @@ impl Latest {
     }
 }
 
-/// Whether, along the file, each task comes to its turns in order and no record tells turns which are not
-/// those of its tasks. Then no task's turns fall. It is so where no record tells a turn; and where in file
-/// order each task begins the turns 0, 1, 2 and so on, makes each record on the thread on which it began one
-/// last, and tells those turns.
+/// Returns whether, along the file, each task comes to its turns in order and no record has a turn gap.
+/// Then no task's turns fall. Returns true if no record gives a turn. Returns true too if in file order
+/// each task begins the turns 0, 1, 2 and so on, makes each record on the thread on which it began one
+/// last, and gives those turns.
 pub fn turns_rise(alloc: Global, records: &[Record], family: &Family) -> Result<bool, AllocError>
     requires { IsFamilyOf records.now family.now }
     ensures exact { IfOk result (λ rise. IsTrue rise
@@ -85,14 +86,15 @@ pub fn turns_rise(alloc: Global, records: &[Record], family: &Family) -> Result<
     Ok(true)
 }
 
-/// So many tasks that began no turn.
+/// Returns this many tasks that began no turn.
 fn none_begun(alloc: Global, tasks: usize) -> Result<Vec<Latest>, AllocError>
     ensures { IfOk result (λ latest. latest.items ≡ replicate tasks not_begun) }
 {
     vec![in alloc; Latest::none(); tasks]
 }
 
-/// Whether the record at a place has no gap and is in order, where those before it are; if so, it is noted.
+/// Returns whether the record at a place has no gap and is in order, if those before it are; if so, notes
+/// it.
 fn goes_on(records: &[Record], family: &Family, latest: &mut Vec<Latest>, at: usize) -> bool
     requires within { at < length records.now }
     requires family { IsFamilyOf records.now family.now }
@@ -120,7 +122,7 @@ fn goes_on(records: &[Record], family: &Family, latest: &mut Vec<Latest>, at: us
     true
 }
 
-/// The turn of the record at a place, if that can be told.
+/// Returns the turn of the record at a place, if it is known.
 fn turn_there(records: &[Record], family: &Family, latest: &[Latest], at: usize) -> Option<u32>
     requires within { at < length records.now }
     requires family { IsFamilyOf records.now family.now }
@@ -134,7 +136,7 @@ fn turn_there(records: &[Record], family: &Family, latest: &[Latest], at: usize)
     }
 }
 
-/// Whether the record tells another turn of the prior task.
+/// Returns whether the record gives another turn of the prior task.
 pub(crate) fn tells_other(event: &Record, turn: u32) -> bool
     ensures { IsTrue result ↔ IsSomeAnd (told_turns event.now.body) (λ told. told.prior ≢ turn) }
 {
@@ -144,7 +146,7 @@ pub(crate) fn tells_other(event: &Record, turn: u32) -> bool
     }
 }
 
-/// Whether a task of which this is known may begin the turn.
+/// Returns whether a task of which this is known may begin the turn.
 fn may_begin(event: &Record, family: &Family, known: Latest, begin: Begin) -> bool
     requires { begin.index < length family.now.tasks }
     ensures { (records : List Record) (task : ℕ) → IsFamilyOf records family.now
@@ -160,7 +162,7 @@ fn may_begin(event: &Record, family: &Family, known: Latest, begin: Begin) -> bo
     begin.turn > 0 || family.is_explicit_at(begin.index)
 }
 
-/// The index of the task that the record at a place is of, if it is of one.
+/// Returns the index of the task that must be running at the record at a place, if there is one.
 pub(crate) fn running_at(records: &[Record], family: &Family, at: usize) -> Option<usize>
     requires within { at < length records.now }
     requires family { IsFamilyOf records.now family.now }
@@ -170,7 +172,7 @@ pub(crate) fn running_at(records: &[Record], family: &Family, at: usize) -> Opti
     family.subject(at)
 }
 
-/// The index of the initial or implicit task that begins at a place, if one does.
+/// Returns the index of the initial or implicit task that begins at a place, if one does.
 fn root_at(records: &[Record], family: &Family, at: usize) -> Option<usize>
     requires within { at < length records.now }
     requires family { IsFamilyOf records.now family.now }
@@ -180,7 +182,8 @@ fn root_at(records: &[Record], family: &Family, at: usize) -> Option<usize>
     family.subject(at)
 }
 
-/// The task that begins a turn at a place, if one does: a root that begins, or the task that runs next.
+/// Returns the task that begins a turn at a place, if one does: a root that begins, or the task that runs
+/// next.
 fn begin_at(records: &[Record], family: &Family, at: usize) -> Option<Begin>
     requires within { at < length records.now }
     requires family { IsFamilyOf records.now family.now }
@@ -193,7 +196,7 @@ fn begin_at(records: &[Record], family: &Family, at: usize) -> Option<Begin>
     }
 }
 
-/// The task that runs next at a place, if one does, and the turn that it begins.
+/// Returns the task that runs next at a place, if one does, and the turn that it begins.
 pub(crate) fn start_at(records: &[Record], family: &Family, at: usize) -> Option<Begin>
     requires within { at < length records.now }
     requires family { IsFamilyOf records.now family.now }

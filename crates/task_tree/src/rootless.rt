@@ -1,4 +1,4 @@
-//! Whether each record speaks only of tasks that have a root, and of parallel regions that began.
+//! A check that each record names only tasks that have a root, and parallel regions that began.
 ghost use Rattle.std.specs.Prelude.{ℕ, ◌≡◌, ◌<◌, ◌↔◌, Some, None, IsTrue, IsSomeAnd, IfSome, MatchOption, Contains, length, slice_get};
 ghost use Rattle.ompt_events.specs.declared.cause.Cause.TheVariants.{Rootless};
 ghost use Rattle.ompt_events.specs.Records.{made};
@@ -16,8 +16,8 @@ use crate::standing_slot::StandingSlot;
 use crate::subjects::Subjects;
 use ompt_events::{Body, Claim, Record};
 
-/// The first record that names a task which no record makes, creates one whose chain of parents reaches no
-/// root, or ends or joins a parallel region that no record begins.
+/// Returns the place of the first record that names a task which no record makes, creates one whose chain
+/// of parents reaches no root, or ends or joins a parallel region that no record begins.
 pub(crate) fn find_rootless(
     records: &[Record],
     tasks: &Numbering,
@@ -42,7 +42,7 @@ pub(crate) fn find_rootless(
     first_rootless(records, tasks, named, regions, roots)
 }
 
-/// Whether the root of each task is known.
+/// Returns true only if the root of each task is known.
 fn are_known(roots: &[StandingSlot]) -> bool
     ensures { IsTrue result → (index : ℕ) → slice_get roots.now index ≡ Some None → ⊥ }
 {
@@ -54,7 +54,7 @@ fn are_known(roots: &[StandingSlot]) -> bool
     true
 }
 
-/// The same record by record.
+/// Returns the same, record by record.
 fn first_rootless(
     records: &[Record],
     tasks: &Numbering,
@@ -87,7 +87,7 @@ fn first_rootless(
     None
 }
 
-/// Whether the record is one of these. The slots are those of its subject and its object.
+/// Returns whether the record is one of these. Requires the slots of its subject and its object.
 fn is_rootless(
     body: &Body,
     first: Slot,
@@ -123,7 +123,7 @@ fn is_rootless(
     }
 }
 
-/// Whether no root of the task is known.
+/// Returns whether no root of the task is known. Returns true for a slot without an index.
 fn has_no_root(task: Slot, roots: &[StandingSlot]) -> bool
     requires { IfSome task (λ index. index < length roots.now) }
     ensures { IsTrue result ↔ ((index : ℕ) → task ≡ Some index → slice_get roots.now index ≡ Some None) }
@@ -134,7 +134,7 @@ fn has_no_root(task: Slot, roots: &[StandingSlot]) -> bool
     }
 }
 
-/// Whether a root is claimed for the task that no record makes.
+/// Returns whether the claim, if there is one, names a root that no record makes.
 fn claims_unmade(
     claim: &Option<Claim>,
     task: Slot,
@@ -150,7 +150,8 @@ fn claims_unmade(
     }
 }
 
-/// Whether the task is known to stand below this root, as a right claim says.
+/// Returns true only if this is the known root of some task. Looks at the root of this task, which a right
+/// claim names.
 fn is_root_of(root: u64, task: Slot, roots: &[StandingSlot]) -> bool
     ensures { IsTrue result → (index : ℕ) × (standing : Standing)
         × (slice_get roots.now index ≡ Some (Some standing)) × (standing.root ≡ root) }
@@ -165,7 +166,7 @@ fn is_root_of(root: u64, task: Slot, roots: &[StandingSlot]) -> bool
     }
 }
 
-/// Whether the record ends or joins a parallel region that no record begins.
+/// Returns whether the record ends or joins a parallel region that no record begins.
 pub(crate) fn names_no_region(body: &Body, regions: &Numbering) -> bool
     ensures { IsTrue result ↔ NamesNoRegion regions.now body.now }
 {

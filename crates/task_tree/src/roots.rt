@@ -1,4 +1,4 @@
-//! The root below which each task stands.
+//! The root of each task, and its depth below it.
 ghost use Rattle.std.specs.Prelude.{◌≡◌, ◌<◌, ◌≤◌, ◌^◌, [], Some, None, IfOk, OnOk, length, replicate};
 ghost use Rattle.ompt_events.specs.Records.{made};
 ghost use Rattle.task_tree.specs.Makers.{AreNoted, AreMade};
@@ -14,7 +14,7 @@ use crate::standing_slot::StandingSlot;
 use ompt_events::Record;
 use std::alloc::{AllocError, Global};
 
-/// Where a task stands: its root, and how many steps below it.
+/// The standing of a task: its root, and how many steps below it the task is.
 #[derive(Clone, Copy)]
 pub(crate) struct Standing {
     pub(crate) depth: u32,
@@ -28,8 +28,8 @@ pub(crate) struct Reached {
     pub(crate) standing: Standing,
 }
 
-/// By index of the task where it stands, if its chain of parents reaches a root. One pass does where each
-/// task is created later in the file than its parent.
+/// Returns by index of the task its standing, if its chain of parents reaches a root. One pass is enough if
+/// each task is created later in the file than its parent.
 pub(crate) fn find_roots(
     alloc: Global,
     records: &[Record],
@@ -51,7 +51,7 @@ pub(crate) fn find_roots(
     }
 }
 
-/// The same down from the roots.
+/// Returns the same, down from the roots.
 fn find_downward(
     alloc: Global,
     records: &[Record],
@@ -80,7 +80,7 @@ fn find_downward(
     Ok(roots)
 }
 
-/// No root for any task.
+/// Returns no standing for each task.
 fn no_roots(alloc: Global, tasks: usize) -> Result<Vec<StandingSlot>, AllocError>
     ensures { IfOk result (λ roots. roots.items ≡ replicate tasks None) }
 {
@@ -108,7 +108,7 @@ fn reach_roots(
     Ok(())
 }
 
-/// Reaches the children of a task, which stand there.
+/// Reaches the children of a task, which have this standing.
 fn reach_children(
     tasks: &Numbering,
     children: &[u64],
@@ -120,7 +120,7 @@ fn reach_children(
     ensures { OnOk result
         (Spreads tasks.now standing roots.old.items order.old.items children.now roots.new.items order.new.items) }
 {
-    // Children that are created one after another stand so in the list of tasks too.
+    // Children that are created one after another are so in the list of tasks too.
     let mut near = 0;
     for child in children {
         near = reach(tasks, *child, near, standing, roots, order)?;
@@ -128,8 +128,8 @@ fn reach_children(
     Ok(())
 }
 
-/// Reaches a task that stands there, unless it was reached before. It is looked for here first; the answer
-/// is where the next one may be.
+/// Reaches a task with this standing, unless it was reached before. Looks for it at the index `near` first.
+/// Returns the likely index of the next one.
 fn reach(
     tasks: &Numbering,
     task: u64,

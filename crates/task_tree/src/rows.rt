@@ -1,4 +1,4 @@
-//! The children of all tasks in one array, those of each task in a row.
+//! The children of all tasks in one array, with one row for each task.
 ghost use Rattle.std.specs.Prelude.{ℕ, ◌≡◌, ◌<◌, ◌≤◌, ◌+◌, ◌^◌, IfOk, length, slice_index, sum, replicate};
 ghost use Rattle.task_tree.specs.Rows.{row, AreRising, AreWithin, AreOffsets, AreCounted, AreFitting, AreSingle, AreFilled};
 
@@ -6,7 +6,7 @@ use crate::link_slot::LinkSlot;
 use std::alloc::{AllocError, Global};
 use std::marker::Model;
 
-/// The children of all tasks: by index of the task where its row begins, and behind the last one where that
+/// The children of all tasks: by index of the task where its row begins, and after the last one where that
 /// ends.
 #[derive(Debug, Drop)]
 pub(crate) struct Rows {
@@ -25,7 +25,7 @@ impl Model for Rows {
 }
 
 impl Rows {
-    /// The children of the task at this index, in the order of their numbers.
+    /// Returns the children of the task at this index, in the order of their numbers.
     pub(crate) fn row(&self, index: usize) -> &[u64]
         requires { index + 1 < length self.now.offsets }
         ensures { result.now ≡ row self.now index }
@@ -36,7 +36,7 @@ impl Rows {
     }
 }
 
-/// Puts each created task into the row of its parent, at its number.
+/// Returns the rows, with each created task in the row of its parent, at its number.
 pub(crate) fn find_rows(
     alloc: Global,
     tasks: &[u64],
@@ -60,7 +60,7 @@ pub(crate) fn find_rows(
     Ok(Rows { offsets, ids })
 }
 
-/// Where the row of each task begins, and where the last one ends.
+/// Returns where the row of each task begins, and where the last one ends.
 fn find_offsets(alloc: Global, counts: &[u32]) -> Result<Vec<u32>, AllocError>
     requires few { sum counts.now ≤ 2 ^ 22 }
     requires short { length counts.now ≤ 2 ^ 22 }
@@ -76,7 +76,7 @@ fn find_offsets(alloc: Global, counts: &[u32]) -> Result<Vec<u32>, AllocError>
     Ok(offsets)
 }
 
-/// An id for each of so many children.
+/// Returns this many ids, all 0.
 fn no_ids(alloc: Global, children: usize) -> Result<Vec<u64>, AllocError>
     ensures { IfOk result (λ ids. ids.items ≡ replicate children 0) }
 {

@@ -1,4 +1,4 @@
-//! The records of a trace with the family of its tasks: what all phases of an audit are about.
+//! The records of a trace with the family of its tasks. All phases of an audit take them.
 ghost use Rattle.std.specs.Prelude.{ℕ, ◌≡◌, ◌↔◌, ◌<◌, Option, Some, None, IsTrue, MatchOption, is_some, length, option_copied, slice_get};
 ghost use Rattle.ompt_events.specs.declared.records.Body.{Body};
 ghost use Rattle.ompt_events.specs.Records.{begun_initial, begun_root, claim, created, created_with_deps, creation, dependences, discarded, ended_root, finish, forked, fulfilled, joined, made, region, running, schedule, started, wait_completed};
@@ -16,8 +16,8 @@ use ompt_events::{
 };
 use std::marker::Model;
 
-/// The records of a trace and the family of its tasks. What a record says is asked by its place, from 0, and
-/// answered by indices of tasks, their places in the order in which the records make them.
+/// The records of a trace and the family of its tasks. Calls take the place of a record, from 0, and return
+/// indices of tasks, their places in the order in which the records make them.
 #[derive(Debug, Drop)]
 pub struct Run<'a> {
     records: &'a [Record],
@@ -99,7 +99,8 @@ pub struct WaitEvent {
 }
 
 impl<'a> Run<'a> {
-    /// The run of the records of a trace. The family must be that of its tasks. Takes no memory.
+    /// Returns the run of the records of a trace. Requires that the family is that of its tasks. Takes no
+    /// memory.
     pub fn of(trace: &'a Trace, family: &'a Family) -> Run<'a>
         requires { IsFamilyOf trace.now.records family.now }
         ensures records { result.records ≡ trace.now.records }
@@ -111,7 +112,7 @@ impl<'a> Run<'a> {
         }
     }
 
-    /// The same run once more. Takes no memory.
+    /// Returns a second view of the same run. Takes no memory.
     pub fn again(&self) -> Run<'a>
         ensures { result ≡ self.now }
     {
@@ -121,7 +122,7 @@ impl<'a> Run<'a> {
         }
     }
 
-    /// The records in file order.
+    /// Returns the records of the run, in its order.
     pub fn records(&self) -> &'a [Record]
         ensures value { result.now ≡ self.now.records }
         ensures is_run { IsRun self.now }
@@ -129,7 +130,7 @@ impl<'a> Run<'a> {
         self.records
     }
 
-    /// The family of the tasks.
+    /// Returns the family of the tasks.
     pub fn family(&self) -> &'a Family
         ensures value { result.now ≡ self.now.family }
         ensures is_run { IsRun self.now }
@@ -137,7 +138,7 @@ impl<'a> Run<'a> {
         self.family
     }
 
-    /// How many records there are.
+    /// Returns how many records there are.
     pub fn len(&self) -> usize
         ensures value { result ≡ length self.now.records }
         ensures is_run { IsRun self.now }
@@ -145,7 +146,7 @@ impl<'a> Run<'a> {
         self.records.len()
     }
 
-    /// How many tasks there are.
+    /// Returns how many tasks there are.
     pub fn task_count(&self) -> usize
         ensures value { result ≡ length self.now.family.tasks }
         ensures is_run { IsRun self.now }
@@ -156,7 +157,7 @@ impl<'a> Run<'a> {
 
 // What a record says.
 impl<'a> Run<'a> {
-    /// The record at a place.
+    /// Returns the record at a place.
     pub fn record(&self, at: usize) -> &'a Record
         requires { at < length self.now.records }
         ensures { slice_get self.now.records at ≡ Some result.now }
@@ -165,7 +166,7 @@ impl<'a> Run<'a> {
         &records[at]
     }
 
-    /// The thread that made the record.
+    /// Returns the thread that made the record.
     pub fn thread(&self, at: usize) -> u8
         requires { at < length self.now.records }
         ensures { thread_at self.now.records at ≡ Some result }
@@ -173,7 +174,7 @@ impl<'a> Run<'a> {
         self.record(at).thread
     }
 
-    /// The ledger length that the record names.
+    /// Returns the ledger length that the record names.
     pub fn seen(&self, at: usize) -> u32
         requires { at < length self.now.records }
         ensures { result ≡ seen_at self.now.records at }
@@ -181,23 +182,24 @@ impl<'a> Run<'a> {
         self.record(at).seen
     }
 
-    /// The task that the record is of: the root that begins or ends, the parent that creates, the prior task
-    /// of a schedule, the task that is discarded, or the one that does what the record says; none for the
-    /// begin or end of a thread.
+    /// Returns the task that the record is of: the root that begins or ends, the parent that creates, the
+    /// prior task of a schedule, the task that is discarded, or the one that does what the record says.
+    /// Returns none for the begin or end of a thread.
     pub fn subject(&self, at: usize) -> Option<usize>
         ensures { IsIndexOf self.now subject at result }
     {
         self.family.subject(at)
     }
 
-    /// The second task that the record names: the child that is created, or the next task of a schedule.
+    /// Returns the second task that the record names: the child that is created, or the next task of a
+    /// schedule.
     pub fn object(&self, at: usize) -> Option<usize>
         ensures { IsIndexOf self.now object at result }
     {
         self.family.object(at)
     }
 
-    /// The creation of an explicit task, if the record is one (OpenMP 5.2, 19.5.2.7).
+    /// Returns the creation of an explicit task, if the record is one (OpenMP 5.2, 19.5.2.7).
     pub fn creation(&self, at: usize) -> Option<Creation>
         requires { at < length self.now.records }
         ensures { MatchOption result (says_at creation self.now.records at ≡ None)
@@ -209,7 +211,7 @@ impl<'a> Run<'a> {
         Some(Creation { parent, child })
     }
 
-    /// The task that runs from the record on, if one is scheduled (19.5.2.10).
+    /// Returns the task that runs from the record on, if one is scheduled (19.5.2.10).
     pub fn started(&self, at: usize) -> Option<usize>
         requires { at < length self.now.records }
         ensures { IsIndexOf self.now started at result }
@@ -217,7 +219,7 @@ impl<'a> Run<'a> {
         self.object_if(self.record(at).body.started(), at)
     }
 
-    /// The explicit task that is created there.
+    /// Returns the explicit task that is created there.
     pub fn created(&self, at: usize) -> Option<usize>
         requires { at < length self.now.records }
         ensures { IsIndexOf self.now created at result }
@@ -225,7 +227,7 @@ impl<'a> Run<'a> {
         self.object_if(self.record(at).body.created(), at)
     }
 
-    /// The task whose event is fulfilled there, early or late (12.5.2).
+    /// Returns the task whose event is fulfilled there, early or late (12.5.2).
     pub fn fulfilled(&self, at: usize) -> Option<usize>
         requires { at < length self.now.records }
         ensures { IsIndexOf self.now fulfilled at result }
@@ -233,7 +235,7 @@ impl<'a> Run<'a> {
         self.subject_if(self.record(at).body.fulfilled(), at)
     }
 
-    /// The task that is discarded there before it began (11.5).
+    /// Returns the task that is discarded there before it began (11.5).
     pub fn discarded(&self, at: usize) -> Option<usize>
         requires { at < length self.now.records }
         ensures { IsIndexOf self.now discarded at result }
@@ -241,7 +243,7 @@ impl<'a> Run<'a> {
         self.subject_if(self.record(at).body.discarded(), at)
     }
 
-    /// The taskwait with dependences that is complete there (15.5).
+    /// Returns the taskwait with dependences that is complete there (15.5).
     pub fn wait_completed(&self, at: usize) -> Option<usize>
         requires { at < length self.now.records }
         ensures { IsIndexOf self.now wait_completed at result }
@@ -249,7 +251,7 @@ impl<'a> Run<'a> {
         self.subject_if(self.record(at).body.wait_completed(), at)
     }
 
-    /// The task that must be running on the record's thread.
+    /// Returns the task that must be running on the record's thread.
     pub fn running(&self, at: usize) -> Option<usize>
         requires { at < length self.now.records }
         ensures { IsIndexOf self.now running at result }
@@ -257,7 +259,7 @@ impl<'a> Run<'a> {
         self.subject_if(self.record(at).body.running(), at)
     }
 
-    /// The task that is finished there, and how much of it.
+    /// Returns the task that is finished there, and how much of it.
     pub fn finishing(&self, at: usize) -> Option<Finishing>
         requires { at < length self.now.records }
         ensures { MatchOption result (says_at finish self.now.records at ≡ None)
@@ -268,7 +270,7 @@ impl<'a> Run<'a> {
         Some(Finishing { task, part })
     }
 
-    /// Whether a task is finished there, in whole or in part.
+    /// Returns whether a task is finished there, in whole or in part.
     pub fn is_finishing(&self, at: usize) -> bool
         requires { at < length self.now.records }
         ensures { result ≡ is_some (says_at finish self.now.records at) }
@@ -276,7 +278,8 @@ impl<'a> Run<'a> {
         finish(self.record(at)).is_some()
     }
 
-    /// The ledger length that is known after the record: one more than it names where it makes an entry.
+    /// Returns the ledger length that is known after the record: one more than it names if it makes an
+    /// entry.
     pub fn known_after(&self, at: usize) -> u64
         requires { at < length self.now.records }
         ensures { result ≡ known_after self.now.records at }
@@ -284,7 +287,7 @@ impl<'a> Run<'a> {
         u64::from(self.seen(at)) + u64::from(self.is_finishing(at))
     }
 
-    /// The synchronisation region that begins or ends there (19.5.2.13).
+    /// Returns the begin or end of a synchronisation region there (19.5.2.13).
     pub fn region(&self, at: usize) -> Option<RegionEvent>
         requires { at < length self.now.records }
         ensures { MatchOption result (says_at region self.now.records at ≡ None)
@@ -302,7 +305,7 @@ impl<'a> Run<'a> {
 
 // What a record says of the tasks that its thread runs.
 impl<'a> Run<'a> {
-    /// The status of the task_schedule event there, if the record is one (19.5.2.10).
+    /// Returns the status of the task_schedule event there, if the record is one (19.5.2.10).
     pub fn status(&self, at: usize) -> Option<Status>
         requires { at < length self.now.records }
         ensures { result ≡ says_at schedule_status self.now.records at }
@@ -311,7 +314,7 @@ impl<'a> Run<'a> {
         Some(status)
     }
 
-    /// The task_schedule event there, if the record is one (19.5.2.10).
+    /// Returns the task_schedule event there, if the record is one (19.5.2.10).
     pub fn schedule(&self, at: usize) -> Option<Schedule>
         requires { at < length self.now.records }
         ensures { MatchOption result (says_at schedule self.now.records at ≡ None)
@@ -327,7 +330,7 @@ impl<'a> Run<'a> {
         })
     }
 
-    /// What the record says of the tasks that its thread runs (12.9), if it says anything of them.
+    /// Returns what the record says of the tasks that its thread runs (12.9), if it says anything of them.
     pub fn thread_event(&self, at: usize) -> Option<ThreadEvent>
         requires { at < length self.now.records }
         ensures { MatchOption result (IsNoThreadEvent self.now at) (IsThreadEvent self.now at) }
@@ -348,7 +351,7 @@ impl<'a> Run<'a> {
 
 // What a record says of waits, teams and dependences.
 impl<'a> Run<'a> {
-    /// The task that begins a parallel region there (19.5.2.3).
+    /// Returns the task that begins a parallel region there (19.5.2.3).
     pub fn forking(&self, at: usize) -> Option<usize>
         requires { at < length self.now.records }
         ensures { MatchOption result (says_at forked self.now.records at ≡ None)
@@ -358,7 +361,8 @@ impl<'a> Run<'a> {
         self.subject_of(at)
     }
 
-    /// The begin or end of a region that waits for tasks (15.3, 15.4 and 15.5), if the record is one.
+    /// Returns the begin or end of a region that waits for tasks (15.3, 15.4 and 15.5), if the record is
+    /// one.
     pub fn wait_event(&self, at: usize) -> Option<WaitEvent>
         requires { at < length self.now.records }
         ensures { MatchOption result (IsNoWaitEvent self.now at)
@@ -374,7 +378,7 @@ impl<'a> Run<'a> {
         })
     }
 
-    /// The initial or implicit task that begins there.
+    /// Returns the initial or implicit task that begins there.
     pub fn begun_root(&self, at: usize) -> Option<usize>
         requires { at < length self.now.records }
         ensures { IsIndexOf self.now begun_root at result }
@@ -382,7 +386,7 @@ impl<'a> Run<'a> {
         self.subject_if(self.record(at).body.begun_root(), at)
     }
 
-    /// The initial or implicit task that ends there.
+    /// Returns the initial or implicit task that ends there.
     pub fn ended_root(&self, at: usize) -> Option<usize>
         requires { at < length self.now.records }
         ensures { IsIndexOf self.now ended_root at result }
@@ -390,7 +394,7 @@ impl<'a> Run<'a> {
         self.subject_if(self.record(at).body.ended_root(), at)
     }
 
-    /// The initial task that begins there.
+    /// Returns the initial task that begins there.
     pub fn begun_initial(&self, at: usize) -> Option<usize>
         requires { at < length self.now.records }
         ensures { IsIndexOf self.now begun_initial at result }
@@ -398,7 +402,8 @@ impl<'a> Run<'a> {
         self.subject_if(self.record(at).body.begun_initial(), at)
     }
 
-    /// The place in its team of the implicit task that begins there; an initial task has none.
+    /// Returns the number in its team of the implicit task that begins there, with the team and its size.
+    /// Returns none for an initial task.
     pub fn joined(&self, at: usize) -> Option<Membership>
         requires { at < length self.now.records }
         ensures { result ≡ says_at joined self.now.records at }
@@ -406,7 +411,7 @@ impl<'a> Run<'a> {
         self.record(at).body.joined()
     }
 
-    /// What the record claims of the task that it finishes.
+    /// Returns the claim of the record that finishes a task, if it has one.
     pub fn claim(&self, at: usize) -> Option<&'a Claim>
         requires { at < length self.now.records }
         ensures { option_copied result ≡ says_at claim self.now.records at }
@@ -414,7 +419,7 @@ impl<'a> Run<'a> {
         self.record(at).body.claim()
     }
 
-    /// The task that is created there with dependences, which follow.
+    /// Returns the task that is created there with dependences, which follow.
     pub fn created_with_deps(&self, at: usize) -> Option<usize>
         requires { at < length self.now.records }
         ensures { IsIndexOf self.now created_with_deps at result }
@@ -422,7 +427,7 @@ impl<'a> Run<'a> {
         self.object_if(self.record(at).body.created_with_deps(), at)
     }
 
-    /// The dependences that the record lists, and whose they are (15.9.5).
+    /// Returns the dependences that the record lists, and the task that has them (15.9.5).
     pub fn dependences(&self, at: usize) -> Option<(usize, &'a [Dep])>
         requires { at < length self.now.records }
         ensures { MatchOption result (says_at dependences self.now.records at ≡ None)
@@ -435,7 +440,7 @@ impl<'a> Run<'a> {
 }
 
 impl Run<'_> {
-    /// The task that the record is of, as `subject`. A run has an entry for each record, so none is missed.
+    /// Returns the same as `subject`. A run has an entry for each record, so none is missed.
     fn subject_of(&self, at: usize) -> Option<usize>
         requires { at < length self.now.records }
         ensures { IsIndexOf self.now subject at result }
@@ -443,7 +448,7 @@ impl Run<'_> {
         self.family.subject_of(at)
     }
 
-    /// The second task that the record names, as `object`.
+    /// Returns the same as `object`.
     fn object_of(&self, at: usize) -> Option<usize>
         requires { at < length self.now.records }
         ensures { IsIndexOf self.now object at result }
@@ -451,7 +456,7 @@ impl Run<'_> {
         self.family.object_of(at)
     }
 
-    /// The index of the task that the record is of, if the record names one in this way.
+    /// Returns the index of the task that the record is of, if the record names one in this way.
     fn subject_if(&self, named: Option<u64>, at: usize) -> Option<usize>
         requires { at < length self.now.records }
         ensures { (says : Body → Option ℕ) → named ≡ says_at says self.now.records at
@@ -462,7 +467,7 @@ impl Run<'_> {
         self.subject_of(at)
     }
 
-    /// The index of the second task of the record, if the record names one in this way.
+    /// Returns the index of the second task of the record, if the record names one in this way.
     fn object_if(&self, named: Option<u64>, at: usize) -> Option<usize>
         requires { at < length self.now.records }
         ensures { (says : Body → Option ℕ) → named ≡ says_at says self.now.records at
@@ -476,7 +481,7 @@ impl Run<'_> {
 
 // What is known of a task.
 impl<'a> Run<'a> {
-    /// The id of the task at this index.
+    /// Returns the id of the task at this index.
     pub fn task(&self, index: usize) -> u64
         requires { index < length self.now.family.tasks }
         ensures { slice_get self.now.family.tasks index ≡ Some result }
@@ -484,14 +489,14 @@ impl<'a> Run<'a> {
         self.family.tasks().as_slice()[index]
     }
 
-    /// The index of the task, if a record makes it. Takes logarithmic time.
+    /// Returns the index of the task, if a record makes it. Takes logarithmic time.
     pub fn index_of(&self, task: u64) -> Option<usize>
         ensures { (index : ℕ) → (result ≡ Some index) ↔ (slice_get self.now.family.tasks index ≡ Some task) }
     {
         self.family.tasks().index_of(task)
     }
 
-    /// The place of the record that makes the task at this index.
+    /// Returns the place of the record that makes the task at this index.
     pub fn made_at(&self, index: usize) -> usize
         requires { index < length self.now.family.tasks }
         ensures { says_at made self.now.records result ≡ slice_get self.now.family.tasks index }
@@ -499,7 +504,7 @@ impl<'a> Run<'a> {
         self.family.made_at(index)
     }
 
-    /// The place of the record that creates the task at this index; none for a root.
+    /// Returns the place of the record that creates the task at this index, none for a root.
     pub fn created_at(&self, index: usize) -> Option<usize>
         requires { index < length self.now.family.tasks }
         ensures { (task place : ℕ) → slice_get self.now.family.tasks index ≡ Some task
@@ -512,7 +517,7 @@ impl<'a> Run<'a> {
         }
     }
 
-    /// Whether another task created the task at this index.
+    /// Returns whether another task created the task at this index.
     pub fn is_explicit(&self, index: usize) -> bool
         requires { index < length self.now.family.tasks }
         ensures { (task : ℕ) → slice_get self.now.family.tasks index ≡ Some task
@@ -521,14 +526,14 @@ impl<'a> Run<'a> {
         self.family.is_explicit_at(index)
     }
 
-    /// The index of the task that created the one at this index; none for a root.
+    /// Returns the index of the task that created the one at this index, none for a root.
     pub fn parent(&self, index: usize) -> Option<usize>
         ensures { result ≡ parent_index self.now.family index }
     {
         self.family.parent_at(index)
     }
 
-    /// The children of the task at this index, in the order of their numbers.
+    /// Returns the children of the task at this index, in the order of their numbers.
     pub fn children(&self, index: usize) -> &'a [u64]
         requires { index < length self.now.family.tasks }
         ensures { (task : ℕ) → slice_get self.now.family.tasks index ≡ Some task
@@ -537,7 +542,7 @@ impl<'a> Run<'a> {
         self.family.children_at(index)
     }
 
-    /// How many children the task at this index has.
+    /// Returns how many children the task at this index has.
     pub fn child_count(&self, index: usize) -> usize
         requires { index < length self.now.family.tasks }
         ensures { (task : ℕ) → slice_get self.now.family.tasks index ≡ Some task
@@ -546,8 +551,8 @@ impl<'a> Run<'a> {
         self.family.child_count(index)
     }
 
-    /// Whether the task at this index stands below the root at this path, the numbers of the children from
-    /// the root down. It takes as many steps as the path has numbers.
+    /// Returns whether the task at this index has this root and this path, the numbers of the children from
+    /// the root down. Takes at most as many steps as the path has numbers.
     pub fn has_path(&self, index: usize, root: u64, path: &[u32]) -> bool
         requires { index < length self.now.family.tasks }
         ensures { (task : ℕ) → slice_get self.now.family.tasks index ≡ Some task

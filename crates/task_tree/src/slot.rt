@@ -26,14 +26,14 @@ impl Model for Slot {
 const NONE: u32 = u32::MAX;
 
 impl Slot {
-    /// None.
+    /// Returns the slot without an index.
     pub fn none() -> Slot
         ensures { result ≡ None }
     {
         Slot { code: NONE }
     }
 
-    /// This index.
+    /// Returns the slot of this index.
     pub fn some(index: usize) -> Slot
         requires { index < 4294967295 }
         ensures { result ≡ Some index }
@@ -41,14 +41,14 @@ impl Slot {
         Slot { code: index as u32 }
     }
 
-    /// Whether it is none.
+    /// Returns whether there is no index.
     pub fn is_none(self) -> bool
         ensures { IsTrue result ↔ (self ≡ None) }
     {
         self.get().is_none()
     }
 
-    /// The index.
+    /// Returns the index, if there is one.
     pub fn get(self) -> Option<usize>
         ensures { result ≡ self }
     {

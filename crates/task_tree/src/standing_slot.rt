@@ -1,17 +1,17 @@
-//! Where a task stands or nothing, in 16 bytes.
+//! The standing of a task or none, in 16 bytes.
 ghost use Rattle.std.specs.Prelude.{◌≡◌, ◌↔◌, Some, None, IsTrue};
 
 use crate::roots::Standing;
 use std::marker::Model;
 
-/// Where a task stands, or nothing.
+/// The standing of a task, or none.
 #[derive(Clone, Copy, Debug)]
 pub(crate) struct StandingSlot {
     content: Content,
 }
 
-/// What a slot has. An `Option<Standing>` would take 24 bytes, since its tag would stand before the whole
-/// `Standing`, which has room for it behind the depth.
+/// The content of a slot. An `Option<Standing>` would take 24 bytes, since its tag would be before the
+/// whole `Standing`, which has room for it after the depth.
 #[derive(Clone, Copy, Debug)]
 enum Content {
     Nothing,
@@ -33,7 +33,7 @@ impl Model for StandingSlot {
 }
 
 impl StandingSlot {
-    /// Nothing.
+    /// Returns the slot without a standing.
     pub(crate) fn none() -> StandingSlot
         ensures { result ≡ None }
     {
@@ -42,7 +42,7 @@ impl StandingSlot {
         }
     }
 
-    /// This standing.
+    /// Returns the slot of this standing.
     pub(crate) fn some(standing: Standing) -> StandingSlot
         ensures { result ≡ Some standing }
     {
@@ -52,14 +52,14 @@ impl StandingSlot {
         }
     }
 
-    /// Whether it is nothing.
+    /// Returns whether there is no standing.
     pub(crate) fn is_none(self) -> bool
         ensures { IsTrue result ↔ (self ≡ None) }
     {
         self.get().is_none()
     }
 
-    /// Where the task stands.
+    /// Returns the standing, if there is one.
     pub(crate) fn get(self) -> Option<Standing>
         ensures { result ≡ self }
     {

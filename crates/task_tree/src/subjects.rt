@@ -1,4 +1,4 @@
-//! The tasks that each record names, looked up once for all that comes after.
+//! The tasks that each record names, looked up once for all later steps.
 ghost use Rattle.std.specs.Prelude.{◌≡◌, ◌≤◌, ◌^◌, ◌<◌, Some, None, IfOk, IfSome, IsTrue, Contains, length, replicate};
 ghost use Rattle.ompt_events.specs.declared.cause.Cause.TheVariants.{CreatedTwice};
 ghost use Rattle.ompt_events.specs.Records.{made};
@@ -22,7 +22,8 @@ use std::alloc::{AllocError, Global};
 pub(crate) struct Subjects {
     pub(crate) subjects: Vec<Slot>,
     pub(crate) objects: Vec<Slot>,
-    /// Whether all tasks and parallel regions that the records name are known. It may be false where they are.
+    /// True only if all tasks and parallel regions that the records name are known. May be false if they
+    /// are.
     pub(crate) known: bool,
 }
 
@@ -32,7 +33,7 @@ pub(crate) struct Lookup {
     pub(crate) linked: Linked,
 }
 
-/// Looks up the tasks that the records name, and links each task that they create to its parent.
+/// Returns the tasks that the records name, and the link of each task that they create to its parent.
 pub(crate) fn find_subjects(
     alloc: Global,
     records: &[Record],
@@ -79,7 +80,7 @@ pub(crate) fn find_subjects(
     })
 }
 
-/// No task for any record.
+/// Returns no task for each record.
 fn no_slots(alloc: Global, records: usize) -> Result<Vec<Slot>, AllocError>
     ensures { IfOk result (λ slots. slots.items ≡ replicate records None) }
 {
@@ -93,9 +94,9 @@ struct Found {
     object: Slot,
 }
 
-/// Looks up the tasks that the record names, and notes what that says of where later ones stand. `known` stays
-/// true only where all tasks and regions that it names are known. Inlined into the loop over all records, since
-/// a call would pass its state through memory.
+/// Looks up the tasks that the record names, and notes what that says of the indices of later ones. `known`
+/// stays true only if all tasks and regions that it names are known. Inlined into the loop over all
+/// records, since a call would pass its state through memory.
 #[inline(always)]
 fn look_up(
     event: &Record,
@@ -149,7 +150,7 @@ fn look_up(
     }
 }
 
-/// One task, and no second one.
+/// Returns one task, and no second one.
 fn alone(subject: Slot) -> Found
     ensures subject { result.subject ≡ subject }
     ensures object { result.object ≡ None }
@@ -160,7 +161,7 @@ fn alone(subject: Slot) -> Found
     }
 }
 
-/// The index of the task, looked for here first.
+/// Returns the index of the task. Looks at the index `near` first.
 fn slot_near(tasks: &Numbering, task: u64, near: usize, known: &mut bool) -> Slot
     requires few { length tasks.now ≤ 2 ^ 22 }
     ensures found { Finds tasks.now (Some task) result }
@@ -169,7 +170,7 @@ fn slot_near(tasks: &Numbering, task: u64, near: usize, known: &mut bool) -> Slo
     checked(tasks.index_near(task, near), known)
 }
 
-/// The same of a task that the thread runs.
+/// Returns the same for a task that the thread runs from here on.
 fn run(
     tasks: &Numbering,
     task: u64,
@@ -187,7 +188,7 @@ fn run(
     checked(index, known)
 }
 
-/// The index of the task that the thread runs next, if there is one.
+/// Returns the index of the task that the thread runs next, if there is one.
 fn start(
     tasks: &Numbering,
     next: Option<u64>,
@@ -207,7 +208,7 @@ fn start(
     checked(index, known)
 }
 
-/// The index of a task; one that was not found is not known.
+/// Returns the slot of an index. Sets `known` to false if there is none.
 fn checked(index: Option<usize>, known: &mut bool) -> Slot
     requires { IfSome index (λ i. i < 4294967295) }
     ensures slot { result ≡ index }
@@ -222,7 +223,7 @@ fn checked(index: Option<usize>, known: &mut bool) -> Slot
     }
 }
 
-/// Looks up the root that is claimed, where the thread's last claim found one first.
+/// Looks up the root that is claimed. Looks first at the index that the thread's last claim found.
 fn check_claim(
     claim: &Option<Claim>,
     thread: u8,

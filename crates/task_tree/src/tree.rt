@@ -15,13 +15,13 @@ use ompt_events::{Fault, Trace};
 use std::alloc::Global;
 use std::marker::Model;
 
-/// Why a tree can't be built: memory, or `CreatedTwice` or, where that does not occur, `Rootless`.
+/// The fault of a build of a tree: Memory, CreatedTwice, or Rootless if no task or region is made twice.
 pub type TreeFault = Fault;
 
 /// The tasks that the records of a trace make, each with its parent, its number, its path, its root and its
-/// children, by the tasks' own order: a task that ran on several threads has its children in the order of its
-/// turns. Paths are stored: their memory is the sum of the depths of all tasks, which a chain of tasks
-/// makes quadratic. `Families` have all but the paths.
+/// children, by the tasks' own order: a task that ran on several threads has its children in the order of
+/// its turns. Paths are stored. Their memory is the sum of the depths of all tasks, which is quadratic for
+/// a chain of tasks. `Families` have all but the paths.
 #[derive(Debug, Drop)]
 pub struct Tree {
     families: Families,
@@ -42,8 +42,9 @@ impl Model for Tree {
 }
 
 impl Tree {
-    /// The tree of the trace's tasks. Refused are records in which a task or a parallel region is made
-    /// again, or else one is spoken of that has no root or no begin; and any records where memory runs out.
+    /// Returns the tree of the trace's tasks. Fails with CreatedTwice if a task or a parallel region is
+    /// made twice, else with Rootless if a record names a task without a root or a region without a begin;
+    /// and when out of memory.
     pub fn build(alloc: Global, trace: &Trace) -> Result<Tree, TreeFault>
         ensures tree { IfOk result (IsTreeOf trace.now.records) }
         ensures fault { IfErr result (IsFault trace.now.records (CreatedTwice ∷ Rootless ∷ [])) }
@@ -53,21 +54,22 @@ impl Tree {
         Ok(Tree { families, paths })
     }
 
-    /// The tree without its paths: the families of the tasks, by the file and by the tasks' own order.
+    /// Returns the tree without its paths: the families of the tasks, by file order and by the tasks' own
+    /// order.
     pub fn families(&self) -> &Families
         ensures { result.now ≡ self.now.families }
     {
         &self.families
     }
 
-    /// The family by the tasks' own order.
+    /// Returns the family by the tasks' own order.
     fn family(&self) -> &Family
         ensures { result.now ≡ own_family self.now.families }
     {
         self.families.own_family()
     }
 
-    /// The task that created this one; none for a root, or where no record makes the task.
+    /// Returns the task that created this one, none for a root and for a task that no record makes.
     pub fn parent(&self, task: u64) -> Option<u64>
         ensures { (records : List Record) → IsTreeOf records self.now → (parent : ℕ)
             → (result ≡ Some parent) ↔ IsParent (in_own_order records) parent task }
@@ -75,8 +77,8 @@ impl Tree {
         self.family().parent(task)
     }
 
-    /// How many children the task's parent created before it, in its own order; none for a root, or where no
-    /// record makes the task.
+    /// Returns how many children the task's parent created before it, in its own order; none for a root and
+    /// for a task that no record makes.
     pub fn number(&self, task: u64) -> Option<u32>
         ensures { (records : List Record) → IsTreeOf records self.now → (number : ℕ)
             → (result ≡ Some number) ↔ ((parent : ℕ)
@@ -85,8 +87,8 @@ impl Tree {
         self.family().number(task)
     }
 
-    /// The numbers of the children from the root down to the task, empty for a root; none where no record
-    /// makes the task.
+    /// Returns the numbers of the children from the root down to the task, an empty path for a root, and
+    /// none if no record makes the task.
     pub fn path(&self, task: u64) -> Option<&[u32]>
         ensures { (records : List Record) → IsTreeOf records self.now → (path : List ℕ)
             → (option_copied result ≡ Some path) ↔ ((root : ℕ)
@@ -98,8 +100,8 @@ impl Tree {
         }
     }
 
-    /// The initial or implicit task at the top of the task's chain of parents, which is the task itself if
-    /// it is one; none where no record makes the task.
+    /// Returns the initial or implicit task at the top of the task's chain of parents. It is the task
+    /// itself if that is one. Returns none if no record makes the task.
     pub fn root(&self, task: u64) -> Option<u64>
         ensures { (records : List Record) → IsTreeOf records self.now → (root : ℕ)
             → (result ≡ Some root) ↔ ((path : List ℕ)
@@ -108,7 +110,8 @@ impl Tree {
         self.family().root(task)
     }
 
-    /// The children of the task in the order of their numbers; empty where no record makes the task.
+    /// Returns the children of the task in the order of their numbers, an empty slice if no record makes
+    /// the task.
     pub fn children(&self, task: u64) -> &[u64]
         ensures { (records : List Record) → IsTreeOf records self.now
             → result.now ≡ children (in_own_order records) task }

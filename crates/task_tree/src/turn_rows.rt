@@ -1,7 +1,7 @@
 //! Which turns of which tasks begin, in a row of slots for each task.
 //!
-//! A task that runs next so many times has one slot more than that. Where no record has a gap, each turn that
-//! it begins has a slot: turns begin once each, and none is left out.
+//! A task that runs next n times has n + 1 slots. If no record has a gap, each turn that it begins has a
+//! slot: turns begin once each, and none is left out.
 ghost use Rattle.std.specs.Prelude.{ℕ, ◌≡◌, ◌<◌, ◌≤◌, ◌+◌, ◌^◌, false, List, Some, IfOk, IfSome, IsTrue, length, replicate, slice_get, sum};
 ghost use Rattle.ompt_events.specs.declared.records.Record.{Record};
 ghost use Rattle.ompt_events.specs.Records.{begun_turn};
@@ -17,13 +17,13 @@ use std::alloc::{AllocError, Global};
 /// The rows of all tasks.
 #[derive(Drop)]
 pub(crate) struct TurnRows {
-    /// By index of the task where its row begins, and behind the last one where that ends.
+    /// By index of the task where its row begins, and after the last one where that ends.
     offsets: Vec<usize>,
     /// By slot whether the turn begins.
     begun: Vec<bool>,
 }
 
-/// The turns that begin, if each has a slot and none begins twice.
+/// Returns the turns that begin, none if one has no slot or begins twice.
 pub(crate) fn find_rows(
     alloc: Global,
     records: &[Record],
@@ -43,7 +43,7 @@ pub(crate) fn find_rows(
     }
 }
 
-/// By index of each task how many records tell that it runs next.
+/// Returns by index of the task how many records say that it runs next.
 fn count_starts(
     alloc: Global,
     records: &[Record],
@@ -75,14 +75,14 @@ fn count_start(records: &[Record], family: &Family, at: usize, counts: &mut Vec<
     counts[begin.index] += 1;
 }
 
-/// No start of so many tasks.
+/// Returns a count of no starts for each task.
 fn no_counts(alloc: Global, tasks: usize) -> Result<Vec<usize>, AllocError>
     ensures { IfOk result (λ counts. counts.items ≡ replicate tasks 0) }
 {
     vec![in alloc; 0; tasks]
 }
 
-/// Where the row of each task begins, and where the last one ends.
+/// Returns where the row of each task begins, and where the last one ends.
 fn find_offsets(alloc: Global, counts: &[usize]) -> Result<Vec<usize>, AllocError>
     requires few { sum counts.now + length counts.now < 2 ^ 64 }
     ensures all { IfOk result (λ offsets. length offsets.items ≡ length counts.now + 1) }
@@ -98,14 +98,15 @@ fn find_offsets(alloc: Global, counts: &[usize]) -> Result<Vec<usize>, AllocErro
     Ok(offsets)
 }
 
-/// So many slots of turns of which none is known to begin.
+/// Returns this many slots, of which none is marked.
 fn none_begun(alloc: Global, slots: usize) -> Result<Vec<bool>, AllocError>
     ensures { IfOk result (λ begun. begun.items ≡ replicate slots false) }
 {
     vec![in alloc; false; slots]
 }
 
-/// Marks the turns that begin, until one begins twice or has no slot. Whether there was no such turn.
+/// Marks the turns that begin, until one begins twice or has no slot. Returns true only if there is no such
+/// turn.
 fn begin_once(records: &[Record], family: &Family, offsets: &[usize], begun: &mut [bool]) -> bool
     requires family { IsFamilyOf records.now family.now }
     requires all { length offsets.now ≡ length family.now.tasks + 1 }
@@ -122,7 +123,8 @@ fn begin_once(records: &[Record], family: &Family, offsets: &[usize], begun: &mu
     true
 }
 
-/// Marks the turn that begins at a place, if one does; whether it has a slot and did not begin before.
+/// Marks the turn that begins at a place, if one does. Returns true only if it has a slot and did not begin
+/// before.
 fn begins_anew(
     records: &[Record],
     family: &Family,
@@ -153,7 +155,7 @@ fn begins_anew(
     true
 }
 
-/// The slot of the turn, if the row of the task is long enough.
+/// Returns the slot of the turn, if the row of the task is long enough.
 fn slot_of(offsets: &[usize], begin: Begin) -> Option<usize>
     requires all { begin.index + 1 < length offsets.now }
     ensures { (slot : ℕ) → result ≡ Some slot → IsSlot offsets.now begin.index begin.turn slot }
@@ -168,7 +170,7 @@ fn slot_of(offsets: &[usize], begin: Begin) -> Option<usize>
     }
 }
 
-/// Whether a record tells that the task begins the turn.
+/// Returns true only if a record says that the task begins the turn.
 pub(crate) fn has_begun(rows: &TurnRows, begin: Begin) -> bool
     requires all { begin.index + 1 < length rows.now.offsets.items }
     requires slots { AreOffsetsWithin rows.now.offsets.items (length rows.now.begun.items) }

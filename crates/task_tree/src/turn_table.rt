@@ -1,8 +1,8 @@
 //! The turn of each record.
 //!
-//! In which turn a record is depends on the earlier records of its thread alone. So the records are gone over
-//! thread by thread, and for each task that turn is kept which it began last, with the thread on which it
-//! did: on another thread it is in turn 0.
+//! The turn of a record depends on the earlier records of its thread alone. So the records are visited
+//! thread by thread. For each task the turn is kept that it began last, with the thread on which it began
+//! it: on another thread it is in turn 0.
 ghost use Rattle.std.specs.Prelude.{ℕ, ◌≡◌, ◌<◌, ◌≤◌, ◌+◌, ◌↔◌, Some, IfOk, IsTrue, length, replicate};
 ghost use Rattle.ompt_events.specs.Places.{thread_at};
 ghost use Rattle.ompt_events.specs.Turns.{turn_at};
@@ -33,14 +33,14 @@ impl Model for RecordTurns {
 }
 
 impl RecordTurns {
-    /// The turn of each record, by its place.
+    /// Returns the turn of each record, by its place.
     pub fn as_slice(&self) -> &[u32]
         ensures { result.now ≡ self.now.turns }
     {
         self.turns.as_slice()
     }
 
-    /// Whether no thread begins a turn of a task after a later one.
+    /// Returns true only if no thread begins a turn of a task after a later one.
     pub(crate) fn are_in_order(&self) -> bool
         ensures { result ≡ self.now.in_order }
     {
@@ -48,7 +48,7 @@ impl RecordTurns {
     }
 }
 
-/// The turn that a task began last, and the thread on which it did.
+/// The turn that a task began last, and the thread on which it began it.
 #[derive(Clone, Copy)]
 struct Mark {
     turn: u32,
@@ -56,14 +56,14 @@ struct Mark {
 }
 
 impl Mark {
-    /// The task began none.
+    /// Returns the mark of a task that began none.
     fn none() -> Mark
         ensures { result ≡ no_mark }
     {
         Mark { turn: 0, thread: 0 }
     }
 
-    /// The turn in which the task is on this thread.
+    /// Returns the turn that the task is in on this thread.
     fn turn_on(self, thread: u8) -> u32
         ensures { result ≡ turn_on self thread }
     {
@@ -71,7 +71,7 @@ impl Mark {
     }
 }
 
-/// What is known once some threads are gone over.
+/// What is known after the records of some threads.
 #[derive(Drop)]
 struct Walk {
     turns: Vec<u32>,
@@ -79,8 +79,9 @@ struct Walk {
     in_order: bool,
 }
 
-/// The turn of each record, by its place: that of the task that the record is of, and 0 where it is of none.
-/// It takes a few steps for each record. Of the records nothing is assumed but that the family is theirs.
+/// Returns the turn of each record, by its place: that of the task that must be running there, and 0 if
+/// there is none. Takes a few steps for each record. Requires of the records only that the family is
+/// theirs.
 pub fn turns_of(
     alloc: Global,
     records: &[Record],
@@ -107,21 +108,21 @@ pub fn turns_of(
     })
 }
 
-/// Turn 0 for so many records.
+/// Returns turn 0 for each record.
 fn no_turns(alloc: Global, records: usize) -> Result<Vec<u32>, AllocError>
     ensures { IfOk result (λ turns. turns.items ≡ replicate records 0) }
 {
     vec![in alloc; 0; records]
 }
 
-/// So many tasks that began no turn.
+/// Returns this many tasks that began no turn.
 fn no_marks(alloc: Global, tasks: usize) -> Result<Vec<Mark>, AllocError>
     ensures { IfOk result (λ marks. marks.items ≡ replicate tasks no_mark) }
 {
     vec![in alloc; Mark::none(); tasks]
 }
 
-/// Goes over the records of a thread, where those of the earlier threads are gone over.
+/// Visits the records of a thread. Requires that those of the earlier threads are visited.
 fn walk_thread(records: &[Record], family: &Family, chains: &Chains, thread: usize, walk: &mut Walk)
     requires family { IsFamilyOf records.now family.now }
     requires chains { AreChainsFrom records.now 0 chains.now.firsts.items chains.now.nexts.items }
@@ -136,7 +137,7 @@ fn walk_thread(records: &[Record], family: &Family, chains: &Chains, thread: usi
     }
 }
 
-/// Goes over the record at a place, where the earlier ones of its thread are gone over.
+/// Visits the record at a place. Requires that the earlier ones of its thread are visited.
 fn visit(records: &[Record], family: &Family, at: usize, walk: &mut Walk)
     requires within { at < length records.now }
     requires family { IsFamilyOf records.now family.now }
@@ -157,7 +158,7 @@ fn visit(records: &[Record], family: &Family, at: usize, walk: &mut Walk)
     };
 }
 
-/// The turn of the record at a place.
+/// Returns the turn of the record at a place.
 fn turn_before(records: &[Record], family: &Family, marks: &[Mark], at: usize) -> u32
     requires within { at < length records.now }
     requires family { IsFamilyOf records.now family.now }
@@ -171,7 +172,7 @@ fn turn_before(records: &[Record], family: &Family, marks: &[Mark], at: usize) -
     }
 }
 
-/// Whether it was so, and the next turn is no earlier one than the last.
+/// Returns whether `before` is true and the next turn is not earlier than the last.
 fn stays_in_order(before: bool, last: u32, next: u32) -> bool
     ensures { IsTrue result ↔ (IsTrue before × (last ≤ next)) }
 {

@@ -3,14 +3,15 @@ use Rattle.std.specs.Prelude.{ℕ, ◌≡◌, ◌<◌, ◌≤◌, ◌⊎◌, Lis
 use Rattle.std.specs.Global.{Vec}
 use Rattle.task_states.specs.Rows.{row_at}
 
--- a member of the team, of the first n tasks, begins at most so many barriers
+-- a member of the team, of the first n tasks, begins at most this many barriers
 pub record IsCountReached (teams : List (Option ℕ)) (begins : List (Vec ℕ)) (n team count : ℕ) : Type 0 where
   pub index : ℕ
   pub before : index < n
   pub in_team : slice_get teams index ≡ Some (Some team)
   pub few : length (row_at begins index) ≤ count
 
--- by number of the team the least number of barriers that a member, of the first n tasks, begins
+-- by number of the team the least number of barriers that a member, of the first n tasks, begins; 2^32 - 1
+-- or more if there is no such member
 pub record AreFewest (teams : List (Option ℕ)) (begins : List (Vec ℕ)) (n : ℕ)
     (fewest : List ℕ) : Type 0 where
   pub all : length fewest ≡ length teams
@@ -19,7 +20,7 @@ pub record AreFewest (teams : List (Option ℕ)) (begins : List (Vec ℕ)) (n : 
   pub reached : (team count : ℕ) → slice_get fewest team ≡ Some count
       → (4294967295 ≤ count) ⊎ IsCountReached teams begins n team count
 
--- each number of a team is an index
+-- the number of each team is an index
 abbrev pub AreTeamsWithin : List (Option ℕ) → Type 0
 AreTeamsWithin teams = (index team : ℕ) → slice_get teams index ≡ Some (Some team) → team < length teams
 

@@ -1,5 +1,5 @@
--- Teams by index of the task, and how many members each has, while the records are gone over. The number of
--- a team is the index of its first member.
+-- Teams by index of the task, and how many members each has, while the records are visited. The number of a
+-- team is the index of its first member.
 use Rattle.std.specs.Prelude.{ℕ, ◌≡◌, ◌<◌, List, length, Option, Some, None, slice_get}
 use Rattle.std.specs.Ordering.{nat_cmp}
 use Rattle.std.specs.BTreeMap.{BTreeMap, get, Updates}
@@ -52,7 +52,7 @@ pub record IsInNone (rs : List Record) (n task : ℕ) : Type 0 where
   pub not_initial : (i : ℕ) → i < n → at begun_initial rs i ≡ Some task → ⊥
   pub not_joined : (i : ℕ) (m : Membership) → i < n → at joined rs i ≡ Some m → m.member ≡ task → ⊥
 
--- at the index of each task stands the number of its team, if it is in one by the first n records
+-- at the index of each task, the number of its team, if it is in one by the first n records
 pub record AreInTeams (rs : List Record) (n : ℕ) (tasks : List ℕ) (teams : List (Option ℕ)) : Type 0 where
   pub all : length teams ≡ length tasks
   pub known : (index task team : ℕ) → slice_get tasks index ≡ Some task
@@ -66,7 +66,7 @@ pub record IsLeadAt (rs : List Record) (tasks : List ℕ) (i lead : ℕ) : Type 
   pub joins : at joined rs i ≡ Some member
   pub leads : IsLead rs tasks member.parallel lead
 
--- at the index of each lead stands how many members its team has by the first n records, and 0 elsewhere
+-- at the index of each lead, how many members its team has by the first n records; 0 elsewhere
 pub record AreSizes (rs : List Record) (n : ℕ) (tasks sizes : List ℕ) : Type 0 where
   pub all : length sizes ≡ length tasks
   pub each : (parallel lead size : ℕ) → IsLead rs tasks parallel lead → slice_get sizes lead ≡ Some size

@@ -6,7 +6,7 @@ use Rattle.ompt_events.specs.Regions.{IsRegion, IsBarrierBegin, is_barrier}
 use Rattle.ompt_events.specs.Teams.{IsTeammate}
 use Rattle.task_tree.specs.Runs.{RunView}
 
--- a barrier ends there that began at the place begin
+-- a barrier ends there that began at the place `begin`
 pub record EndsBarrier (rs : List Record) (i begin : ℕ) : Type 0 where
   pub task : ℕ
   pub kind : SyncKind

@@ -1,4 +1,4 @@
--- The seats of the members of a team, by their numbers, while the records are gone over.
+-- The seats of the members of a team, by their numbers, while the records are visited.
 use Rattle.std.specs.Prelude.{ℕ, zero, suc, ◌≡◌, ◌<◌, ◌≤◌, ◌+◌, ◌⊎◌, ◌∷◌, [], List, length, Bool, true, false}
 use Rattle.std.specs.Prelude.{Option, Some, None, Contains, is_some, slice_get, slice_set, replicate}
 use Rattle.std.specs.Global.{Vec}
@@ -36,8 +36,8 @@ pub record AreSeats (rs : List Record) (n : ℕ) (tasks : List ℕ) (parallel : 
   pub only : (number index : ℕ) → slice_get seats number ≡ Some (Some index)
       → IsSeatOf rs n tasks parallel number index
 
--- at the number of each team stand the seats of its members, an initial task has its own, and any other
--- number has none
+-- at the number of each team, the seats of its members; an initial task has its own, and any other number
+-- has none
 pub record AreSeated (rs : List Record) (n : ℕ) (tasks : List ℕ)
     (rosters : List (Vec (Option ℕ))) : Type 0 where
   pub all : length rosters ≡ length tasks
@@ -58,14 +58,15 @@ pub data AreFirstSeats (rs : List Record) (tasks sizes : List ℕ) (index : ℕ)
       → slice_get sizes index ≡ Some size → seats ≡ replicate size None
       → AreFirstSeats rs tasks sizes index seats
 
--- that stands for each of the first n tasks
+-- each of the first n tasks has these seats
 pub record AreFirstRosters (rs : List Record) (tasks sizes : List ℕ) (n : ℕ)
     (rosters : List (Vec (Option ℕ))) : Type 0 where
   pub all : length rosters ≡ n
   pub each : (index : ℕ) (roster : Vec (Option ℕ)) → slice_get rosters index ≡ Some roster
       → AreFirstSeats rs tasks sizes index roster.items
 
--- the member's number is one of its team, which has as many members as it says, as each earlier one says
+-- the member's number is below the size that it says; the team has at least that many members; each earlier
+-- member says the same size
 pub record FitsTeam (rs : List Record) (i : ℕ) (m : Membership) : Type 0 where
   pub inside : m.index < m.actual
   pub enough : m.actual ≤ length (members rs m.parallel)
@@ -75,12 +76,12 @@ abbrev pub IsFitting : List Record → ℕ → Membership → Bool → Type 0
 IsFitting rs i m true = FitsTeam rs i m
 IsFitting rs i m false = IsShort rs i
 
--- and no earlier member has its number
+-- the same, and no earlier member has its number
 pub record HasSeat (rs : List Record) (i : ℕ) (m : Membership) : Type 0 where
   pub fits : FitsTeam rs i m
   pub alone : (e : Membership) → Contains (members_before rs m.parallel i) e → e.index ≡ m.index → ⊥
 
--- the member that begins there, if one does, lacks nothing
+-- the member that begins there, if one does, fits its team, and no earlier member has its number
 abbrev pub LacksNothing : List Record → ℕ → Type 0
 LacksNothing rs i = (m : Membership) → at joined rs i ≡ Some m → HasSeat rs i m
 
@@ -88,13 +89,13 @@ LacksNothing rs i = (m : Membership) → at joined rs i ≡ Some m → HasSeat r
 abbrev pub IsWholeBefore : List Record → ℕ → Type 0
 IsWholeBefore rs i = (k : ℕ) → k < i → is_some (at joined rs k) ≡ true → IsShort rs k → ⊥
 
--- the seat was empty and is the index's now, or it is taken
+-- the seat was empty and is now that of the index, or it is taken
 abbrev pub TakesSeat : List (Option ℕ) → List (Option ℕ) → ℕ → ℕ → Bool → Type 0
 TakesSeat old new number index true =
     (slice_get old number ≡ Some None) × (new ≡ slice_set old number (Some index))
 TakesSeat old new number index false = (other : ℕ) × (slice_get old number ≡ Some (Some other))
 
--- a member begins there that shows a team which lacks a member; or it lacks nothing, and has its seat
+-- a member begins there that shows a team which lacks a member; or it does not, and has its seat
 abbrev pub IsSeating : List Record → ℕ → List ℕ → List (Vec (Option ℕ)) → Bool → Type 0
 IsSeating rs i tasks rosters true = (is_some (at joined rs i) ≡ true) × IsShort rs i
 IsSeating rs i tasks rosters false = LacksNothing rs i × AreSeated rs (i + 1) tasks rosters

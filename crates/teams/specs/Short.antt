@@ -1,4 +1,5 @@
--- The search for the first place in the file at which a record shows a team or a barrier that lacks a member.
+-- The search for the first place in the file at which a record shows a team or a barrier that lacks a
+-- member.
 use Rattle.std.specs.Prelude.{ℕ, ◌≡◌, ◌<◌, true, List, length, Option, Some, None, MatchOption, is_some}
 use Rattle.std.specs.Prelude.{slice_get}
 use Rattle.std.specs.Global.{Vec}
@@ -10,7 +11,7 @@ use Rattle.task_tree.specs.Own.{OwnView, IsFirstPlaceWith}
 use Rattle.teams.specs.Missed.{IsBarrierMissed}
 use Rattle.teams.specs.Seats.{AreSeated, IsWholeBefore}
 
--- the record with this number, which stands at the place in the file, is the first in the tasks' own order at
+-- the record with this number, which is at the place in the file, is the first in the tasks' own order at
 -- which a member begins that shows a team which lacks a member
 pub record IsFirstLack (own : OwnView) (place : ℕ) : Type 0 where
   pub number : ℕ
@@ -31,11 +32,11 @@ abbrev pub IsMissedAt : OwnView → ℕ → Type 0
 IsMissedAt own place =
     (number : ℕ) × (slice_get own.places number ≡ Some place) × IsBarrierMissed own.run.records number
 
--- none does before the place
+-- none ends before the place
 abbrev pub IsMissedNowhere : OwnView → ℕ → Type 0
 IsMissedNowhere own place = (k : ℕ) → k < place → IsMissedAt own k → ⊥
 
--- it is the first such place, before the end
+-- it is the first such place, and before the end
 pub record IsFirstMissedBarrier (own : OwnView) (end place : ℕ) : Type 0 where
   pub before : place < end
   pub missed : IsMissedAt own place
@@ -45,8 +46,8 @@ pub record IsFirstMissedBarrier (own : OwnView) (end place : ℕ) : Type 0 where
 abbrev pub FindsMissed : OwnView → ℕ → Option ℕ → Type 0
 FindsMissed own end found = MatchOption found (IsMissedNowhere own end) (IsFirstMissedBarrier own end)
 
--- no record shows a team or a barrier that lacks a member, and each member has its seat; or this is the first
--- place in the file at which one does
+-- no record shows a team or a barrier that lacks a member, and each member has its seat; or this is the
+-- first place in the file at which one does
 abbrev pub IsSearched : OwnView → List (Vec (Option ℕ)) → Option ℕ → Type 0
 IsSearched own rosters None =
     IsFreeOf own.run.records TeamShort

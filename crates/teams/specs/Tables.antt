@@ -7,11 +7,11 @@ use Rattle.teams.specs.Teams.{AreBarrierBegins, AreBeginNumbers}
 use Rattle.teams.specs.Members.{AreInTeams, AreSizes}
 use Rattle.teams.specs.Fewest.{AreFewest}
 
--- what clauses see of the tables: the run, whose records stand in the tasks' own order; by number of a record
--- its place in the file; by index of the task the number of its team; by number of the team
--- how many members it has; by index of the task the places at which it begins barriers; by place of a record
--- that begins one how many its task began before; and by number of the team the least number of barriers that
--- a member begins
+-- the view of the tables: the run, whose records are in the tasks' own order; by number of a record its
+-- place in the file; by index of the task the number of its team; by number of the team how many members it
+-- has; by index of the task the places at which it begins barriers; by place of a record that begins one
+-- how many its task began before; and by number of the team the least number of barriers that a member
+-- begins
 pub record TablesView : Type 0 where
   pub run : RunView
   pub places : List ℕ

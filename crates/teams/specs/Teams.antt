@@ -24,10 +24,10 @@ pub data IsMemberNumbered (rs : List Record) (task : ℕ) : ℕ → ℕ → Type
 abbrev pub begins_before : List Record → ℕ → ℕ → List ℕ
 begins_before rs task n = filter (begins_barrier rs task) (own_before rs task n)
 
--- what clauses see of teams: the run, whose records stand in the tasks' own order; by number of a record its
--- place in the file; by index of the task the number of its team, if it is in one; by number
--- of the team its members by their own numbers; by index of the task the places at which it begins barriers;
--- and by place of a record that begins a barrier how many its task began before
+-- the view of teams: the run, whose records are in the tasks' own order; by number of a record its place in
+-- the file; by index of the task the number of its team, if it is in one; by number of the team its members
+-- by their own numbers; by index of the task the places at which it begins barriers; and by place of a
+-- record that begins a barrier how many its task began before
 pub record TeamsView : Type 0 where
   pub run : RunView
   pub places : List ℕ
@@ -40,7 +40,7 @@ pub record TeamsView : Type 0 where
 abbrev pub own_of : TeamsView → OwnView
 own_of view = record { run = view.run; places = view.places }
 
--- two tasks have the same number where they are in one team
+-- two tasks have the same number if they are in one team
 pub record AreTeams (rs : List Record) (tasks : List ℕ) (teams : List (Option ℕ)) : Type 0 where
   pub all : length teams ≡ length tasks
   pub mates : (index other task mate team : ℕ) → slice_get tasks index ≡ Some task
@@ -49,7 +49,7 @@ pub record AreTeams (rs : List Record) (tasks : List ℕ) (teams : List (Option 
   pub none : (index task mate : ℕ) → slice_get tasks index ≡ Some task → slice_get teams index ≡ Some None
       → IsTeammate rs task mate → ⊥
 
--- at the number of each team stand its members by their numbers, without a gap
+-- at the number of each team, its members by their numbers, without a gap
 pub record AreRosters (rs : List Record) (tasks : List ℕ) (teams : List (Option ℕ))
     (rosters : List (Vec (Option ℕ))) : Type 0 where
   pub within : (index team : ℕ) → slice_get teams index ≡ Some (Some team) → team < length rosters
@@ -62,19 +62,19 @@ pub record AreRosters (rs : List Record) (tasks : List ℕ) (teams : List (Optio
       → number < length roster.items
       → (other : ℕ) × (slice_get roster.items number ≡ Some (Some other)) × (other < length tasks)
 
--- in the row of each task stand the places at which it begins barriers, of the first n records; a task that
+-- in the row of each task, the places at which it begins barriers, of the first n records; a task that
 -- begins none may have no row
 pub record AreBarrierBegins (rs : List Record) (n : ℕ) (tasks : List ℕ) (begins : List (Vec ℕ)) : Type 0 where
   pub within : length begins ≤ length tasks
   pub each : (index task : ℕ) → slice_get tasks index ≡ Some task
       → row_at begins index ≡ begins_before rs task n
 
--- the task that begins a barrier there began so many before
+-- the task that begins a barrier there began this many before
 abbrev pub IsNumberOf : List Record → ℕ → ℕ → Type 0
 IsNumberOf rs i number = (task : ℕ) → barrier_begun (at region rs i) ≡ Some task
     → IsBarrierBegin rs task number i
 
--- that stands for each of the first n records
+-- each of the first n records has such a number
 pub record AreBeginNumbers (rs : List Record) (n : ℕ) (numbers : List ℕ) : Type 0 where
   pub all : length numbers ≡ n
   pub each : (i number : ℕ) → slice_get numbers i ≡ Some number → IsNumberOf rs i number

@@ -1,4 +1,4 @@
-//! Where each task begins barriers, and how many it began before.
+//! The places at which each task begins barriers, and how many it began before.
 ghost use Rattle.std.specs.Prelude.{◌≡◌, ◌<◌, ◌^◌, IfOk, OnOk, length, replicate};
 ghost use Rattle.ompt_events.specs.Records.{region};
 ghost use Rattle.ompt_events.specs.Places.{at as says_at};
@@ -13,14 +13,14 @@ use std::alloc::{AllocError, Global};
 use task_states::reach;
 use task_tree::Run;
 
-/// By index of the task the places at which it begins barriers, and by place of a record that begins one how
-/// many its task began before.
+/// By index of the task the places at which it begins barriers, and by place of a record that begins one
+/// how many its task began before.
 pub(crate) struct Begins {
     pub(crate) begins: Vec<Vec<u32>>,
     pub(crate) numbers: Vec<u32>,
 }
 
-/// Where each task begins barriers.
+/// Returns the places at which each task begins barriers, and their numbers.
 pub(crate) fn find_begins(alloc: Global, run: &Run) -> Result<Begins, AllocError>
     ensures begins { IfOk result (λ found. AreBarrierBegins run.now.records
         (length run.now.records) run.now.family.tasks found.begins.items) }
@@ -37,15 +37,15 @@ pub(crate) fn find_begins(alloc: Global, run: &Run) -> Result<Begins, AllocError
     Ok(Begins { begins, numbers })
 }
 
-/// No barrier begins at any record.
+/// Returns a number of 0 for each record.
 fn no_numbers(alloc: Global, records: usize) -> Result<Vec<u32>, AllocError>
     ensures { IfOk result (λ numbers. numbers.items ≡ replicate records 0) }
 {
     vec![in alloc; 0; records]
 }
 
-/// Notes that the task at the index begins a barrier at the place, and answers how many it began before. Rows
-/// are made only up to the task: most tasks may begin no barrier.
+/// Notes that the task at the index begins a barrier at the place. Returns how many it began before. Makes
+/// rows only up to the task: most tasks may begin no barrier.
 fn note_begin(
     alloc: Global,
     begins: &mut Vec<Vec<u32>>,
@@ -64,8 +64,8 @@ fn note_begin(
     Ok(number)
 }
 
-/// The index of the task that begins a barrier at the place, of the kinds that wait for the tasks of the team,
-/// whether or not it ends there too.
+/// Returns the index of the task that begins a barrier at the place, of the kinds that wait for the tasks
+/// of the team, whether or not it ends there too.
 pub fn barrier_begun(run: &Run, at: usize) -> Option<usize>
     requires { at < length run.now.records }
     ensures { Calls run.now.family.tasks (barrier_begun (says_at region run.now.records at)) result }

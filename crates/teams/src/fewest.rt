@@ -6,7 +6,7 @@ use std::alloc::{AllocError, Global};
 use task_states::row;
 use task_tree::Slot;
 
-/// By number of the team the least number of barriers that a member begins.
+/// Returns by number of the team the least number of barriers that a member begins.
 pub(crate) fn find_fewest(
     alloc: Global,
     teams: &[Slot],
@@ -26,14 +26,14 @@ pub(crate) fn find_fewest(
     Ok(fewest)
 }
 
-/// No member is counted yet.
+/// Returns 2^32 - 1 for each task: no member is counted yet.
 fn no_counts(alloc: Global, tasks: usize) -> Result<Vec<u32>, AllocError>
     ensures { IfOk result (λ fewest. fewest.items ≡ replicate tasks 4294967295) }
 {
     vec![in alloc; u32::MAX; tasks]
 }
 
-/// The lesser of two numbers of barriers.
+/// Returns the lesser of two numbers of barriers.
 fn lesser(least: u32, count: u32) -> u32
     ensures { result ≡ min least count }
 {

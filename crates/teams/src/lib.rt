@@ -1,10 +1,12 @@
-//! The teams of a run in its tasks' own order: who meets at a barrier, where each member begins barriers, and
-//! the first place in the file at which a record shows a team or a barrier that lacks a member.
+//! The teams of a run in its tasks' own order: the members that meet at a barrier, the places at which each
+//! begins barriers, and the first place in the file at which a record shows a team or a barrier that lacks
+//! a member.
 //!
 //! Read `teams` first, what a caller sees, then the steps of a build: `tables` brings together `begins`
-//! (where tasks begin barriers), `members` (the team of each task) and `fewest` (the least number of barriers
-//! in a team); over these go `missed` (barriers that a member doesn't begin), `seats` (the members by their
-//! numbers), and `short`, the search for the first place at which a record shows a lack.
+//! (the places at which tasks begin barriers), `members` (the team of each task) and `fewest` (the least
+//! number of barriers in a team). These are used by `missed` (barriers that a member doesn't begin),
+//! `seats` (the members by their numbers), and `short`, the search for the first place at which a record
+//! shows that a member is missing.
 #![tactic(auto)]
 
 mod begins;

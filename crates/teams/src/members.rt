@@ -14,7 +14,7 @@ pub(crate) struct Members {
     pub(crate) sizes: Vec<u32>,
 }
 
-/// The team of each task, and how many members each has. It looks up each member's parallel region, in
+/// Returns the team of each task, and how many members each has. Looks up each member's parallel region, in
 /// logarithmic time.
 pub(crate) fn find_members(alloc: Global, run: &Run) -> Result<Members, AllocError>
     ensures { IfOk result (AreMembers run.now (length run.now.records)) }
@@ -27,7 +27,7 @@ pub(crate) fn find_members(alloc: Global, run: &Run) -> Result<Members, AllocErr
     Ok(members)
 }
 
-/// No task is in a team.
+/// Returns no team for each task.
 fn no_members(alloc: Global, tasks: usize) -> Result<Members, AllocError>
     ensures teams { IfOk result (λ members. members.teams.items ≡ replicate tasks None) }
     ensures sizes { IfOk result (λ members. members.sizes.items ≡ replicate tasks 0) }
@@ -65,7 +65,7 @@ fn note_member(
     Ok(())
 }
 
-/// The lead that is noted for the parallel region, or else this index, which is noted.
+/// Returns the lead that is noted for the parallel region, or else notes and returns this index.
 fn lead_of(
     leads: &mut BTreeMap<u64, usize>,
     parallel: u64,

@@ -1,4 +1,4 @@
-//! Which ends of barriers show that a member of the team doesn't begin them.
+//! The ends of barriers which show that a member of the team doesn't begin them.
 ghost use Rattle.std.specs.Prelude.{◌<◌, ◌↔◌, IsTrue, MatchOption, length};
 ghost use Rattle.teams.specs.Missed.{IsBarrierEnd, EndsNoBarrier, IsBarrierMissed};
 
@@ -15,8 +15,8 @@ pub struct BarrierEnd {
     pub begin: usize,
 }
 
-/// Whether a record ends a barrier that a member of the team doesn't begin. A member that
-/// begins fewer barriers lacks the last ones, so the least number of barriers in the team decides.
+/// Returns whether a record ends a barrier that a member of the team doesn't begin. A member that begins
+/// fewer barriers lacks the last ones, so the least number of barriers in the team decides.
 pub(crate) fn is_missed(tables: &Tables, at: usize) -> bool
     requires { at < length tables.now.run.records }
     ensures { IsTrue result ↔ IsBarrierMissed tables.now.run.records at }
@@ -34,7 +34,7 @@ pub(crate) fn is_missed(tables: &Tables, at: usize) -> bool
     true
 }
 
-/// The barrier that the record with this number ends.
+/// Returns the barrier that the record with this number ends, if it ends one.
 pub(crate) fn barrier_end(regions: &Regions, number: usize) -> Option<BarrierEnd>
     requires { number < length regions.now.own.run.records }
     ensures { MatchOption result (EndsNoBarrier regions.now.own.run.records number)

@@ -11,7 +11,7 @@ use ompt_events::Membership;
 use std::alloc::{AllocError, Global};
 use task_tree::{Run, Slot};
 
-/// By number of the team an empty seat for each of its members; an initial task is in its own.
+/// Returns by number of the team an empty seat for each of its members. An initial task is in its own seat.
 pub(crate) fn empty_rosters(alloc: Global, tables: &Tables) -> Result<Vec<Vec<Slot>>, AllocError>
     ensures { IfOk result (λ rosters. AreSeated tables.now.run.records 0
         tables.now.run.family.tasks rosters.items) }
@@ -24,7 +24,7 @@ pub(crate) fn empty_rosters(alloc: Global, tables: &Tables) -> Result<Vec<Vec<Sl
     Ok(rosters)
 }
 
-/// The seats of the team whose number is this index.
+/// Returns the seats of the team whose number is this index.
 fn empty_roster(alloc: Global, tables: &Tables, index: usize) -> Result<Vec<Slot>, AllocError>
     requires { index < length tables.now.run.family.tasks }
     ensures { IfOk result (λ roster. AreFirstSeats tables.now.run.records
@@ -38,14 +38,15 @@ fn empty_roster(alloc: Global, tables: &Tables, index: usize) -> Result<Vec<Slot
     }
 }
 
-/// So many seats with the same in each.
+/// Returns this many seats with the same slot in each.
 fn same_seats(alloc: Global, slot: Slot, count: usize) -> Result<Vec<Slot>, AllocError>
     ensures { IfOk result (λ seats. seats.items ≡ replicate count slot) }
 {
     vec![in alloc; slot; count]
 }
 
-/// Whether the member that begins at a record shows that its team lacks a member. Else it takes its seat.
+/// Returns whether the member that begins at a record shows that its team lacks a member. If not, it gets
+/// its seat.
 pub(crate) fn lacks_member(tables: &Tables, rosters: &mut Vec<Vec<Slot>>, at: usize) -> bool
     requires within { at < length tables.now.run.records }
     requires whole { IsWholeBefore tables.now.run.records at }
@@ -71,8 +72,8 @@ pub(crate) fn lacks_member(tables: &Tables, rosters: &mut Vec<Vec<Slot>>, at: us
     true
 }
 
-/// Whether the number of the member that begins at a place is one of its team, which has as many members as
-/// it says and as the first one says.
+/// Returns whether the member that begins at a place fits its team: its number is below the size that it
+/// says, the team has at least that many members, and the first member says the same size.
 fn fits(tables: &Tables, lead: usize, member: Membership, at: usize) -> bool
     requires joins { IsJoining tables.now.run at member lead }
     requires whole { IsWholeBefore tables.now.run.records at }
@@ -91,7 +92,7 @@ fn fits(tables: &Tables, lead: usize, member: Membership, at: usize) -> bool
     true
 }
 
-/// Whether the member whose index is given says this size of its team.
+/// Returns whether the member at the index says that its team has this size.
 fn names_size(run: &Run, lead: usize, actual: u32) -> bool
     requires { lead < length run.now.family.tasks }
     ensures { (place : ℕ) (first : Membership) → says_at joined run.now.records place ≡ Some first
@@ -105,7 +106,7 @@ fn names_size(run: &Run, lead: usize, actual: u32) -> bool
     }
 }
 
-/// Gives the seat of this number to the task at an index, unless it is taken.
+/// Gives the seat of this number to the task at an index, unless it is taken. Returns whether it was free.
 fn take_seat(roster: &mut Vec<Slot>, number: usize, index: usize) -> bool
     requires inside { number < length roster.old.items }
     requires small { index < 4294967295 }

@@ -9,8 +9,8 @@ use crate::seats::lacks_member;
 use crate::tables::Tables;
 use task_tree::Slot;
 
-/// Searches for the first place in the file of a record that shows a team or a barrier that lacks a member.
-/// On the way each member takes its seat.
+/// Returns the first place in the file at which a record shows a team or a barrier that lacks a member. If
+/// there is none, each member has its seat.
 pub(crate) fn find_short(tables: &Tables, rosters: &mut Vec<Vec<Slot>>) -> Option<usize>
     requires { AreSeated tables.now.run.records 0 tables.now.run.family.tasks rosters.old.items }
     ensures { IsSearched (tables_own tables.now) rosters.new.items result }
@@ -20,7 +20,7 @@ pub(crate) fn find_short(tables: &Tables, rosters: &mut Vec<Vec<Slot>>) -> Optio
     find_missed(tables, end).or(lacking)
 }
 
-/// Gives each member its seat. Searches for the first place in the file at which a member begins that shows a
+/// Gives each member its seat. Returns the first place in the file at which a member begins that shows a
 /// team which lacks a member. Members begin in the same order in the file and in the tasks' own order.
 fn seat_members(tables: &Tables, rosters: &mut Vec<Vec<Slot>>) -> Option<usize>
     requires { AreSeated tables.now.run.records 0 tables.now.run.family.tasks rosters.old.items }
@@ -34,7 +34,8 @@ fn seat_members(tables: &Tables, rosters: &mut Vec<Vec<Slot>>) -> Option<usize>
     None
 }
 
-/// Searches the file up to a place for the first end of a barrier that a member of the team doesn't begin.
+/// Returns the first place in the file before `end` at which a barrier ends that a member of the team
+/// doesn't begin.
 fn find_missed(tables: &Tables, end: usize) -> Option<usize>
     requires { end ≤ length tables.now.run.records }
     ensures { FindsMissed (tables_own tables.now) end result }

@@ -10,7 +10,7 @@ use std::marker::Model;
 use task_states::Regions;
 use task_tree::{Own, Run, Slot};
 
-/// Who is in which team, how many members each has, and which barriers they begin.
+/// The team of each task, how many members each team has, and which barriers they begin.
 #[derive(Drop)]
 pub(crate) struct Tables<'a> {
     pub(crate) regions: &'a Regions<'a>,
@@ -18,8 +18,8 @@ pub(crate) struct Tables<'a> {
     pub(crate) teams: Vec<Slot>,
     /// By number of the team how many members it has.
     sizes: Vec<u32>,
-    /// By index of the task the numbers of the records at which it begins barriers; no row past the last task
-    /// that begins one.
+    /// By index of the task the numbers of the records at which it begins barriers. There is no row after
+    /// that of the last task that begins one.
     pub(crate) begins: Vec<Vec<u32>>,
     /// For each record that begins a barrier how many its task began before.
     pub(crate) numbers: Vec<u32>,
@@ -54,8 +54,8 @@ impl<'a> Model for Tables<'a> {
 }
 
 impl<'a> Tables<'a> {
-    /// The tables of the run. It takes a few steps for each record, and a look-up of logarithmic time for each
-    /// member.
+    /// Returns the tables of the run. Takes a few steps for each record, and a look-up of logarithmic time
+    /// for each member.
     pub(crate) fn in_own(alloc: Global, regions: &'a Regions<'a>) -> Result<Tables<'a>, AllocError>
         ensures run { IfOk result (λ tables. tables.run ≡ regions.now.own.run) }
         ensures places { IfOk result (λ tables. tables.places ≡ regions.now.own.places) }
@@ -74,7 +74,7 @@ impl<'a> Tables<'a> {
         })
     }
 
-    /// The run.
+    /// Returns the run.
     pub(crate) fn run(&self) -> &Run<'a>
         ensures value { result.now ≡ self.now.run }
         ensures are_tables { AreTables self.now }
@@ -82,7 +82,7 @@ impl<'a> Tables<'a> {
         self.regions.own().run()
     }
 
-    /// The run with the places of its records in the file.
+    /// Returns the run with the places of its records in the file.
     pub(crate) fn own(&self) -> &Own<'a>
         ensures value { result.now ≡ tables_own self.now }
         ensures are_tables { AreTables self.now }
@@ -90,7 +90,7 @@ impl<'a> Tables<'a> {
         self.regions.own()
     }
 
-    /// The number of the team of the task at this index.
+    /// Returns the number of the team of the task at this index.
     pub(crate) fn team(&self, index: usize) -> Option<usize>
         requires { index < length self.now.teams }
         ensures { slice_get self.now.teams index ≡ Some result }
@@ -98,7 +98,7 @@ impl<'a> Tables<'a> {
         self.teams[index].get()
     }
 
-    /// How many members the team has.
+    /// Returns how many members the team has.
     pub(crate) fn size(&self, team: usize) -> u32
         requires { team < length self.now.sizes }
         ensures { slice_get self.now.sizes team ≡ Some result }
@@ -106,7 +106,7 @@ impl<'a> Tables<'a> {
         self.sizes[team]
     }
 
-    /// How many barriers the task that begins one at this record began before.
+    /// Returns how many barriers the task began before the one that it begins at this record.
     pub(crate) fn number(&self, at: usize) -> u32
         requires { at < length self.now.numbers }
         ensures { slice_get self.now.numbers at ≡ Some result }
@@ -114,7 +114,7 @@ impl<'a> Tables<'a> {
         self.numbers[at]
     }
 
-    /// The least number of barriers that a member of the team begins.
+    /// Returns the least number of barriers that a member of the team begins.
     pub(crate) fn fewest(&self, team: usize) -> u32
         requires { team < length self.now.fewest }
         ensures { slice_get self.now.fewest team ≡ Some result }

@@ -28,8 +28,8 @@ pub struct Teams<'a> {
     teams: Vec<Slot>,
     /// By number of the team the indices of its members, by their own numbers.
     rosters: Vec<Vec<Slot>>,
-    /// By index of the task the numbers of the records at which it begins barriers; no row past the last task
-    /// that begins one.
+    /// By index of the task the numbers of the records at which it begins barriers. There is no row after
+    /// that of the last task that begins one.
     begins: Vec<Vec<u32>>,
     /// For each record that begins a barrier how many its task began before.
     numbers: Vec<u32>,
@@ -60,9 +60,10 @@ impl<'a> Model for Teams<'a> {
 }
 
 impl<'a> Teams<'a> {
-    /// The teams of a run in its tasks' own order. Refused is a team or a barrier that lacks a member (OpenMP
-    /// 5.2, 10.1 and 15.3), at its first place in the file. It takes a few steps for each record, and a
-    /// look-up of logarithmic time for each member; memory is linear in the records.
+    /// Returns the teams of a run in its tasks' own order. Fails with TeamShort if a team or a barrier
+    /// lacks a member (OpenMP 5.2, 10.1 and 15.3), at its first place in the file; and when out of memory.
+    /// Takes a few steps for each record, and a look-up of logarithmic time for each member; memory is
+    /// linear in the records.
     pub fn in_own(alloc: Global, regions: &'a Regions<'a>) -> Result<Teams<'a>, Fault>
         ensures run { IfOk result (λ teams. teams.run ≡ regions.now.own.run) }
         ensures places { IfOk result (λ teams. teams.places ≡ regions.now.own.places) }
@@ -86,7 +87,7 @@ impl<'a> Teams<'a> {
         })
     }
 
-    /// The run, whose records stand in the tasks' own order.
+    /// Returns the run, whose records are in the tasks' own order.
     pub fn run(&self) -> &'a Run<'a>
         ensures value { result.now ≡ self.now.run }
         ensures is_teams { IsTeams self.now }
@@ -94,7 +95,7 @@ impl<'a> Teams<'a> {
         self.regions.own().run()
     }
 
-    /// The run with the places of its records in the file.
+    /// Returns the run with the places of its records in the file.
     pub fn own(&self) -> &'a Own<'a>
         ensures value { result.now ≡ own_of self.now }
         ensures is_teams { IsTeams self.now }
@@ -102,8 +103,8 @@ impl<'a> Teams<'a> {
         self.regions.own()
     }
 
-    /// The number of the record at which the region began that the record with this number ends; a begin and
-    /// end in one began there too.
+    /// Returns the number of the record at which the region began that the record with this number ends. If
+    /// the record is a begin and end in one, that is this record.
     pub fn begin_of(&self, number: usize) -> Option<usize>
         requires { number < length self.now.run.records }
         ensures { MatchOption result ((task begin : ℕ) (kind : SyncKind)
@@ -113,7 +114,7 @@ impl<'a> Teams<'a> {
         self.regions.begin_of(number)
     }
 
-    /// The barrier that the record with this number ends, if it ends one.
+    /// Returns the barrier that the record with this number ends, if it ends one.
     pub fn barrier_end(&self, number: usize) -> Option<BarrierEnd>
         requires { number < length self.now.run.records }
         ensures { MatchOption result (EndsNoBarrier self.now.run.records number)
@@ -122,7 +123,7 @@ impl<'a> Teams<'a> {
         barrier_end(self.regions, number)
     }
 
-    /// The number of the team of the task at this index.
+    /// Returns the number of the team of the task at this index.
     pub fn team(&self, index: usize) -> Option<usize>
         requires { index < length self.now.teams }
         ensures { slice_get self.now.teams index ≡ Some result }
@@ -130,7 +131,7 @@ impl<'a> Teams<'a> {
         self.teams[index].get()
     }
 
-    /// The indices of the team's members, by their numbers in the team.
+    /// Returns the indices of the team's members, by their numbers in the team.
     pub fn roster(&self, team: usize) -> &[Slot]
         requires { team < length self.now.rosters }
         ensures { (roster : Vec (Option ℕ)) → slice_get self.now.rosters team ≡ Some roster
@@ -139,14 +140,14 @@ impl<'a> Teams<'a> {
         self.rosters[team].as_slice()
     }
 
-    /// The numbers of the records at which the task at this index begins barriers.
+    /// Returns the numbers of the records at which the task at this index begins barriers.
     pub fn begins(&self, index: usize) -> &[u32]
         ensures { result.now ≡ row_at self.now.begins index }
     {
         row(&self.begins, index)
     }
 
-    /// How many barriers the task that begins one at this record began before.
+    /// Returns how many barriers the task began before the one that it begins at this record.
     pub fn number(&self, at: usize) -> u32
         requires { at < length self.now.numbers }
         ensures { slice_get self.now.numbers at ≡ Some result }
