@@ -17,6 +17,7 @@ use Rattle.ompt_events.proofs.ListLemmas.{get_pushed, get_last, get_contains, co
 use Rattle.task_tree.specs.Numbering.{IsNoted, AreApart}
 use Rattle.task_tree.specs.Makers.{AreNoted, ArePlacesBelow, AreMade, AreGathered, AreForkedOnce, AreMadeOnce}
 use Rattle.task_tree.specs.Makers.{forked_region}
+use Rattle.task_tree.proofs.NumberingLemmas.{apart_pushed}
 
 -- one record more
 pub noted_more : (says : Body → Option ℕ) (rs : List Record) (i : ℕ) (old new : List ℕ) (found : Option ℕ)
@@ -181,24 +182,7 @@ made_more rs i None old new places are makes some noted = absurd (false≢true s
 made_more rs i (Some task) old new places are makes some (same, fresh) = rw same (record {
   all = length_push places i ∙ ap (λ n. n + 1) are.all ∙ sym (length_push old task);
   few = let few = are.few in let longer = length_push old task in omega (arith, few, longer);
-  apart = λ a b id at_a at_b. elim (pushed_cases old task id a at_a) [
-    | inl before_a ↦ elim (pushed_cases old task id b at_b) [
-      | inl before_b ↦ are.apart a b id before_a before_b
-      | inr last_b ↦
-          absurd
-          (fresh
-          (let P : ℕ → Type 0 = Contains old in
-          subst P (sym last_b.1) (get_contains old id a before_a)))
-    ]
-    | inr last_a ↦ elim (pushed_cases old task id b at_b) [
-      | inl before_b ↦
-          absurd
-          (fresh
-          (let P : ℕ → Type 0 = Contains old in
-          subst P (sym last_a.1) (get_contains old id b before_b)))
-      | inr last_b ↦ last_a.0 ∙ sym last_b.0
-    ]
-  ];
+  apart = apart_pushed old task are.apart fresh;
   each = λ index other is. elim (pushed_cases old task other index is) [
     | inl before ↦
         let place = are.each index other before in

@@ -23,29 +23,33 @@ indices_ranked ids order indices are none = record {
   all = λ index id is. inr (are.all index (slice_get_within ids index id is));
 }
 
+-- the ids stay apart with one more that none of them is
+pub apart_pushed : (ids : List ℕ) (id : ℕ) → AreApart ids → (Contains ids id → ⊥) → AreApart (ids ++ id ∷ [])
+apart_pushed ids id apart fresh = λ a b other at_a at_b. elim (pushed_cases ids id other a at_a) [
+  | inl before_a ↦ elim (pushed_cases ids id other b at_b) [
+    | inl before_b ↦ apart a b other before_a before_b
+    | inr last_b ↦
+        absurd
+        (fresh
+        (let P : ℕ → Type 0 = Contains ids in
+        subst P (sym last_b.1) (get_contains ids other a before_a)))
+  ]
+  | inr last_a ↦ elim (pushed_cases ids id other b at_b) [
+    | inl before_b ↦
+        absurd
+        (fresh
+        (let P : ℕ → Type 0 = Contains ids in
+        subst P (sym last_a.1) (get_contains ids other b before_b)))
+    | inr last_b ↦ last_a.0 ∙ sym last_b.0
+  ]
+]
+
 -- one more id stands under the next index
 pub indices_more : (ids order : List ℕ) (old new : BTreeMap ℕ ℕ) (id : ℕ) → AreIndices ids order old
     → (Contains ids id → ⊥) → Updates nat_cmp old new id (Some (length ids))
     → AreIndices (ids ++ id ∷ []) order new
 indices_more ids order old new id are fresh updates = record {
-  apart = λ a b other at_a at_b. elim (pushed_cases ids id other a at_a) [
-    | inl before_a ↦ elim (pushed_cases ids id other b at_b) [
-      | inl before_b ↦ are.apart a b other before_a before_b
-      | inr last_b ↦
-          absurd
-          (fresh
-          (let P : ℕ → Type 0 = Contains ids in
-          subst P (sym last_b.1) (get_contains ids other a before_a)))
-    ]
-    | inr last_a ↦ elim (pushed_cases ids id other b at_b) [
-      | inl before_b ↦
-          absurd
-          (fresh
-          (let P : ℕ → Type 0 = Contains ids in
-          subst P (sym last_a.1) (get_contains ids other b before_b)))
-      | inr last_b ↦ last_a.0 ∙ sym last_b.0
-    ]
-  ];
+  apart = apart_pushed ids id are.apart fresh;
   ranked = order_kept ids order id are.ranked;
   noted_right = λ other index found. elim (cases_eq other id) [
     | inl same ↦
