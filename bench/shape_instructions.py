@@ -18,7 +18,7 @@ SHAPES = [
     ("waits of one task, all children before each", shapes.waits, "yes: "),
     ("taskgroups one in another", shapes.groups, "yes: "),
     ("a chain of 1,000 with leaves", shapes.chain, "yes: "),
-    ("open waits only", shapes.open_waits, "no: "),
+    ("unfinished waits only", shapes.unfinished_waits, "no: "),
     ("a team of 256, as many barriers as fit", shapes.team_of_256, "yes: "),
     ("siblings that all write one location", shapes.writers, "yes: "),
     ("siblings that read and write one location in turn", shapes.alternating, "yes: "),

@@ -12,7 +12,7 @@ import sys
 import tempfile
 
 from common import HEADER, PROGRAM, best, peak, row, table, write_lines
-from shapes import Thread, open_waits, team_of_256, waits, writers
+from shapes import Thread, unfinished_waits, team_of_256, waits, writers
 from traces import long_records
 
 CHECK = [PROGRAM, "check"]
@@ -85,7 +85,7 @@ SHAPES = {
     "2^15 taskgroups one in another": groups,
     "2^19 waits of one task, all children before each": lambda: waits(2**20),
     "siblings that all write one location": lambda: writers(2**22 - 64),
-    "open waits only": lambda: open_waits(2**21 - 64),
+    "unfinished waits only": lambda: unfinished_waits(2**21 - 64),
     "ids all over 64 bits": lambda: scattered(2**20),
     "256 threads, one after another": lambda: apart(2**21),
     "a team of 256 with barriers": lambda: team_of_256(2**21),

@@ -90,7 +90,7 @@ def chain(size):
     return thread.lines
 
 
-def open_waits(size):
+def unfinished_waits(size):
     """Children that never run, and waits that end nonetheless."""
     thread = Thread()
     for number in range(size // 2):

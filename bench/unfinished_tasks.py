@@ -1,5 +1,5 @@
 #!/usr/bin/env python3
-"""open_ends.py [SIZE]: how many instructions does it take to ask a ledger for the open task of every end of
+"""unfinished_tasks.py [SIZE]: how many instructions does it take to ask a ledger for the unfinished task of every end of
 a wait?
 
 Counts them on runs of SIZE records (65,536), beside those of the same question in `check`. Asking is
