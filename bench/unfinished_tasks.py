@@ -1,11 +1,11 @@
 #!/usr/bin/env python3
-"""unfinished_tasks.py [SIZE]: how many instructions does it take to ask a ledger for the unfinished task of every end of
-a wait?
+"""unfinished_tasks.py [SIZE]: how many instructions does it take to ask a ledger for the unfinished task of
+every end of a wait?
 
 Counts them on runs of SIZE records (65,536), beside those of the same question in `check`. Asking is
-`Coverage::first_open_all` of all ends: what `stopwatch open` takes beyond `stopwatch coverage`, which ends
+`Coverage::first_unfinished_all` of all ends: what `stopwatch unfinished` takes beyond `stopwatch coverage`, which ends
 when the coverage and the ledger are made. In `check` it is the phase of the waits: teams, `find_known`,
-`find_open` and the search for late starts (`phases.py`). Valgrind counts, so the figures are the same on a
+`find_unfinished` and the search for late starts (`phases.py`). Valgrind counts, so the figures are the same on a
 busy machine.
 """
 
@@ -18,15 +18,15 @@ from phases import phases
 
 
 def asking(path, size, order):
-    """The instructions of `first_open_all` of all ends."""
+    """The instructions of `first_unfinished_all` of all ends."""
     lines = trace(size, order)
-    made, asked = (instructions_of([STOPWATCH, word], path, lines, " ends") for word in ("coverage", "open"))
+    made, asked = (instructions_of([STOPWATCH, word], path, lines, " ends") for word in ("coverage", "unfinished"))
     return asked - made
 
 
 def main():
     size = (numbers_of(sys.argv[1:], __doc__) or [2**16])[0]
-    table("File", "`first_open_all` of all ends", "Waits of `check`", "Quotient")
+    table("File", "`first_unfinished_all` of all ends", "Waits of `check`", "Quotient")
     with tempfile.TemporaryDirectory() as folder:
         path = os.path.join(folder, "trace")
         for title, order in ORDERS:

@@ -1,6 +1,6 @@
 //! Runs one layer alone, or says how long calls take: `bench/` measures both. Nothing is promised but safety.
 //! One word runs a layer on standard input: `values`, `read` and `write` (`layers`), `rise` and `arrange` (`turns`),
-//! `coverage` and `open` (`waits`), `ledger`. The words WORK COUNT THREADS have threads make calls side by side, and
+//! `coverage` and `unfinished` (`waits`), `ledger`. The words WORK COUNT THREADS have threads make calls side by side, and
 //! print the time (`threads`); the calls are those of `ledger_calls` and `recorder_calls`. Begin at `run`.
 #![tactic(auto)]
 
@@ -16,7 +16,7 @@ use anyhow::{Result, bail};
 use std::env;
 
 const WORDS: &str =
-    "values, read, write, rise, arrange, coverage, open or ledger, or WORK COUNT THREADS";
+    "values, read, write, rise, arrange, coverage, unfinished or ledger, or WORK COUNT THREADS";
 
 /// Runs the layer of this name on standard input.
 fn run(rt: &HostRuntime, word: &str) -> Result<()> {
@@ -27,7 +27,7 @@ fn run(rt: &HostRuntime, word: &str) -> Result<()> {
         "rise" => turns::rise(rt),
         "arrange" => turns::arranged(rt),
         "coverage" => waits::of_input(rt, false),
-        "open" => waits::of_input(rt, true),
+        "unfinished" => waits::of_input(rt, true),
         "ledger" => ledger::each(rt),
         _ => bail!("the words must be {WORDS}"),
     }

@@ -10,7 +10,7 @@ use task_tree::Tree;
 use trace_ledger::ledger_of;
 use wait_coverage::Coverage;
 
-/// Makes the coverage and the ledger of the trace on standard input. If `searched`, also asks for the open
+/// Makes the coverage and the ledger of the trace on standard input. If `searched`, also asks for the unfinished
 /// task of each end.
 pub fn of_input(rt: &HostRuntime, searched: bool) -> Result<()> {
     let trace = trace_of_input(rt)?;
@@ -31,13 +31,13 @@ pub fn of_input(rt: &HostRuntime, searched: bool) -> Result<()> {
     }
 }
 
-/// Prints how many of all ends are open.
+/// Prints how many of all ends cover an unfinished task.
 fn of_ends(rt: &HostRuntime, coverage: &Coverage, ledger: &Ledger) -> Result<()> {
     let ends = coverage.ends().len();
     let all = numbers_below(rt.alloc(), ends)?;
     let found = coverage.first_unfinished_all(all.as_slice(), ledger)?;
-    let open = found.iter().filter(|task| task.is_some()).count();
-    println!(rt; "{open} of {ends} ends are open")?;
+    let unfinished = found.iter().filter(|task| task.is_some()).count();
+    println!(rt; "{unfinished} of {ends} ends cover an unfinished task")?;
     Ok(())
 }
 
