@@ -1,28 +1,28 @@
--- The machine of credits: each root gets a whole, a task that creates another one gives it half of its share,
--- and what a task has left is entered when the task is over (F. Mattern, Information Processing Letters 30,
--- 1989).
+-- The machine of credits. Each root gets a whole credit; a task that creates another task gives it half of
+-- its share; what a task has left is entered when the task finishes (F. Mattern, Information Processing
+-- Letters 30, 1989).
 use Rattle.std.specs.Prelude.{ℕ, Bool, true, false, ◌==◌, ◌&&◌, not, if◌then◌else◌, List, [], ◌∷◌, ◌++◌, map}
 use Rattle.std.specs.Prelude.{filter, fold}
 use Rattle.std.specs.List.{list_any}
 use Rattle.credit.specs.declared.share.Half.{Half}
 use Rattle.credit.specs.Shares.{keep_half, give_half}
 
--- who has a share: the task itself, which is not over; the event on which the task waits, which is detached;
--- or nobody any more, since it was entered
+-- who has a share: the unfinished task itself; the event of a detached task, for which the task waits; or
+-- nobody any more, since the share was entered
 pub data Holder : Type 0 where
   Running : Holder
   Awaited : Holder
   Entered : Holder
 
--- a share of the root's credit that came to the task
+-- a share of the root's credit that the task received
 pub record Credit : Type 0 where
   pub root : ℕ
   pub task : ℕ
   pub holder : Holder
   pub share : List Half
 
--- what may happen: a root is made; a task creates another one; a task is finished; a task is detached, and
--- then waits for its event alone; the event of a detached task is fulfilled
+-- the events: a root is made; a task creates another one; a task is finished; a task is detached, and then
+-- waits for its event alone; the event of a detached task is fulfilled
 pub data Event : Type 0 where
   Root : (task : ℕ) → Event
   Create : (creator child : ℕ) → Event
@@ -65,30 +65,30 @@ has_event_share task c = (c.task == task) && is_awaited c.holder
 abbrev pub whole_credit : ℕ → Credit
 whole_credit task = record { root = task; task = task; holder = Running; share = [] }
 
--- a creation: the creator goes on with one half, and the child starts with the other
+-- a creation: the creator keeps one half, and the child starts with the other
 abbrev pub shared_halves : ℕ → Credit → List Credit
 shared_halves child c =
     record { root = c.root; task = c.task; holder = Running; share = keep_half c.share }
     ∷ record { root = c.root; task = child; holder = Running; share = give_half c.share } ∷ []
 
--- an end: the share is entered
+-- a finish: the share is entered
 abbrev pub entered_credit : Credit → List Credit
 entered_credit c = record { root = c.root; task = c.task; holder = Entered; share = c.share } ∷ []
 
--- a detach: one half is entered, and the event has the other
+-- a detach: one half is entered, and the event gets the other
 abbrev pub detached_halves : Credit → List Credit
 detached_halves c =
     record { root = c.root; task = c.task; holder = Entered; share = keep_half c.share }
     ∷ record { root = c.root; task = c.task; holder = Awaited; share = give_half c.share } ∷ []
 
--- the credits, with others in place of the first one that passes the test; as they were where none passes
+-- the credits with the first one that passes the test replaced by others; unchanged if none passes
 abbrev pub exchange : (Credit → Bool) → (Credit → List Credit) → List Credit → List Credit
 exchange passes others [] = []
 exchange passes others (c ∷ credits) =
     if passes c then others c ++ credits else c ∷ exchange passes others credits
 
--- the credits after an event, which changes nothing where it does not fit: where the task to be made was
--- made before, or who should have a share has none
+-- the credits after an event; an event that does not fit changes nothing: the task to be made was made
+-- before, or the task that should have a share has none
 abbrev pub next_credits : List Credit → Event → List Credit
 next_credits credits (Root task) = if was_made task credits then credits else whole_credit task ∷ credits
 next_credits credits (Create creator child) =
@@ -98,7 +98,7 @@ next_credits credits (Finish task) = exchange (has_task_share task) entered_cred
 next_credits credits (Detach task) = exchange (has_task_share task) detached_halves credits
 next_credits credits (Fulfil task) = exchange (has_event_share task) entered_credit credits
 
--- the credits after these events, one after another; before the first there are none
+-- the credits after these events, one after another, from no credits
 abbrev pub credits_after : List Event → List Credit
 credits_after events = fold next_credits [] events
 

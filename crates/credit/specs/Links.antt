@@ -1,5 +1,4 @@
--- The children of a node as a tree of links, in which a child is searched by the digits of its
--- number, to the base 4.
+-- The children of a node as a tree of links, in which a child is found by the base-4 digits of its number.
 use Rattle.std.specs.Prelude.{◌<◌, ◌==◌, ◌&&◌, ◌/◌, ◌%◌, ℕ, zero, suc, Bool, List, length, if◌then◌else◌}
 use Rattle.std.specs.Prelude.{Option, None, Some, unwrap_or, slice_get}
 use Rattle.credit.specs.declared.links.Link.{Link}
@@ -8,7 +7,7 @@ use Rattle.credit.specs.declared.links.Side.TheVariants.{First, Zero, One, Two, 
 use Rattle.credit.specs.declared.links.Spot.{Spot}
 use Rattle.credit.specs.declared.links.Spot.TheVariants.{Found, Missing}
 
--- it leads nowhere yet
+-- a link that leads nowhere yet
 abbrev pub leaf_link : ℕ → ℕ → Link
 leaf_link parent number = record {
   number = number;
@@ -30,7 +29,7 @@ link_behind l One = l.one
 link_behind l Two = l.two
 link_behind l Three = l.three
 
--- the link, with this side leading to a child
+-- the link with this side leading to a child
 abbrev pub with_link : Link → Side → ℕ → Link
 with_link l First child = record l { first = child }
 with_link l Zero child = record l { zero = child }
@@ -41,12 +40,12 @@ with_link l Three child = record l { three = child }
 abbrev pub is_link_of : ℕ → ℕ → Link → Bool
 is_link_of parent number l = (l.parent == parent) && (l.number == number)
 
--- the side that the lowest digit tells
+-- the side for the lowest digit
 abbrev pub side_of : ℕ → Side
 side_of digits =
     if digits % 4 == 0 then Zero else if digits % 4 == 1 then One else if digits % 4 == 2 then Two else Three
 
--- where a search ends that has come to this side of a link, after so many steps at most
+-- where a search that has reached this side of a link ends, after at most this many steps
 abbrev pub spot_within : List Link → ℕ → ℕ → ℕ → ℕ → ℕ → Side → Spot
 spot_within links zero parent number digits here side = Missing here side
 spot_within links (suc steps) parent number digits here side =
@@ -65,7 +64,7 @@ abbrev pub found : Spot → Option ℕ
 found (Found child) = Some child
 found (Missing here side) = None
 
--- a link leads to a later one
+-- each link leads only to later ones
 abbrev pub AreLinksRising : List Link → Type 0
 AreLinksRising links = (here : ℕ) (side : Side) → 0 < link_behind (link_at links here) side
     → (here < link_behind (link_at links here) side) × (link_behind (link_at links here) side < length links)

@@ -1,20 +1,20 @@
--- The path of a share: how many Keep halves stand before each of its Give halves, the last one first, and
--- behind the last one. Read upward, as a walk from a node to the root meets them.
+-- The path of a share: how many Keep halves are before each of its Give halves, the last Give half first,
+-- and how many are behind the last one. The order is that of a walk from a node up to the root.
 use Rattle.std.specs.Prelude.{ℕ, ◌+◌, List, [], ◌∷◌, ◌++◌, replicate}
 use Rattle.credit.specs.declared.share.Half.{Half}
 use Rattle.credit.specs.declared.share.Half.TheVariants.{Keep, Give}
 use Rattle.credit.specs.Shares.{give_half}
 
--- the share goes on with so many Keep halves
+-- the share followed by this many Keep halves
 abbrev pub keeps : List Half → ℕ → List Half
 keeps s count = s ++ replicate count Keep
 
--- the share of the node to which this path leads; it ends with a Give half, or is the whole
+-- the share of the node to which this path leads: it ends with a Give half, or is the whole
 abbrev pub prefix : List ℕ → List Half
 prefix [] = []
 prefix (number ∷ up) = give_half (keeps (prefix up) number)
 
--- the path so far and the Keep halves behind it, after these halves too
+-- the path so far and the Keep halves behind it, after these further halves
 abbrev pub path_from : List ℕ → ℕ → List Half → List ℕ × ℕ
 path_from up last [] = (up, last)
 path_from up last (Keep ∷ s) = path_from up (last + 1) s

@@ -1,4 +1,4 @@
--- What shares of a credit say of one another (F. Mattern, Information Processing Letters 30, 1989).
+-- Relations between the shares of a credit (F. Mattern, Information Processing Letters 30, 1989).
 use Rattle.std.specs.Prelude.{ℕ, ◌≡◌, ◌≤◌, ◌^◌, Bool, true, false, ◌||◌, ◌&&◌, List, [], ◌∷◌, ◌++◌, length}
 use Rattle.std.specs.Prelude.{replicate, All, Any, IsTrue, count_by, nat_le}
 use Rattle.std.specs.List.{flat_map, list_any}
@@ -27,7 +27,7 @@ abbrev pub overlaps_either : List Half → List Half → List (List Half) → Bo
 overlaps_either first second shares =
     list_any (overlaps first) shares || list_any (overlaps second) shares || overlaps first second
 
--- the half with which a task goes on
+-- the half that a task keeps
 abbrev pub keep_half : List Half → List Half
 keep_half s = s ++ Keep ∷ []
 
@@ -39,16 +39,16 @@ abbrev pub is_give : Half → Bool
 is_give Keep = false
 is_give Give = true
 
--- the share may be halved no more: it has 1,025 Give halves, or 2^48 halves in all
+-- the share cannot be halved again: it has 1,025 Give halves, or 2^48 halves in all
 abbrev pub is_too_deep : List Half → Bool
 is_too_deep s = nat_le 1025 (count_by is_give s) || nat_le (2 ^ 48) (length s)
 
--- the share with which a task starts: at each number of its path, an ancestor kept a half that many times,
--- and then gave one away
+-- the share with which a task starts: for each number of its path, an ancestor kept a half that many
+-- times, and then gave one away
 abbrev pub start_share : List ℕ → List Half
 start_share path = flat_map (λ number. replicate number Keep ++ Give ∷ []) path
 
--- the share that such a task has left after it created this many children, and that is entered at its end
+-- the share that this task has left after it created `kept` children, and that is entered at its end
 abbrev pub finish_share : List ℕ → ℕ → List Half
 finish_share path kept = start_share path ++ replicate kept Keep
 

@@ -1,4 +1,4 @@
--- A purse as a tree: what each node says of the shares that were entered.
+-- A purse as a tree: what each node records of the entered shares.
 use Rattle.std.specs.Prelude.{◌≡◌, ◌≤◌, ◌<◌, ◌↔◌, ◌^◌, ◌+◌, ℕ, zero, suc, Bool, true, false, List, [], ◌∷◌}
 use Rattle.std.specs.Prelude.{length, reverse, take, if◌then◌else◌, Option, None, Some, is_some, unwrap_or}
 use Rattle.std.specs.Prelude.{nat_le, slice_get, slice_index, max}
@@ -40,7 +40,7 @@ abbrev pub progress_at : Tree → List ℕ → Progress
 progress_at tree up =
     option_map_or (λ index. (node_at tree index).progress) (place (child tree) up) no_progress
 
--- when the run was entered, if it ends at this number of Keep halves or before
+-- when the run was entered, if it has at most this many Keep halves
 abbrev pub time_within : Option Run → ℕ → Option ℕ
 time_within None number = None
 time_within (Some run) number = if nat_le run.keeps number then Some run.time else None
@@ -54,8 +54,8 @@ abbrev pub time_above : (List ℕ → Progress) → List ℕ → Option ℕ
 time_above at [] = None
 time_above at (number ∷ up) = first_time (time_above at up) (time_within (at up).run number)
 
--- the nodes of the first runs are there, and this one is the last of them; where the next one is missing, the
--- search for it ended there
+-- the first `depth` runs have nodes, and `index` is the last of them; if there is a next run, the search
+-- for its node ended at this spot
 abbrev pub IsSearchStart : Tree → List ℕ → Start → Type 0
 IsSearchStart tree runs start =
     (start.depth ≤ length runs) × (place (child tree) (reverse (take start.depth runs)) ≡ Some start.index)
@@ -71,7 +71,7 @@ IsWalked tree runs (Missing start) =
 IsWalked tree runs (Found index) =
     (time_above (progress_at tree) (reverse runs) ≡ None) × (place (child tree) (reverse runs) ≡ Some index)
 
--- the numbers by which `since` tells from when a share is held
+-- `since` is known, and at most `upto`
 abbrev pub is_by : Option ℕ → ℕ → Bool
 is_by None upto = false
 is_by (Some since) upto = nat_le since upto

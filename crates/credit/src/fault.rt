@@ -1,17 +1,17 @@
-//! Why a call on credits is refused.
+//! The faults of calls on credits.
 use thiserror::Error;
 
-/// Why a call on credits is refused. As a `u8` it is the fault's number. `Overlap` and `TooDeep` are told
-/// before `Memory`: where one of them applies, no memory is asked for.
+/// Why a call on credits fails. As a `u8` it is the fault's number. `Overlap` and `TooDeep` go before
+/// `Memory`: where one of them applies, it is returned, also when out of memory.
 #[derive(Clone, Copy, Debug, PartialEq, Eq, Error)]
 pub enum CreditFault {
-    /// No memory was found.
+    /// Out of memory.
     #[error("no memory was found")]
     Memory = 1,
-    /// A share that was entered overlaps the new one.
+    /// The new share overlaps an entered one.
     #[error("an entered share overlaps the new one")]
     Overlap = 2,
-    /// The share has been halved as often as a share may be.
+    /// The share has 1,025 Give halves or 2^48 halves in all, so it cannot be halved again.
     #[error("the share may be halved no more")]
     TooDeep = 3,
 }

@@ -1,6 +1,9 @@
-//! Credits that are halved when work is handed on, and the purse that says when all of one has come back
-//! (F. Mattern, "Global quiescence detection based on credit distribution and recovery", Information
-//! Processing Letters 30, 1989).
+//! Shares of a credit, which are halved when work is handed on, and the purse, which says when all of a
+//! share has come back (F. Mattern, "Global quiescence detection based on credit distribution and
+//! recovery", Information Processing Letters 30, 1989).
+//!
+//! Read `share` first, then `laws` (what always holds of the shares of a credit) and `purse`. `tree` and
+//! `links` serve the purse alone.
 #![tactic(auto)]
 
 mod fault;

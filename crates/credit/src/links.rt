@@ -1,13 +1,13 @@
-//! How the children of a node are found by their numbers.
+//! The search for a child of a node by its number.
 //!
-//! The children of a node are a tree of their own: at each child the next digit to the base 4 of the number
-//! that is looked for, from the lowest on, tells on which side to go on. So a search looks at no more children
-//! than the number has digits, whatever numbers there are.
+//! The children of a node form a search tree of their own. At each child the next base-4 digit of the
+//! searched number, from the lowest on, selects the side on which the search goes on. A number has 32
+//! digits, so a search visits at most 33 children, whatever the numbers are.
 ghost use Rattle.std.specs.Prelude.{◌≡◌};
 ghost use Rattle.credit.specs.Links.{leaf_link, link_at, link_behind, is_link_of, side_of as side_at, spot_of, with_link};
 
-/// A node among its parent's children. A 0 leads nowhere, since the root is no child. Nodes are named by 32
-/// bits, so a link takes 32 bytes.
+/// A node among its parent's children. A side with 0 leads nowhere, since node 0 is the root and no child.
+/// Nodes have 32-bit indices, so a link takes 32 bytes.
 #[derive(Clone, Copy, Debug)]
 pub(crate) struct Link {
     pub number: u64,
@@ -21,7 +21,7 @@ pub(crate) struct Link {
     pub three: u32,
 }
 
-/// Which way leads on from a node.
+/// The side of a node on which a search goes on.
 #[derive(Clone, Copy)]
 pub(crate) enum Side {
     First,
@@ -31,7 +31,7 @@ pub(crate) enum Side {
     Three,
 }
 
-/// Where a search ended: at the child, or at the node and the side of it where the child is to be added.
+/// Where a search ends: at the child, or at a node and the side of it where the child is to be added.
 #[derive(Clone, Copy)]
 pub(crate) enum Spot {
     Found(usize),
@@ -39,7 +39,7 @@ pub(crate) enum Spot {
 }
 
 impl Link {
-    /// A node with no children, behind which no sibling stands.
+    /// Returns the link of a node that has no children and leads to no sibling.
     pub fn leaf(parent: u32, number: u64) -> Link
         ensures { result ≡ leaf_link parent number }
     {
@@ -54,7 +54,7 @@ impl Link {
         }
     }
 
-    /// Where this side leads.
+    /// Returns the index to which this side leads, or 0.
     fn behind(&self, side: Side) -> usize
         ensures { result ≡ link_behind self.now side }
     {
@@ -67,7 +67,7 @@ impl Link {
         }
     }
 
-    /// The link, with this side leading to a child.
+    /// Returns the link with this side leading to a child.
     pub fn leading(self, side: Side, child: u32) -> Link
         ensures { result ≡ with_link self side child }
     {
@@ -89,7 +89,7 @@ impl Link {
         }
     }
 
-    /// Whether it is the child of this node with this number.
+    /// Returns whether the link is that of the child of this node with this number.
     fn is_of(&self, parent: usize, number: u64) -> bool
         ensures { result ≡ is_link_of parent number self.now }
     {
@@ -97,7 +97,7 @@ impl Link {
     }
 }
 
-/// On which side a search goes on.
+/// Returns the side for the lowest base-4 digit.
 fn side_of(digits: u64) -> Side
     ensures { result ≡ side_at digits }
 {
@@ -109,14 +109,14 @@ fn side_of(digits: u64) -> Side
     }
 }
 
-/// The link with this index, or one that leads nowhere.
+/// Returns the link with this index, or one that leads nowhere if there is none.
 fn link_of(links: &[Link], index: usize) -> Link
     ensures { result ≡ link_at links.now index }
 {
     links.get(index).copied().unwrap_or(Link::leaf(0, 0))
 }
 
-/// Where the search for the child of a node by its number ends.
+/// Returns where the search for the child of a node by its number ends.
 pub(crate) fn search(links: &[Link], index: usize, number: u64) -> Spot
     ensures { result ≡ spot_of links.now index number }
 {

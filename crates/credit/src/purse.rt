@@ -12,12 +12,14 @@ use crate::tree::{Run, Start, Tree, Walk};
 use std::alloc::Global;
 use std::marker::Model;
 
-/// The shares of one credit that have come back, in the order in which they were entered (F. Mattern, 1989).
+/// The shares of one credit that have come back, in the order in which they were entered (F. Mattern,
+/// 1989).
 ///
-/// A tree tells which shares they hold: it has a node for each share that ends with a Give half and at or
-/// below which one was entered, and the whole as its root. A node is held where a share was entered that
-/// goes on from the node's with Keep halves alone, and the children before its end are held. So each call
-/// takes as many steps as its share has Give halves, but for what its own description says.
+/// A tree records which shares they hold. Its root is the whole. It has a node for each share that ends
+/// with a Give half, if that share or one that begins with it was entered. A node is held if an entered
+/// share is the node's share followed by Keep halves alone, and each child with a number below the count
+/// of these halves is held. Each call takes as many steps as its share has Give halves, unless its own
+/// description says otherwise.
 #[derive(Debug, Drop)]
 pub struct Purse {
     shares: Vec<Share>,
@@ -37,7 +39,7 @@ impl Model for Purse {
 }
 
 impl Purse {
-    /// A purse with no share. Takes no memory.
+    /// Returns a purse with no share. Allocates nothing.
     pub fn new(alloc: Global) -> Purse
         ensures { result ≡ [] }
     {
@@ -47,9 +49,9 @@ impl Purse {
         }
     }
 
-    /// Enters the share. One that overlaps a share in the purse is refused as `Overlap`, and another only as
-    /// `Memory`; it comes back then, and the purse is as it was. It may look at each share in the purse
-    /// where one may overlap the new one.
+    /// Enters the share. Fails with `Overlap` if the share overlaps one in the purse, and otherwise only
+    /// with `Memory`. If it fails, it returns the share, and the purse is unchanged. It looks at each
+    /// share in the purse if one below the new share's node may overlap it.
     pub fn enter(&mut self, share: Share) -> Result<(), (Share, CreditFault)>
         ensures entered { OnOk result (self.new ≡ self.old ++ share ∷ []) }
         ensures unchanged { OnErr result (self.new ≡ self.old) }
@@ -71,9 +73,9 @@ impl Purse {
         Ok(())
     }
 
-    /// Enters two shares, or neither. Where one of them overlaps a share in the purse, or the other one,
-    /// they are refused as `Overlap`, and else only as `Memory`; they come back then, and the purse is as
-    /// it was.
+    /// Enters two shares, or neither. Fails with `Overlap` if one of them overlaps a share in the purse or
+    /// the other one, and otherwise only with `Memory`. If it fails, it returns both shares, and the purse
+    /// is unchanged.
     pub fn enter_both(
         &mut self,
         first: Share,
@@ -93,9 +95,9 @@ impl Purse {
         Err((first, second, fault))
     }
 
-    /// Whether the shares in the purse hold this one, so that all of it has come back: each list of halves
-    /// that begins with it, and is at least as long as it and as each of them, begins with one of them.
-    /// `Memory` is the only refusal.
+    /// Returns whether the shares in the purse hold this one, so that all of it has come back: each list
+    /// of halves that begins with it, and is at least as long as it and as each of them, begins with one
+    /// of them. Fails only with `Memory`.
     pub fn holds(&self, share: &Share) -> Result<bool, CreditFault>
         ensures held { IfOk result (λ held. IsTrue held ↔ Hold self.now share.now) }
         ensures memory_alone { IsOkUnless result CreditFault.Memory }
@@ -103,9 +105,9 @@ impl Purse {
         Ok(self.held_since(share).is_some())
     }
 
-    /// How many of the shares in the purse, in the order in which they were entered, hold this one, or
-    /// `None` where all of them don't. Where the share ends with a Keep half, it may look at each child of
-    /// the node above that one.
+    /// Returns the least n such that the first n shares in the purse, in the order in which they were
+    /// entered, hold this one, or `None` if they do not hold it. If the share ends with a Keep half, it
+    /// may look at each child of the node of its last Give half.
     pub fn held_since(&self, share: &Share) -> Option<usize>
         ensures { (upto : ℕ) → IsTrue (is_by result upto) ↔ Hold (take upto self.now) share.now }
     {
@@ -117,7 +119,8 @@ impl Purse {
     }
 }
 
-/// How many of the shares hold the one of which this is the node, where no shorter one begins it.
+/// Returns the least n such that the first n shares hold the share. Requires that this is the share's
+/// node, and that no entered share with fewer Give halves begins it.
 fn since_at(tree: &Tree, shares: &[Share], share: &Share, index: usize) -> Option<usize>
     requires known { IsTreeKnown shares.now (progress_at tree.now) }
     requires place { place (child tree.now) (path_of share.now).0 ≡ Some index }
@@ -138,7 +141,8 @@ fn since_at(tree: &Tree, shares: &[Share], share: &Share, index: usize) -> Optio
     }
 }
 
-/// Where the nodes of a share begin to be missing, or `None` where it overlaps one of the shares.
+/// Returns the place from which on nodes of the share are missing, or `None` if the share overlaps an
+/// entered one.
 fn start_of(tree: &Tree, shares: &[Share], share: &Share) -> Option<Start>
     requires linked { IsTreeLinked tree.now }
     requires known { IsTreeKnown shares.now (progress_at tree.now) }
@@ -162,7 +166,8 @@ fn start_of(tree: &Tree, shares: &[Share], share: &Share) -> Option<Start>
     }
 }
 
-/// Whether a share overlaps one of the others, where this is its node and no shorter one begins it.
+/// Returns whether the share overlaps an entered one. Requires that this is the share's node, and that no
+/// entered share with fewer Give halves begins it.
 fn is_taken(tree: &Tree, shares: &[Share], share: &Share, index: usize) -> bool
     requires linked { IsTreeLinked tree.now }
     requires known { IsTreeKnown shares.now (progress_at tree.now) }
@@ -180,8 +185,9 @@ fn is_taken(tree: &Tree, shares: &[Share], share: &Share, index: usize) -> bool
     shares.iter().any(|entered| share.overlaps(entered))
 }
 
-/// The node of a share that overlaps none of the others, made where it is missing, and each one above it too.
-/// Where memory ran out, some of them may be there.
+/// Returns the node of the share, and adds it and the nodes above it where they are missing. Fails with
+/// `Overlap` if the share overlaps an entered one, and otherwise only with `Memory`; some of the nodes may
+/// have been added then.
 fn node_for(tree: &mut Tree, shares: &[Share], share: &Share) -> Result<usize, CreditFault>
     requires linked { IsTreeLinked tree.old }
     requires known { IsTreeKnown shares.now (progress_at tree.old) }
@@ -200,8 +206,8 @@ fn node_for(tree: &mut Tree, shares: &[Share], share: &Share) -> Result<usize, C
         .map_err(|_| CreditFault::Memory)
 }
 
-/// Adds two shares, or gives both back. The second one's place is looked for when the nodes of the first one
-/// are there, since they may be above it.
+/// Adds two shares, or returns both if that fails. The node of the second share is searched after those of
+/// the first are added, since these may lie above it.
 fn add_both(
     tree: &mut Tree,
     shares: &mut Vec<Share>,
@@ -234,7 +240,7 @@ fn add_both(
     Ok(())
 }
 
-/// Why two shares were given back.
+/// Returns the fault of two shares that could not be entered.
 fn fault_of_both(tree: &Tree, shares: &[Share], first: &Share, second: &Share) -> CreditFault
     requires linked { IsTreeLinked tree.now }
     requires known { IsTreeKnown shares.now (progress_at tree.now) }
@@ -252,7 +258,7 @@ fn fault_of_both(tree: &Tree, shares: &[Share], first: &Share, second: &Share) -
     }
 }
 
-/// Whether a share overlaps one of the others.
+/// Returns whether the share overlaps an entered one.
 fn overlaps_one(tree: &Tree, shares: &[Share], share: &Share) -> bool
     requires linked { IsTreeLinked tree.now }
     requires known { IsTreeKnown shares.now (progress_at tree.now) }
@@ -261,7 +267,8 @@ fn overlaps_one(tree: &Tree, shares: &[Share], share: &Share) -> bool
     start_of(tree, shares, share).is_none()
 }
 
-/// Adds a share at its node, where there is room for it.
+/// Adds a share at its node. Requires that it overlaps no entered share, and that the list has room for
+/// it.
 fn add(tree: &mut Tree, shares: &mut Vec<Share>, share: Share, index: usize)
     requires linked { IsTreeLinked tree.old }
     requires known { IsTreeKnown shares.old.items (progress_at tree.old) }
@@ -286,8 +293,8 @@ fn add(tree: &mut Tree, shares: &mut Vec<Share>, share: Share, index: usize)
     settle(tree, shares.as_slice(), entered.runs(), index);
 }
 
-/// Marks what is held since the last of the shares was entered, at the node with this index: that node, if
-/// it is, and those above it as far as they are.
+/// Marks as held the node with this index and the nodes above it, up to the first that is not held. The
+/// last entered share is the first with which they are held.
 fn settle(tree: &mut Tree, shares: &[Share], runs: &[u64], index: usize)
     requires linked { IsTreeLinked tree.old }
     requires place { place (child tree.old) (reverse runs.now) ≡ Some index }

@@ -1,4 +1,4 @@
-//! A share of a credit, as the halves by which it came from the whole.
+//! A share of a credit, as the list of halves that leads to it from the whole.
 ghost use Rattle.std.specs.Prelude.{◌≡◌, ◌≤◌, ◌<◌, ◌*◌, ◌^◌, [], length, IfOk, IfErr, IsErr, IsTrue, IsOkUnless, if◌then◌else◌, reverse};
 ghost use Rattle.credit.specs.Paths.{path_of};
 ghost use Rattle.credit.specs.Shares.{begins_with, overlaps, is_too_deep, keep_half, give_half, start_share, finish_share};
@@ -10,7 +10,7 @@ use std::marker::Model;
 /// One half of a share that was halved.
 #[derive(Clone, Copy, Debug, PartialEq, Eq)]
 pub enum Half {
-    /// The half with which the one that had the share goes on.
+    /// The half that the owner of the share keeps.
     Keep,
     /// The half that is given away.
     Give,
@@ -22,17 +22,18 @@ const MOST_GIVES: usize = 1025;
 /// The most halves of a share.
 const MOST_HALVES: u64 = 1 << 48;
 
-/// A share of a credit: the halves that were taken, one of another, from the whole on (F. Mattern, 1989).
+/// A share of a credit: the list of the halves taken, each of the one before, from the whole on (F.
+/// Mattern, 1989).
 ///
-/// They are kept as runs of Keep halves, so that each call takes as many steps as the share has Give halves,
-/// however many Keep halves stand between these.
+/// The halves are stored as the lengths of runs of Keep halves. So each call takes as many steps as the
+/// share has Give halves, however many Keep halves are between them.
 #[derive(Debug, Drop)]
 pub struct Share {
-    /// How many Keep halves stand before each Give half.
+    /// How many Keep halves are before each Give half.
     runs: Vec<u64>,
-    /// How many Keep halves stand behind the last Give half.
+    /// How many Keep halves are behind the last Give half.
     last: u64,
-    /// How many halves these are together.
+    /// How many halves there are in all.
     halves: u64,
 }
 
@@ -51,7 +52,7 @@ impl Model for Share {
 }
 
 impl Share {
-    /// The whole credit, of which no half was taken. Takes no memory.
+    /// Returns the whole credit: the share with no halves. Allocates nothing.
     pub fn whole(alloc: Global) -> Share
         ensures { result ≡ [] }
     {
@@ -62,10 +63,11 @@ impl Share {
         }
     }
 
-    /// The share that is entered when a task is over that was never detached: at each number of `path` that
-    /// many Keep halves and then a Give half, and at the end `kept` Keep halves. `path` says, from the root
-    /// down, the number of each task among its parent's children, counted from 0, and has at most 1,024
-    /// numbers; `kept` is how many children the task itself created. `Memory` is the only refusal.
+    /// Returns the share that a task enters when it finishes, if it was never detached: for each number of
+    /// `path` that many Keep halves and then a Give half, and at the end `kept` Keep halves. `path` is,
+    /// from the root down, the number of each task among its parent's children, counted from 0; `kept` is
+    /// how many children the task created. Requires that the path has at most 1,024 numbers. Fails only
+    /// with `Memory`.
     pub fn of(alloc: Global, path: &[u32], kept: u32) -> Result<Share, CreditFault>
         requires { length path.now ≤ 1024 }
         ensures value { IfOk result (λ share. share ≡ finish_share path.now kept) }
@@ -79,8 +81,8 @@ impl Share {
         })
     }
 
-    /// The share with these runs: at each of them that many Keep halves and then a Give half, and at the
-    /// end `last` Keep halves, at most 2^48 halves in all. Takes no memory.
+    /// Returns the share with these runs: for each of them that many Keep halves and then a Give half, and
+    /// at the end `last` Keep halves. Requires at most 2^48 halves in all. Allocates nothing.
     pub fn of_runs(runs: Vec<u64>, last: u64) -> Share
         requires { length (finish_share runs.items last) ≤ 2 ^ 48 }
         ensures { result ≡ finish_share runs.items last }
@@ -89,7 +91,8 @@ impl Share {
         Share { runs, last, halves }
     }
 
-    /// Whether the share begins with the other one, as each share does with itself. Takes no memory.
+    /// Returns whether the share begins with the other one. Each share begins with itself. Allocates
+    /// nothing.
     pub fn starts_with(&self, other: &Share) -> bool
         ensures { result ≡ begins_with self.now other.now }
     {
@@ -101,9 +104,9 @@ impl Share {
         self.runs.starts_with(other.runs.as_slice()) && other.last <= run
     }
 
-    /// The two halves of the share, the one to keep and then the one to give away. A share that has 1,025
-    /// Give halves, or 2^48 halves in all, is refused as `TooDeep`, and another only as `Memory`; it comes
-    /// back then.
+    /// Returns the two halves of the share, first the one to keep and then the one to give away. Fails
+    /// with `TooDeep` if the share has 1,025 Give halves or 2^48 halves in all, and otherwise only with
+    /// `Memory`. If it fails, it returns the share.
     pub fn halve(self) -> Result<(Share, Share), (Share, CreditFault)>
         ensures halves { IfOk result (λ halves. (halves.0 ≡ keep_half self) × (halves.1 ≡ give_half self)) }
         ensures too_deep { IsTrue (is_too_deep self) → IsErr result }
@@ -120,14 +123,14 @@ impl Share {
         }
     }
 
-    /// Whether one of the two shares begins with the other.
+    /// Returns whether one of the two shares begins with the other.
     pub(crate) fn overlaps(&self, other: &Share) -> bool
         ensures { result ≡ overlaps self.now other.now }
     {
         self.starts_with(other) || other.starts_with(self)
     }
 
-    /// How many Keep halves stand before each Give half.
+    /// Returns how many Keep halves are before each Give half.
     pub(crate) fn runs(&self) -> &[u64]
         ensures path { reverse result.now ≡ (path_of self.now).0 }
         ensures small { length (start_share result.now) ≤ 2 ^ 48 }
@@ -135,21 +138,21 @@ impl Share {
         self.runs.as_slice()
     }
 
-    /// How many Keep halves stand behind the last Give half.
+    /// Returns how many Keep halves are behind the last Give half.
     pub(crate) fn last(&self) -> u64
         ensures { result ≡ (path_of self.now).1 }
     {
         self.last
     }
 
-    /// Whether the share may be halved no more.
+    /// Returns whether the share has too many halves to be halved again.
     fn is_too_deep(&self) -> bool
         ensures { result ≡ is_too_deep self.now }
     {
         self.runs.len() >= MOST_GIVES || self.halves >= MOST_HALVES
     }
 
-    /// The half of the share that is kept.
+    /// Returns the half of the share that is kept.
     fn into_kept(mut self) -> Share
         requires { length self < 2 ^ 48 }
         ensures { result ≡ keep_half self }
@@ -159,7 +162,7 @@ impl Share {
         self
     }
 
-    /// The half of the share that is given away.
+    /// Returns the half of the share that is given away. Fails only when out of memory.
     fn given(&self) -> Result<Share, AllocError>
         requires { length self.now < 2 ^ 48 }
         ensures { IfOk result (λ given. given ≡ give_half self.now) }
@@ -174,7 +177,7 @@ impl Share {
     }
 }
 
-/// The numbers of a path, as the runs of a share.
+/// Returns the numbers of a path as the runs of a share. Fails only when out of memory.
 fn runs_of(alloc: Global, path: &[u32]) -> Result<Vec<u64>, AllocError>
     ensures { IfOk result (λ runs. runs.items ≡ path.now) }
 {
@@ -185,7 +188,8 @@ fn runs_of(alloc: Global, path: &[u32]) -> Result<Vec<u64>, AllocError>
     Ok(runs)
 }
 
-/// How many halves the share has with which a task with this path starts.
+/// Returns how many halves the share with which a task with this path starts has. Requires at most 1,024
+/// numbers.
 fn count_halves(path: &[u32]) -> u64
     requires { length path.now ≤ 1024 }
     ensures count { result ≡ length (start_share path.now) }
@@ -198,7 +202,7 @@ fn count_halves(path: &[u32]) -> u64
     halves
 }
 
-/// How many halves these runs have, each with its Give half.
+/// Returns how many halves these runs have, each with its Give half. Requires at most 2^48.
 fn count_run_halves(runs: &[u64]) -> u64
     requires { length (start_share runs.now) ≤ 2 ^ 48 }
     ensures { result ≡ length (start_share runs.now) }

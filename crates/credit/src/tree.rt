@@ -12,22 +12,22 @@ use std::alloc::{AllocError, Global};
 /// The most nodes of a tree, which take 384 GiB.
 const MOST_NODES: usize = 1 << 32;
 
-/// A share that was entered: that of a node, and then so many Keep halves.
+/// An entered share: a node's share followed by this many Keep halves.
 #[derive(Clone, Copy, Debug)]
 pub(crate) struct Run {
     pub keeps: u64,
-    /// How many shares had been entered before.
+    /// How many shares were entered before it.
     pub time: usize,
 }
 
 /// What has come back at a node and below it.
 #[derive(Clone, Copy, Debug)]
 pub(crate) struct Progress {
-    /// What was entered that begins with the node's share, and has no further Give half.
+    /// The entered share that is the node's share followed by Keep halves alone.
     pub run: Option<Run>,
     /// How many children are held.
     pub held_children: u64,
-    /// How many shares had been entered when the node's share was held first.
+    /// The least n such that the node's share is held by the first n entered shares.
     pub since: Option<usize>,
 }
 
@@ -35,20 +35,21 @@ pub(crate) struct Progress {
 #[derive(Clone, Copy, Debug)]
 pub(crate) struct Node {
     pub parent: usize,
-    /// More than the number of each child that there is.
+    /// Greater than the number of each child of the node.
     pub reach: u64,
     pub progress: Progress,
 }
 
-/// The nodes, the root first, and how the children of each one are found by their numbers.
+/// The nodes, the root first, and the links by which children are found by their numbers.
 #[derive(Debug, Drop)]
 pub(crate) struct Tree {
     pub nodes: Vec<Node>,
     pub links: Vec<Link>,
 }
 
-/// Where the nodes of a share begin to be missing: so many of its runs have theirs, and this one is the last.
-/// Where the next one is missing, the search for it ended at the node `at`, on this side of it.
+/// Where nodes of a share begin to be missing. The first `depth` runs have nodes, and the node `index` is
+/// the last of them. If there is a next run, the search for its node ended at the node `at`, on this side
+/// of it.
 #[derive(Clone, Copy)]
 pub(crate) struct Start {
     pub depth: usize,
@@ -57,19 +58,19 @@ pub(crate) struct Start {
     pub side: Side,
 }
 
-/// Where a walk down the nodes of a share ended.
+/// Where a walk down the nodes of a share ends.
 #[derive(Clone, Copy)]
 pub(crate) enum Walk {
-    /// A share was entered, so many after the first one, that begins this one and has fewer Give halves.
+    /// The entered share with this index begins this share and has fewer Give halves.
     Above(usize),
-    /// There was no such share, and a node was missing.
+    /// No such share was entered, and a node is missing.
     Missing(Start),
-    /// There was no such share, and this is the node.
+    /// No such share was entered, and this is the node.
     Found(usize),
 }
 
 impl Progress {
-    /// Nothing was entered at or below the node.
+    /// Returns the progress of a node at and below which nothing was entered.
     fn none() -> Progress
         ensures { result ≡ no_progress }
     {
@@ -80,7 +81,7 @@ impl Progress {
         }
     }
 
-    /// Whether a run was entered and each child before its end is held.
+    /// Returns whether a run was entered at the node and as many children are held as it has Keep halves.
     pub fn is_full(&self) -> bool
         ensures { IsTrue result ↔ IsFull self.now }
     {
@@ -92,7 +93,7 @@ impl Progress {
 }
 
 impl Node {
-    /// A node at or below which nothing was entered.
+    /// Returns a node at and below which nothing was entered.
     fn new(parent: usize) -> Node
         ensures { result ≡ empty_node parent }
     {
@@ -105,7 +106,7 @@ impl Node {
 }
 
 impl Tree {
-    /// A tree with no node. Takes no memory.
+    /// Returns a tree with no node. Allocates nothing.
     pub fn new(alloc: Global) -> Tree
         ensures linked { IsTreeLinked result }
         ensures empty { (up : List ℕ) → progress_at result up ≡ no_progress }
@@ -116,14 +117,14 @@ impl Tree {
         }
     }
 
-    /// The node with this index, or an empty one where there is none.
+    /// Returns the node with this index, or an empty one if there is none.
     pub fn node(&self, index: usize) -> Node
         ensures { result ≡ node_at self.now index }
     {
         self.nodes.get(index).copied().unwrap_or(Node::new(0))
     }
 
-    /// The child of a node by its number.
+    /// Returns the index of the child of a node with this number.
     fn child(&self, index: usize, number: u64) -> Option<usize>
         ensures { result ≡ child self.now index number }
     {
@@ -133,7 +134,8 @@ impl Tree {
         }
     }
 
-    /// Walks down the nodes of these runs, until a share begins theirs, or a node is missing.
+    /// Walks down the nodes of these runs, until an entered share begins theirs or a node is missing.
+    /// Returns where the walk ends.
     pub fn walk(&self, runs: &[u64]) -> Walk
         ensures { IsWalked self.now runs.now result }
     {
@@ -159,7 +161,7 @@ impl Tree {
         Walk::Found(index)
     }
 
-    /// From when a child of a node is held.
+    /// Returns from how many entered shares on a child of a node is held, or `None` if it is not held.
     fn child_since(&self, index: usize, number: u64) -> Option<usize>
         ensures { result ≡ child_since self.now index number }
     {
@@ -167,8 +169,9 @@ impl Tree {
         self.node(child).progress.since
     }
 
-    /// From when the children with the numbers from `first` to below `end` are all held, but no earlier
-    /// than `start`. It looks at no more children than are held, and one.
+    /// Returns the least n, at least `start`, such that the first n entered shares hold each child with a
+    /// number from `first` to below `end`, or `None` if one of these is not held. It visits at most one
+    /// child that is not held.
     pub fn since_all(&self, index: usize, start: usize, first: u64, end: u64) -> Option<usize>
         requires { first ≤ end }
         ensures { result ≡ since_all (child_since self.now index) start first (end - first) }
@@ -183,8 +186,9 @@ impl Tree {
         Some(latest)
     }
 
-    /// The node of these runs, made where it is missing, and each one above it too, from the start on. It
-    /// searches nothing.
+    /// Returns the node of these runs, and adds it and the nodes above it where they are missing. Requires
+    /// that `start` is where they begin to be missing, so nothing is searched. Fails only when out of
+    /// memory.
     pub fn make(&mut self, runs: &[u64], start: Start) -> Result<usize, AllocError>
         requires linked { IsTreeLinked self.old }
         requires small { length (start_share runs.now) ≤ 2 ^ 48 }
@@ -206,7 +210,7 @@ impl Tree {
         Ok(index)
     }
 
-    /// Makes the root where it is missing.
+    /// Adds the root if it is missing. Fails only when out of memory.
     fn make_root(&mut self) -> Result<(), AllocError>
         requires { IsTreeLinked self.old }
         ensures grown { IsGrown self.old self.new }
@@ -221,7 +225,7 @@ impl Tree {
         Ok(())
     }
 
-    /// Takes the memory for one more node. A tree with 2^32 nodes counts as one for which there is no more.
+    /// Reserves memory for one more node. Fails when out of memory, or if the tree has 2^32 nodes.
     fn reserve(&mut self) -> Result<(), AllocError>
         ensures nodes { self.new.nodes.items ≡ self.old.nodes.items }
         ensures links { self.new.links.items ≡ self.old.links.items }
@@ -237,7 +241,7 @@ impl Tree {
         Ok(())
     }
 
-    /// Adds a node that no other one leads to yet.
+    /// Adds a node to which no link leads yet.
     fn push(&mut self, parent: usize, number: u64)
         requires room_for_node { vec_len self.old.nodes < vec_capacity self.old.nodes }
         requires room_for_link { vec_len self.old.links < vec_capacity self.old.links }
@@ -249,8 +253,8 @@ impl Tree {
         let _ = self.links.push(Link::leaf(parent as u32, number));
     }
 
-    /// Adds the child of a node where a search for its number ended, and gives its index. It has no child
-    /// itself, so a search for one ends at its first side.
+    /// Adds the child of a node where the search for its number ended, and returns its index. The new node
+    /// has no child, so a search among its children ends at its first side.
     fn add_child(&mut self, index: usize, number: u64, at: usize, side: Side) -> usize
         requires linked { IsTreeLinked self.old }
         requires within { index < length self.old.nodes.items }
@@ -271,7 +275,7 @@ impl Tree {
         made
     }
 
-    /// Lets a link lead to a node.
+    /// Makes a side of a link lead to a node.
     fn put_link(&mut self, at: usize, side: Side, child: usize)
         requires within { at < length self.old.links.items }
         requires few { child < 2 ^ 32 }
@@ -282,7 +286,7 @@ impl Tree {
         self.links[at] = self.links[at].leading(side, child as u32);
     }
 
-    /// Notes that a node has a child with this number.
+    /// Records that a node has a child with this number.
     fn reach_to(&mut self, index: usize, number: u64)
         requires within { index < length self.old.nodes.items }
         requires small { number ≤ 2 ^ 48 }
@@ -297,7 +301,7 @@ impl Tree {
         };
     }
 
-    /// Notes the run that was entered at a node.
+    /// Records the run that was entered at a node.
     pub fn put_run(&mut self, index: usize, run: Run)
         requires { index < length self.old.nodes.items }
         ensures nodes { self.new.nodes.items ≡ slice_set self.old.nodes.items index (with_run
@@ -312,7 +316,7 @@ impl Tree {
         self.nodes[index] = Node { progress, ..node };
     }
 
-    /// Notes from when a node is held.
+    /// Records from how many entered shares on a node is held.
     pub fn mark(&mut self, index: usize, time: usize)
         requires { index < length self.old.nodes.items }
         ensures nodes { self.new.nodes.items ≡ slice_set self.old.nodes.items index (with_since
@@ -344,7 +348,7 @@ impl Tree {
     }
 }
 
-/// When the run was entered, if it has no more Keep halves than this.
+/// Returns when the run was entered, if it has at most this many Keep halves.
 fn ended_within(run: Option<Run>, number: u64) -> Option<usize>
     ensures { result ≡ time_within run number }
 {

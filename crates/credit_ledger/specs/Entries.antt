@@ -17,7 +17,7 @@ use Rattle.credit_ledger.specs.declared.entry.Cover.TheVariants.{Children, Desce
 use Rattle.credit_ledger.specs.declared.fault.LedgerFault.{LedgerFault}
 use Rattle.credit_ledger.specs.declared.fault.LedgerFault.TheVariants.{Memory, Overlap, Full}
 
--- a detached task halves its share once more: one half comes back with its body, the other one with its event
+-- a detached task halves its share once more: one half comes back with its body, the other with its event
 abbrev pub part_halves : Part → List Half
 part_halves Whole = []
 part_halves Body = Keep ∷ []
@@ -27,7 +27,7 @@ part_halves Event = Give ∷ []
 abbrev pub tree_share : Entry → List Half
 tree_share e = finish_share e.path e.kept ++ part_halves e.part
 
--- the path of the parent, and the task's number among its children; a root has no parent
+-- the path of the parent, and the task's number among its children; none for a root
 abbrev pub parent_and_number : List ℕ → Option (List ℕ × ℕ)
 parent_and_number [] = None
 parent_and_number (n ∷ path) = Some (option_map_or (λ s. (n ∷ s.0, s.1)) (parent_and_number path) ([], n))
@@ -75,12 +75,12 @@ IsChildHeld entries root parent number Descendants =
 IsChildHeld entries root parent number Children =
     Hold (pool_shares root parent entries) (start_share (number ∷ []))
 
--- they hold each child of the span
+-- the entries hold each child of the span
 abbrev pub IsSpanHeld : List Entry → Span → Cover → Type 0
 IsSpanHeld entries span cover = (number : ℕ) → span.from ≤ number → number < span.to
     → IsChildHeld entries span.root span.path number cover
 
--- a ledger has at most 2^22 entries
+-- the ledger is full: it has at least 2^22 entries
 abbrev pub is_ledger_full : List Entry → Bool
 is_ledger_full entries = nat_le (2 ^ 22) (length entries)
 

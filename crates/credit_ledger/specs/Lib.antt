@@ -1,3 +1,5 @@
+-- The ledger of finished tasks, and the ledger that threads share.
+-- Read `Entries` first (what an entry brings back, and what a ledger holds), then `Histories` and `Seats`.
 pub mod Entries
 pub mod Histories
 pub mod Codes

@@ -1,5 +1,5 @@
--- The seats of a ledger that threads share behind a lock of tickets: what each seat knows of the one history,
--- and the rule that each step keeps.
+-- The seats of a ledger that threads share behind a lock of tickets: what each seat knows of the one
+-- history, and the rule that each step keeps.
 use Rattle.std.specs.Prelude.{◌≡◌, ◌≢◌, ◌≤◌, ◌<◌, ◌⊎◌, ◌==◌, ◌+◌, ℕ, max, Bool, true, false, List, [], ◌∷◌}
 use Rattle.std.specs.Prelude.{◌++◌, length, Option, Some}
 use Rattle.std.specs.List.{filter}
@@ -16,7 +16,7 @@ use Rattle.credit_ledger.specs.declared.view.Claim.{Claim}
 use Rattle.credit_ledger.specs.declared.view.View.{View}
 use Rattle.credit_ledger.specs.Histories.{IsLegal, entries_after}
 
--- what the slot has: the ledger, or nothing
+-- what the slot holds: the ledger, or nothing
 abbrev pub Slot : Type 0
 Slot = Option (List Entry)
 
@@ -46,11 +46,11 @@ copied v = record {
   claims = [];
 }
 
--- the seat, told of what the other one has seen, and which numbers it knows to be given
+-- the seat after it learned what the other one has seen, and which numbers that one knows to be given
 abbrev pub told_of : View → View → View
 told_of v w = record v { told = w.seen; given = max v.given w.given }
 
--- the seat, told that the numbers below this one are given
+-- the seat that knows that the numbers below `given` are given
 abbrev pub with_given : View → ℕ → View
 with_given v given = record v { given = given }
 
@@ -65,18 +65,18 @@ with_number v n = record v { number = n; given = n + 1; stage = Idle }
 abbrev pub with_ticket : View → ℕ → View
 with_ticket v t = record v { stage = Waiting; ticket = t }
 
--- the seat has the turn, and has seen all of the history
+-- the seat with the turn, which has seen all of the history
 abbrev pub turn_taken : View → List Step → View
 turn_taken v history = record v { seen = history; stage = Turn; claims = [] }
 
 abbrev pub claim_of : View → Claim
 claim_of v = record { number = v.number; seen = v.seen; own = v.own }
 
--- the seat has taken in another one
+-- the seat after it took in another one
 abbrev pub with_claim : View → View → View
 with_claim v w = record v { claims = claim_of w ∷ v.claims }
 
--- the history begins with what each of these had seen, and has just the calls of it that it made
+-- the history begins with what each of these had seen, and has of its seat exactly the calls that it made
 abbrev pub AreClaims : List Step → List Claim → Type 0
 AreClaims history [] = Unit {0}
 AreClaims history (c ∷ claims) =
@@ -101,7 +101,7 @@ abbrev pub AreSpent : List View → List Claim → Type 0
 AreSpent views [] = Unit {0}
 AreSpent views (c ∷ claims) = IsSpentAt views c.number × AreSpent views claims
 
--- the call that the seat makes where it has the turn
+-- the call that the seat makes in its turn, with the reply
 abbrev pub seat_step : View → Call → Step
 seat_step v call = record { seat = v.number; call = call; reply = length (entries_after v.seen) }
 
@@ -117,15 +117,16 @@ has_ticket Waiting = true
 has_ticket Turn = true
 has_ticket Spent = false
 
--- the history begins with all that the seat knows of, and has just its own calls of it
+-- the history begins with all that the seat knows of, and the seat's calls in it are exactly those that it
+-- knows
 pub record Knows (history : List Step) (n : ℕ) (v : View) : Type 0 where
   pub number : v.number ≡ n
   pub seen : StartsWith history v.seen
   pub told : StartsWith history v.told
   pub own : seat_calls n history ≡ v.own
 
--- the number is greater than that of the seat, than each that the seat knows to be given, and than that of
--- each seat whose calls it has seen
+-- the number is greater than that of the seat, and than that of each seat whose calls the seat has seen;
+-- and each that the seat knows to be given is below it
 pub record IsLater (v : View) (n : ℕ) : Type 0 where
   pub than_given : v.given ≤ n
   pub than_seat : v.number < n
@@ -152,13 +153,13 @@ abbrev pub IsHeld : List View → ℕ → Type 0
 IsHeld views ticket =
     (n : ℕ) × (v : View) × (get_elem? views n ≡ some v) × (has_ticket v.stage ≡ true) × (v.ticket ≡ ticket)
 
--- the ledger is at home, or a seat has the turn
+-- the ledger is in its slot, or a seat has the turn
 abbrev pub IsHome : List Step → State Slot View → Type 0
 IsHome history s =
     (s.homes ≡ some (Some (entries_after history)) ∷ [])
     ⊎ ((s.homes ≡ none ∷ []) × (n : ℕ) × (v : View) × (get_elem? s.views n ≡ some v) × (v.stage ≡ Turn))
 
--- the rule, at this history, next ticket, and ticket that is served
+-- the rule, for this history, next ticket, and ticket that is served
 pub record IsRuleKept (history : List Step) (next serving : ℕ) (s : State Slot View) : Type 0 where
   pub words : s.words ≡ next ∷ serving ∷ []
   pub served : serving ≤ next
@@ -173,18 +174,19 @@ pub record IsRuleKept (history : List Step) (next serving : ℕ) (s : State Slot
   pub gone : (n : ℕ) (v : View) → get_elem? s.views n ≡ some v → AreSpent s.views v.claims
   pub home : IsHome history s
 
--- there is one legal history; the ledger at home is what it leaves, or one seat has the turn
+-- there is one legal history; the slot holds the ledger after it, or one seat has the turn
 abbrev pub Kept : State Slot View → Type 0
 Kept s = (history : List Step) × (next : ℕ) × (serving : ℕ) × IsRuleKept history next serving s
 
--- a new seat has learned its number, which no call so far has
+-- a new seat has learned its number, which is that of no call so far
 abbrev pub Settled : Me Slot View → Me Slot View → Type 0
 Settled before after =
     (n : ℕ) × (seat_calls n before.0.seen ≡ []) × IsLater before.0 n
     × (after ≡ (with_number before.0 n, before.1))
 
--- a new seat, which has seen what this one has, has made no call, and has a number that is later than this
--- one's, than each that this one knows to be given, and than each that stands in what it has seen
+-- a new seat that has seen what the other one has and has made no call; its number is greater than that of
+-- the other one, than each that the other one knows to be given, and than that of each seat with a call in
+-- what it has seen
 pub record IsCopy (v w : View) : Type 0 where
   pub seen : w.seen ≡ v.seen
   pub own : w.own ≡ []
@@ -192,7 +194,7 @@ pub record IsCopy (v w : View) : Type 0 where
   pub later : IsLater v w.number
   pub given : w.given ≡ w.number + 1
 
--- the seat has a ticket, or nothing was changed
+-- the seat has this ticket, or nothing changed
 abbrev pub Drawn : ℕ → Me Slot View → ℕ → Me Slot View → Type 0
 Drawn ticket before found after =
     ((found ≡ ticket) × (after ≡ (with_ticket before.0 ticket, before.1)))
@@ -205,7 +207,7 @@ pub record HasTurn (v : View) (history : List Step) : Type 0 where
   pub told : StartsWith history v.told
   pub own : seat_calls v.number history ≡ v.own
 
--- the seat has the turn and the ledger, or nothing was changed
+-- the seat has the turn and the ledger, or nothing changed
 abbrev pub Served : Me Slot View → ℕ → Me Slot View → Type 0
 Served before found after =
     ((found ≡ before.0.ticket) × (history : List Step) × HasTurn before.0 history
@@ -220,9 +222,9 @@ Entered before after =
     (e : Entry) × (before.1 ≡ (0, Some (entries_after before.0.seen ++ e ∷ [])) ∷ [])
     × (after ≡ (with_call before.0 (Enter e), []))
 
--- the history after a call is legal, begins with all that the seat had seen and was told of, and ends with
--- the call and its reply; the seat's own calls are the former ones and this one, and it has no others in the
--- history; it knows the same numbers to be given
+-- the history after a call is legal, begins with all that the seat had seen and learned of, and ends with
+-- the call and its reply. The seat's own calls are the former ones and this one, and the history has no
+-- others of the seat. The seat knows the same numbers to be given.
 pub record Extends (v : View) (call : Call) (reply : ℕ) (w : View) : Type 0 where
   pub number : w.number ≡ v.number
   pub given : w.given ≡ v.given

@@ -9,10 +9,10 @@ use credit::Share;
 use ompt_events::Part;
 use std::alloc::{AllocError, Global};
 
-/// What follows the upper half of a number.
+/// A number divided by this is its upper half, and the remainder is its lower half.
 const LOWER: u64 = 1 << 32;
 
-/// The share of the root's credit that an entry brings back.
+/// Returns the share of the root's credit that an entry brings back. Fails only when out of memory.
 pub(crate) fn tree_code(alloc: Global, entry: &Entry) -> Result<Share, AllocError>
     requires { length entry.now.path ≤ 1024 }
     ensures { IfOk result (λ share. share ≡ code_in_tree entry.now.root (tree_share entry.now)) }
@@ -22,7 +22,8 @@ pub(crate) fn tree_code(alloc: Global, entry: &Entry) -> Result<Share, AllocErro
     close(runs, entry.kept, entry.part)
 }
 
-/// The share of its parent's pool that an entry brings back, or for a root that of its credit once more.
+/// Returns the share of its parent's pool that an entry brings back, or for a root that of its credit
+/// again. Fails only when out of memory.
 pub(crate) fn second_code(alloc: Global, entry: &Entry) -> Result<Share, AllocError>
     requires { length entry.now.path ≤ 1024 }
     ensures { IfOk result (λ share.
@@ -37,7 +38,7 @@ pub(crate) fn second_code(alloc: Global, entry: &Entry) -> Result<Share, AllocEr
     }
 }
 
-/// The share of the root's credit with which a child starts.
+/// Returns the share of the root's credit with which a child starts. Fails only when out of memory.
 pub(crate) fn child_code(
     alloc: Global,
     root: u64,
@@ -53,7 +54,8 @@ pub(crate) fn child_code(
     close(runs, 0, Part::Whole)
 }
 
-/// A share of a pool: that with which the child starts, or one of its halves.
+/// Returns a share of a pool: the one with which the child starts, or one of its halves. Fails only when
+/// out of memory.
 pub(crate) fn pool_code(
     alloc: Global,
     root: u64,
@@ -71,7 +73,7 @@ pub(crate) fn pool_code(
     close(runs, 0, part)
 }
 
-/// The runs of a region, with the memory for so many more.
+/// Returns the runs of a region, with memory for `more` further ones. Fails only when out of memory.
 fn region_runs(alloc: Global, kind: u64, root: u64, more: usize) -> Result<Vec<u64>, AllocError>
     requires kind { kind < 3 }
     requires more { more ≤ 1025 }
@@ -84,7 +86,7 @@ fn region_runs(alloc: Global, kind: u64, root: u64, more: usize) -> Result<Vec<u
     Ok(runs)
 }
 
-/// Adds the numbers of a path.
+/// Adds the numbers of a path. Fails only when out of memory.
 fn push_path(runs: &mut Vec<u64>, path: &[u32]) -> Result<(), AllocError>
     ensures runs { OnOk result (runs.new.items ≡ runs.old.items ++ path.now) }
     ensures small { OnOk result (length (start_share path.now) ≤ length path.now * 2 ^ 32) }
@@ -95,7 +97,7 @@ fn push_path(runs: &mut Vec<u64>, path: &[u32]) -> Result<(), AllocError>
     Ok(())
 }
 
-/// Adds the odd numbers that stand for those of a path.
+/// Adds the odd numbers that encode those of a path. Fails only when out of memory.
 fn push_odd_path(runs: &mut Vec<u64>, path: &[u32]) -> Result<(), AllocError>
     ensures runs { OnOk result (runs.new.items ≡ runs.old.items ++ map (λ n. 2 * n + 1) path.now) }
     ensures small { OnOk result (length (start_share (map
@@ -107,7 +109,8 @@ fn push_odd_path(runs: &mut Vec<u64>, path: &[u32]) -> Result<(), AllocError>
     Ok(())
 }
 
-/// The share of these runs, with so many Keep halves and then what comes back with the part of a task.
+/// Returns the share of these runs, with `kept` Keep halves and then the halves of the part of a task.
+/// Fails only when out of memory.
 fn close(mut runs: Vec<u64>, kept: u32, part: Part) -> Result<Share, AllocError>
     requires { length (start_share runs.items) ≤ 2 ^ 45 }
     ensures { IfOk result (λ share. share ≡ finish_share runs.items kept ++ part_halves part) }

@@ -1,21 +1,21 @@
-//! What the ledger holds, and what it is asked about.
+//! What the ledger holds, and what a query names.
 use ompt_events::{Part, Path};
 
-/// What one finishing record brings back (a profile of OMPT's events: a record that finishes a task claims
-/// where the task stands below its root, and how many children it created).
+/// What one finishing record brings back. (profile: a finishing record claims the place of its task below
+/// its root, and how many children the task created.)
 #[derive(Debug, Drop)]
 pub struct Entry {
     /// The thread of the record.
     pub thread: u8,
-    /// How much of the task is finished: all, or of a detachable task its body or its event (OpenMP 5.2,
-    /// 12.5.2).
+    /// How much of the task is finished: all of it, or of a detachable task its body or its event (OpenMP
+    /// 5.2, 12.5.2).
     pub part: Part,
     /// How many children the task created.
     pub kept: u32,
     pub task: u64,
     /// The initial or implicit task at the top of the task's tree.
     pub root: u64,
-    /// The numbers of the children from the root down to the task.
+    /// The numbers of the tasks from the root down to the task, each among its parent's children.
     pub path: Path,
 }
 
@@ -25,7 +25,7 @@ pub struct Span {
     pub from: u32,
     pub to: u32,
     pub root: u64,
-    /// The path of the task whose children they are.
+    /// The path of the task whose children these are.
     pub path: Path,
 }
 

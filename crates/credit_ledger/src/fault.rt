@@ -1,10 +1,10 @@
-//! Why a call on the ledger is refused.
+//! The faults of calls on the ledger.
 use thiserror::Error;
 
-/// Why a call on the ledger is refused. Where more than one applies it is the last one in this list.
+/// Why a call on the ledger fails. Where more than one applies, it is the last one in this list.
 #[derive(Clone, Copy, Debug, PartialEq, Eq, Error)]
 pub enum LedgerFault {
-    /// No memory was found. Number 1.
+    /// Out of memory. Number 1.
     #[error("no memory was found")]
     Memory,
     /// The entry with this index overlaps the new one, and none with a smaller index does. Number 2.

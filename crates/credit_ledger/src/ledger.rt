@@ -20,8 +20,9 @@ const MOST_ENTRIES: usize = 1 << 22;
 
 /// The entries of finished tasks, in the order in which they were entered.
 ///
-/// One purse has the shares of all roots and pools, each of them in a region of its own, two of each entry.
-/// So the time from which the purse holds a share tells the ledger's length from which it is held.
+/// One purse keeps two shares of each entry, those of each root and each pool apart from all others
+/// (`specs/Codes.antt`). So the count of shares from which on the purse holds a share gives the ledger
+/// length from which on it is held.
 #[derive(Debug, Drop)]
 pub struct Ledger {
     entries: Vec<Entry>,
@@ -43,7 +44,7 @@ impl Model for Ledger {
 }
 
 impl Ledger {
-    /// A ledger with no entry. Takes no memory.
+    /// Returns a ledger with no entry. Allocates nothing.
     pub fn new(alloc: Global) -> Ledger
         ensures { result ≡ [] }
     {
@@ -53,24 +54,25 @@ impl Ledger {
         }
     }
 
-    /// How many entries there are, at most 2^22.
+    /// Returns how many entries there are, at most 2^22.
     pub fn len(&self) -> u32
         ensures { result ≡ length self.now }
     {
         self.entries.len() as u32
     }
 
-    /// The entry with this index.
+    /// Returns the entry with this index, or `None` if there is none.
     pub fn entry(&self, index: u32) -> Option<&Entry>
         ensures { option_copied result ≡ slice_get self.now index }
     {
         self.entries.get(index as usize)
     }
 
-    /// Adds an entry, and gives its index. A ledger with 2^22 entries is refused as `Full`; an entry of
-    /// which a share overlaps one of another entry, of the same root's credit or of the pool of the same
-    /// parent, as `Overlap` with the least such entry's index; and another one only as `Memory`. The entry
-    /// comes back then, and the ledger is as it was. The entry's path has at most 1,024 numbers.
+    /// Adds an entry, and returns its index. Requires that the entry's path has at most 1,024 numbers.
+    /// Fails with `Full` if the ledger has 2^22 entries; else with `Overlap` if a share of the entry
+    /// overlaps one of another entry, of the same root's credit or of the pool of the same parent, with
+    /// the least index of such an entry; and otherwise only with `Memory`. If it fails, it returns the
+    /// entry, and the ledger is unchanged.
     pub fn enter(&mut self, entry: Entry) -> Result<u32, (Entry, LedgerFault)>
         requires { length entry.path ≤ 1024 }
         ensures index { IfOk result (λ index. index ≡ length self.old) }
@@ -94,10 +96,10 @@ impl Ledger {
         }
     }
 
-    /// Whether the first `upto` entries (all, where there are fewer) of the span's root hold each child of
-    /// the span: in the tree for `Descendants`, in its parent's pool for `Children`. An empty span is held.
-    /// `Memory` is the only refusal. The span's path has at most 1,024 numbers. It stops at the first child
-    /// that isn't held.
+    /// Returns whether the first `upto` entries (all, if there are fewer) of the span's root hold each
+    /// child of the span: in the tree for `Descendants`, in its parent's pool for `Children`. An empty
+    /// span is held. Requires that the span's path has at most 1,024 numbers. Fails only with `Memory`. It
+    /// stops at the first child that is not held.
     pub fn holds(&self, upto: u32, span: &Span, cover: Cover) -> Result<bool, LedgerFault>
         requires { length span.now.path ≤ 1024 }
         ensures held { IfOk result (λ held. IsTrue held ↔ IsSpanHeld (take upto self.now) span.now cover) }
@@ -112,9 +114,9 @@ impl Ledger {
         Ok(true)
     }
 
-    /// From which length of the ledger a child of a task is held: in the tree for `Descendants`, in its
-    /// parent's pool for `Children`. `None` is told where all entries don't hold it. `Memory` is the only
-    /// refusal. The parent's path has at most 1,024 numbers.
+    /// Returns from which ledger length on a child of a task is held, in the tree for `Descendants` and in
+    /// its parent's pool for `Children`, or `None` if the entries do not hold it. Requires that the
+    /// parent's path has at most 1,024 numbers. Fails only with `Memory`.
     pub fn held_from(
         &self,
         root: u64,
@@ -138,14 +140,14 @@ impl Ledger {
     }
 }
 
-/// Whether what is held from a length on is held at another one.
+/// Returns whether what is held from a length on is held at another length.
 fn is_held_by(from: Option<u32>, upto: u32) -> bool
     ensures { result ≡ is_by from upto }
 {
     from.is_some_and(|from| from <= upto)
 }
 
-/// The share with which a child starts.
+/// Returns the share with which a child starts. Fails only when out of memory.
 fn start_code(
     alloc: Global,
     root: u64,
@@ -162,7 +164,7 @@ fn start_code(
     }
 }
 
-/// Why the entry was refused, where there is room.
+/// Returns why an entry was refused by a ledger that is not full.
 fn refusal(entries: &[Entry], entry: &Entry) -> LedgerFault
     requires { length entries.now < 2 ^ 22 }
     ensures { result ≡ entry_fault entries.now entry.now }
@@ -175,7 +177,7 @@ fn refusal(entries: &[Entry], entry: &Entry) -> LedgerFault
     LedgerFault::Memory
 }
 
-/// Adds an entry with its shares, or gives it back.
+/// Adds an entry with its shares, or returns it if that fails.
 fn add(entries: &mut Vec<Entry>, purse: &mut Purse, entry: Entry) -> Result<(), Entry>
     requires depth { length entry.path ≤ 1024 }
     requires shares { purse.old ≡ all_codes entries.old.items }

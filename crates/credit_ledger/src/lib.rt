@@ -1,8 +1,8 @@
-//! The ledger of finished tasks: each entry brings back a share of its root's credit, and one of the credit
-//! of its parent's child tasks, so the ledger tells which tasks are complete at each of its lengths.
+//! The ledger of finished tasks. Each entry brings back a share of its root's credit, and one of the
+//! credit of its parent's child tasks. So the ledger says at each of its lengths which tasks are complete.
 //!
-//! `Entry` and `Span` first, then `Ledger`; the definitions stand in `specs/Entries.antt` and
-//! `specs/Histories.antt`.
+//! Read `Entry` and `Span` first, then `Ledger`; `SharedLedger` is the one that threads share. The
+//! definitions are in `specs/Entries.antt` and `specs/Histories.antt`.
 #![tactic(auto)]
 
 mod codes;

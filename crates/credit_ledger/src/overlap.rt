@@ -1,4 +1,4 @@
-//! Whether two entries overlap, found without memory.
+//! Whether two entries overlap, decided without allocation.
 ghost use Rattle.std.specs.Prelude.{◌≡◌, length, slice_get};
 ghost use Rattle.credit.specs.Shares.{begins_with, overlaps};
 ghost use Rattle.credit_ledger.specs.Entries.{part_halves, tree_share, parent_and_number, overlaps_in_pool, is_overlap};
@@ -7,7 +7,7 @@ ghost use Rattle.credit_ledger.specs.Codes.{tree_runs, tree_last};
 use crate::entry::Entry;
 use ompt_events::Part;
 
-/// Whether a share of one entry overlaps one of the other entry, of the same credit.
+/// Returns whether a share of one entry overlaps one of the other entry, of the same credit.
 pub(crate) fn do_overlap(entry: &Entry, other: &Entry) -> bool
     ensures { result ≡ is_overlap entry.now other.now }
 {
@@ -15,14 +15,15 @@ pub(crate) fn do_overlap(entry: &Entry, other: &Entry) -> bool
         && (do_overlap_in_tree(entry, other) || do_overlap_in_pool(entry, other))
 }
 
-/// Whether the shares of their root's credit overlap.
+/// Returns, for entries of one root, whether their shares of its credit overlap.
 fn do_overlap_in_tree(entry: &Entry, other: &Entry) -> bool
     ensures { result ≡ overlaps (tree_share entry.now) (tree_share other.now) }
 {
     begins(entry, other) || begins(other, entry)
 }
 
-/// Whether they are the same task's, and its shares of its parent's pool overlap.
+/// Returns, for entries of one root, whether they are of the same task and its shares of its parent's pool
+/// overlap.
 fn do_overlap_in_pool(entry: &Entry, other: &Entry) -> bool
     ensures { result ≡ overlaps_in_pool (parent_and_number entry.now.path) entry.now.part
         (parent_and_number other.now.path) other.now.part }
@@ -37,7 +38,7 @@ fn do_overlap_in_pool(entry: &Entry, other: &Entry) -> bool
     do_parts_overlap(entry.part, other.part)
 }
 
-/// Whether the parts of a task have a half in common.
+/// Returns whether the parts of a task have a half in common.
 fn do_parts_overlap(part: Part, other: Part) -> bool
     ensures { result ≡ overlaps (part_halves part) (part_halves other) }
 {
@@ -48,7 +49,8 @@ fn do_parts_overlap(part: Part, other: Part) -> bool
     }
 }
 
-/// Whether the share of the root's credit of the one entry begins with that of the other one.
+/// Returns, for entries of one root, whether the first one's share of its credit begins with the other
+/// one's.
 fn begins(entry: &Entry, other: &Entry) -> bool
     ensures { result ≡ begins_with (tree_share entry.now) (tree_share other.now) }
 {
@@ -61,7 +63,7 @@ fn begins(entry: &Entry, other: &Entry) -> bool
     last(other) <= run(entry, count).unwrap_or(last(entry))
 }
 
-/// How many Give halves the share of the root's credit has.
+/// Returns how many Give halves the entry's share of the root's credit has.
 fn count_runs(entry: &Entry) -> usize
     ensures { result ≡ length (tree_runs entry.now.path entry.now.kept entry.now.part) }
 {
@@ -72,7 +74,8 @@ fn count_runs(entry: &Entry) -> usize
     }
 }
 
-/// How many Keep halves stand before the Give half with this index.
+/// Returns how many Keep halves are before the Give half with this index, or `None` if there is no such
+/// half.
 fn run(entry: &Entry, index: usize) -> Option<u64>
     ensures { result ≡ slice_get (tree_runs entry.now.path entry.now.kept entry.now.part) index }
 {
@@ -86,7 +89,7 @@ fn run(entry: &Entry, index: usize) -> Option<u64>
     None
 }
 
-/// How many Keep halves stand behind the last Give half.
+/// Returns how many Keep halves are behind the last Give half.
 fn last(entry: &Entry) -> u64
     ensures { result ≡ tree_last entry.now.kept entry.now.part }
 {

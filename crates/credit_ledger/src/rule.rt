@@ -1,10 +1,10 @@
-//! The rule of the lock, and what its steps tell.
+//! The rule of the lock, and the effect of each of its steps.
 use crate::ledger::Ledger;
 use crate::view::View;
 use atomic_table::{Join, Play, Split, TableRule};
 
-/// Word 0 is the next ticket, word 1 the ticket that is served, and the slot has the ledger where no seat has
-/// the turn.
+/// The lock of tickets. Word 0 is the next ticket, and word 1 the ticket that is served. The slot holds
+/// the ledger while no seat has the turn.
 pub struct Lock;
 
 impl TableRule<Option<Ledger>, View, ()> for Lock {
@@ -24,7 +24,7 @@ impl Play<Option<Ledger>, View> for Settle {
     ghost then = { λ _ before _ after. Settled before after };
 }
 
-/// A seat takes a ticket, or fails.
+/// A seat takes a ticket, or nothing changes.
 pub(crate) struct Draw;
 
 impl Play<Option<Ledger>, View> for Draw {
@@ -33,7 +33,7 @@ impl Play<Option<Ledger>, View> for Draw {
     ghost then = { λ step before found after. Drawn step.first before found after };
 }
 
-/// A seat looks whether its ticket is served, and then has the turn and the ledger.
+/// A seat reads which ticket is served. If it is its own, the seat has the turn and the ledger.
 pub(crate) struct Serve;
 
 impl Play<Option<Ledger>, View> for Serve {
@@ -42,7 +42,7 @@ impl Play<Option<Ledger>, View> for Serve {
     ghost then = { λ _ before found after. Served before found after };
 }
 
-/// A seat gives the turn back with a Look.
+/// A seat ends its turn with a Look.
 pub(crate) struct Looks;
 
 impl Play<Option<Ledger>, View> for Looks {
@@ -51,7 +51,7 @@ impl Play<Option<Ledger>, View> for Looks {
     ghost then = { λ _ before _ after. Looked before after };
 }
 
-/// A seat gives the turn back with an Enter.
+/// A seat ends its turn with an Enter.
 pub(crate) struct Enters;
 
 impl Play<Option<Ledger>, View> for Enters {
@@ -60,7 +60,7 @@ impl Play<Option<Ledger>, View> for Enters {
     ghost then = { λ _ before _ after. Entered before after };
 }
 
-/// A seat with the same history, which is to learn its number.
+/// A new seat with the same history, which has not learned its number yet.
 pub(crate) struct Copies;
 
 impl Split<View> for Copies {
@@ -71,7 +71,7 @@ impl Split<View> for Copies {
     ghost right = { copied };
 }
 
-/// A seat is told which numbers another one knows to be given.
+/// A seat learns which numbers another one knows to be given.
 pub(crate) struct Hears;
 
 impl Join<View> for Hears {
@@ -82,7 +82,7 @@ impl Join<View> for Hears {
     ghost spent = { spent };
 }
 
-/// A seat is told of the history that another one has seen.
+/// A seat learns the history that another one has seen.
 pub(crate) struct Tells;
 
 impl Join<View> for Tells {
@@ -113,7 +113,7 @@ impl Join<View> for Gathers {
     ghost spent = { spent };
 }
 
-/// A seat that has the turn is told that what it took in is in the history.
+/// A seat that has the turn learns that what it took in is in the history.
 pub(crate) struct Claims;
 
 impl Play<Option<Ledger>, View> for Claims {

@@ -23,22 +23,22 @@ use std::hint::spin_loop;
 use std::sync::Wait;
 use std::thread::yield_now;
 
-/// How often the next in line spins before it yields.
+/// How often the next seat in line spins before it yields.
 const SPINS: u32 = 64;
 
 type Board = Table<Option<Ledger>, View, (), Lock, Global>;
 
 type Place = atomic_table::Seat<Option<Ledger>, View>;
 
-/// A ledger that several threads share. Each call on it takes the turn, which its seats have one after
-/// another.
+/// A ledger that several threads share. Each call on it takes the turn, which one seat has at a time; only
+/// `split` takes no turn.
 #[derive(Drop)]
 pub struct SharedLedger {
     board: Board,
     ghost counts: { (board.shared.table_id.words ≡ 2) × (board.shared.table_id.slots ≡ 1) },
 }
 
-/// What one thread knows of a shared ledger: a history that it has seen.
+/// What one thread holds of a shared ledger: its calls, and a history that it has seen.
 #[derive(Drop)]
 pub struct Seat {
     place: Place,
@@ -46,7 +46,7 @@ pub struct Seat {
     ghost empty: { place.me.1 ≡ [] },
 }
 
-/// That an entry was accepted.
+/// The reply to an accepted entry.
 #[derive(Clone, Copy, Debug, PartialEq, Eq)]
 pub struct Receipt {
     /// The entry's index.
@@ -54,7 +54,8 @@ pub struct Receipt {
 }
 
 impl SharedLedger {
-    /// A ledger with no entry, and its first seat, which has seen no call. `Memory` is the only refusal.
+    /// Returns a ledger with no entry, and its first seat, which has seen no call. Fails only with
+    /// `Memory`.
     pub fn new(alloc: Global) -> Result<(SharedLedger, Seat), LedgerFault>
         ensures seat { IfOk result (λ made. made.1.place.table_id ≡ made.0.board.shared.table_id) }
         ensures first { IfOk result (λ made. made.1.place.me.0 ≡ newcomer) }
@@ -70,9 +71,9 @@ impl SharedLedger {
         }
     }
 
-    /// Adds an entry, and tells its index. An entry is refused as by `Ledger::enter`, by the entries that the
-    /// call meets, and comes back then. It takes the turn, and gives it back also where it refuses. The
-    /// entry's path has at most 1,024 numbers.
+    /// Adds an entry, and returns its index. Requires that the entry's path has at most 1,024 numbers.
+    /// Fails as `Ledger::enter` does, by the entries that the call meets; if it fails, it returns the
+    /// entry. It takes the turn, and ends it also if it fails.
     pub fn enter<R: Wait>(
         &self,
         wait: &R,
@@ -108,9 +109,9 @@ impl SharedLedger {
         }
     }
 
-    /// How many entries there are, and whether these hold each child of the span, with all its descendants.
-    /// If so, no later entry is of one of these. `Memory` is the only refusal. It takes the turn, and gives
-    /// it back also where it refuses. The span's path has at most 1,024 numbers.
+    /// Returns how many entries there are, and whether these hold each child of the span with all its
+    /// descendants. If so, no later entry is of one of these tasks. Requires that the span's path has at
+    /// most 1,024 numbers. Fails only with `Memory`. It takes the turn, and ends it also if it fails.
     pub fn whole<R: Wait>(
         &self,
         wait: &R,
@@ -138,10 +139,10 @@ impl SharedLedger {
         whole
     }
 
-    /// A new seat, which has seen the same history, and of which no call is in it. Its number is greater
-    /// than that of the seat, than each that the seat knows to be given, and than that of each seat that has
-    /// made a call in this history. The seat knows from then on that this number is given, so a later split
-    /// gives a greater one.
+    /// Returns a new seat, which has seen the same history and made no call. Its number is greater than
+    /// that of the seat, than each that the seat knows to be given, and than that of each seat that made a
+    /// call in this history. From then on the seat knows that this number is given, so a later split gives
+    /// a greater one.
     pub fn split(&self, seat: &mut Seat) -> Seat
         requires seat { seat.old.place.table_id ≡ self.now.board.shared.table_id }
         ensures table { seat.new.place.table_id ≡ seat.old.place.table_id }
@@ -155,14 +156,14 @@ impl SharedLedger {
     {
         let mut place = self.board.shared.split_seat::<Copies>(&mut seat.place);
         let _ = self.board.shared.load::<Settle>(&mut place, 0);
-        // The seat hears of the number by a third one, which is spent by that.
+        // The seat learns the number from a third seat, which is spent by that.
         let news = self.board.shared.split_seat::<Copies>(&mut place);
         self.board.shared.join_seat::<Hears>(&mut seat.place, news);
         Seat { place }
     }
 
-    /// Takes in what another seat has seen, which is spent then, and tells how many entries there are. It
-    /// takes the turn.
+    /// Takes in what another seat has seen, which is spent by that, and returns how many entries there
+    /// are. It takes the turn.
     pub fn join<R: Wait>(&self, wait: &R, seat: &mut Seat, other: Seat) -> u32
         requires seat { seat.old.place.table_id ≡ self.now.board.shared.table_id }
         requires other { other.place.table_id ≡ self.now.board.shared.table_id }
@@ -174,9 +175,9 @@ impl SharedLedger {
         self.look(wait, seat)
     }
 
-    /// The ledger, after a history that begins with what each of these seats had seen, and in which just
-    /// those calls of it stand that it made. No two of the seats have one number. It takes the turn a last
-    /// time.
+    /// Returns the ledger after a history that begins with what each of these seats had seen, and that has
+    /// of each seat exactly the calls that it made. No two of the seats have one number. It takes the turn
+    /// a last time.
     pub fn close<R: Wait>(self, wait: &R, seats: Vec<Seat>) -> Ledger
         requires seats { All (λ seat. seat.place.table_id ≡ self.board.shared.table_id) seats.items }
         ensures { (history : List Step) × IsLegal history × (result ≡ entries_after history)
@@ -190,7 +191,7 @@ impl SharedLedger {
         take(&self.board, &mut place)
     }
 
-    /// How many entries there are. It takes the turn.
+    /// Returns how many entries there are. It takes the turn.
     pub fn look<R: Wait>(&self, wait: &R, seat: &mut Seat) -> u32
         requires seat { seat.old.place.table_id ≡ self.now.board.shared.table_id }
         ensures seat { seat.new.place.table_id ≡ seat.old.place.table_id }
@@ -206,7 +207,7 @@ impl SharedLedger {
     }
 }
 
-/// Takes a ticket. Once the last is drawn, it waits without end.
+/// Takes a ticket, and returns it. Does not return once the last ticket is drawn.
 fn draw<R: Wait>(board: &Board, wait: &R, place: &mut Place) -> u64
     requires board { (board.now.shared.table_id.words ≡ 2) × (board.now.shared.table_id.slots ≡ 1) }
     requires place { place.old.table_id ≡ board.now.shared.table_id }
@@ -258,7 +259,7 @@ fn await_turn<R: Wait>(board: &Board, wait: &R, place: &mut Place, ticket: u64)
     }
 }
 
-/// The length of the ledger that the place has.
+/// Returns the length of the ledger that the place has.
 fn count(board: &Board, place: &mut Place) -> u32
     requires place { place.old.table_id ≡ board.now.shared.table_id }
     requires ledger { place.old.me.1 ≡ (0, Some (entries_after place.old.me.0.seen)) ∷ [] }
@@ -272,7 +273,8 @@ fn count(board: &Board, place: &mut Place) -> u32
     ledger.len()
 }
 
-/// Adds an entry to the ledger that the place has, or gives it back with the fault.
+/// Adds an entry to the ledger that the place has, and returns its index. If it fails, it returns the
+/// entry with the fault.
 fn put(board: &Board, place: &mut Place, entry: Entry) -> Result<u32, (Entry, LedgerFault)>
     requires place { place.old.table_id ≡ board.now.shared.table_id }
     requires ledger { place.old.me.1 ≡ (0, Some (entries_after place.old.me.0.seen)) ∷ [] }
@@ -298,7 +300,8 @@ fn put(board: &Board, place: &mut Place, entry: Entry) -> Result<u32, (Entry, Le
     ledger.enter(entry)
 }
 
-/// The length of the ledger that the place has, and whether all its entries hold the span.
+/// Returns the length of the ledger that the place has, and whether all its entries hold the span. Fails
+/// only with `Memory`.
 fn held(board: &Board, place: &mut Place, span: &Span) -> Result<(u32, bool), LedgerFault>
     requires place { place.old.table_id ≡ board.now.shared.table_id }
     requires ledger { place.old.me.1 ≡ (0, Some (entries_after place.old.me.0.seen)) ∷ [] }
@@ -339,7 +342,7 @@ fn gather(board: &Board, place: &mut Place, seats: Vec<Seat>)
     board.shared.load::<Claims>(place, 0);
 }
 
-/// Takes the ledger for good.
+/// Returns the ledger that the place has, and leaves none.
 fn take(board: &Board, place: &mut Place) -> Ledger
     requires place { place.old.table_id ≡ board.now.shared.table_id }
     requires ledger { place.old.me.1 ≡ (0, Some (entries_after place.old.me.0.seen)) ∷ [] }

@@ -1,12 +1,12 @@
-//! What a seat of the shared ledger knows: plain data, of which no value is made.
+//! What a seat of the shared ledger knows: types for contracts alone, of which no value is made.
 use crate::entry::Entry;
 use std::collections::LinkedList;
 
 /// A call on a ledger.
 pub enum Call {
-    /// An entry is put into the ledger.
+    /// Adds an entry.
     Enter(Entry),
-    /// Its length is looked at.
+    /// Reads the ledger's length.
     Look,
 }
 
@@ -17,14 +17,14 @@ pub struct Step {
     pub reply: u64,
 }
 
-/// What a seat is about to do.
+/// What a seat does next.
 pub enum Stage {
-    /// It was split off, and has not learned its number.
+    /// It was split off, and has not learned its number yet.
     Fresh,
     Idle,
     /// It has a ticket.
     Waiting,
-    /// It has the turn, and the ledger.
+    /// It has the turn and the ledger.
     Turn,
     /// It was joined into another one.
     Spent,
@@ -33,17 +33,17 @@ pub enum Stage {
 /// What a seat knows.
 pub struct View {
     pub number: u64,
-    /// The numbers of seats that it knows to be given are less than this.
+    /// Each seat number that it knows to be given is less than this.
     pub given: u64,
     /// The history that it has seen.
     pub seen: LinkedList<Step>,
-    /// The history that it was told of.
+    /// The history that it learned from another seat.
     pub told: LinkedList<Step>,
     /// Its own calls.
     pub own: LinkedList<Step>,
     pub stage: Stage,
     pub ticket: u64,
-    /// What the seats had seen and called that were gathered in its turn.
+    /// What the seats that it took in during its turn had seen and called.
     pub claims: LinkedList<Claim>,
 }
 

@@ -1,4 +1,4 @@
--- What a ledger holds of a task's credit, and what is finished where it does.
+-- What a ledger holds of a task's credit, and what is finished then.
 use Rattle.std.specs.Prelude.{ℕ, List}
 use Rattle.ompt_events.specs.declared.records.Record.{Record}
 use Rattle.ompt_events.specs.Coverage.{IsFamily}
@@ -8,13 +8,13 @@ use Rattle.credit_ledger.specs.declared.entry.Cover.TheVariants.{Children}
 use Rattle.credit_ledger.specs.Entries.{tree_shares, IsChildHeld}
 use Rattle.trace_ledger.specs.Entries.{IsDone}
 
--- the entries hold the share of its root's credit with which the task at the path starts; for a root that is
--- all of it
+-- the entries hold the share of its root's credit with which the task at the path starts; for a root this
+-- is the whole credit
 abbrev pub IsHeldInTree : List Entry → ℕ → List ℕ → Type 0
 IsHeldInTree entries root path = Hold (tree_shares root entries) (start_share path)
 
--- they hold the share of its parent's pool with which the child with the number starts; the parent stands at
--- the path
+-- the entries hold the share of its parent's pool with which the child with the number starts; the parent
+-- is at the path
 abbrev pub IsHeldInPool : List Entry → ℕ → List ℕ → ℕ → Type 0
 IsHeldInPool entries root path number = IsChildHeld entries root path number Children
 

@@ -15,7 +15,7 @@ use Rattle.ompt_events.specs.CauseNames.{cause_number}
 use Rattle.ompt_events.specs.Causes.{IsFreeOf, ShowsNowhere}
 use Rattle.credit_ledger.specs.declared.entry.Entry.{Entry}
 
--- what a finishing record brings back, by what it claims
+-- the entry of a finishing record, by its claim
 abbrev pub claimed_entry : ℕ → ℕ × Part → Claim → Entry
 claimed_entry thread finished c =
     record {
@@ -30,12 +30,12 @@ claimed_entry thread finished c =
 abbrev pub entry_of : Record → Option Entry
 entry_of r = option_and_then (λ f. option_map (claimed_entry r.thread f) (claim r.body)) (finish r.body)
 
--- the record at a place makes the entry, with this index in the ledger
+-- the record at place i makes the entry, with this index in the ledger
 pub record IsEntryAt (rs : List Record) (i index : ℕ) (entry : Entry) : Type 0 where
   pub made : option_and_then entry_of (slice_get rs i) ≡ Some entry
   pub seen : seen_at rs i ≡ index
 
--- the ledger's entries are those of the trace, each where its record says
+-- the ledger's entries are those of the trace, each at the index that its record names
 abbrev pub IsLedgerOf : List Record → List Entry → Type 0
 IsLedgerOf rs entries =
     (index : ℕ) (entry : Entry) → (slice_get entries index ≡ Some entry)
@@ -45,7 +45,7 @@ IsLedgerOf rs entries =
 abbrev pub IsDone : List Record → ℕ → ℕ → Type 0
 IsDone rs n task = IsFinished rs (λ k. seen_at rs k < n) task
 
--- ---- what a ledger stands on
+-- ---- what a ledger requires
 
 -- where two records finish one task, they finish different parts of it, and neither finishes all of it
 abbrev pub IsFinishedInParts : List Record → Type 0
@@ -53,8 +53,8 @@ IsFinishedInParts rs =
     (i j task : ℕ) (part other : Part) → i ≢ j → at finish rs i ≡ Some (task, part)
     → at finish rs j ≡ Some (task, other) → (part ≢ Whole) × (part ≢ other)
 
--- the finishing records make a ledger whose credit tells which tasks are finished. Only the shares that are
--- claimed speak of the order in which the records stand.
+-- the finishing records make a ledger whose credit says which tasks are finished. Only the claimed shares
+-- depend on the order of the records.
 pub record HasRightEntries (rs : List Record) : Type 0 where
   -- no task is made twice, and no parallel region begun twice
   pub once : IsFreeOf rs CreatedTwice
@@ -64,7 +64,7 @@ pub record HasRightEntries (rs : List Record) : Type 0 where
   pub parts : IsFinishedInParts rs
   -- no two finishing records name one index of the ledger
   pub apart : IsFreeOf rs EntryTwice
-  -- and none names an index past the ledger's end
+  -- no finishing record names an index past the ledger's end
   pub within : IsFreeOf rs LengthAhead
 
 -- ---- causes up to a number
@@ -73,6 +73,6 @@ pub record HasRightEntries (rs : List Record) : Type 0 where
 abbrev pub IsFreeUpTo : List Record → ℕ → Type 0
 IsFreeUpTo rs number = (cause : Cause) → cause_number cause ≤ number → IsFreeOf rs cause
 
--- the trace shows none of them
+-- the trace shows no cause with this number or a lower one
 abbrev pub ShowsNoneUpTo : List Record → ℕ → Type 0
 ShowsNoneUpTo rs number = (cause : Cause) → cause_number cause ≤ number → ShowsNowhere rs cause

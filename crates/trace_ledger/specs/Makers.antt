@@ -7,7 +7,7 @@ use Rattle.ompt_events.specs.Places.{seen_at}
 use Rattle.ompt_events.specs.HappensBefore.{IsFinishing}
 use Rattle.ompt_events.specs.Causes.{entries_in, IsFreeOf}
 
--- one of the first n records makes the entry
+-- the record at the place, one of the first n, makes the entry
 abbrev pub IsEntryRecord : List Record → ℕ → ℕ → ℕ → Type 0
 IsEntryRecord rs n index place = (place < n) × IsFinishing rs place × (seen_at rs place ≡ index)
 
@@ -17,8 +17,8 @@ free_entries [] = zero
 free_entries (None ∷ makers) = suc (free_entries makers)
 free_entries (Some place ∷ makers) = free_entries makers
 
--- the table has a place for each entry, and of the first n records those that make one; each of them where
--- none names the entry of another or one past the end
+-- the table has an item for each entry, and has only records among the first n, each at its entry; it has
+-- all of these that finish, unless two records name one entry or one names an entry past the end
 pub record AreEntryRecords (rs : List Record) (n : ℕ) (makers : List (Option ℕ)) : Type 0 where
   pub entries : length makers ≡ entries_in rs
   pub makes : (index place : ℕ) → slice_get makers index ≡ Some (Some place) → IsEntryRecord rs n index place

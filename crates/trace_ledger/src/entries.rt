@@ -6,7 +6,8 @@ use credit_ledger::Entry;
 use ompt_events::{Record, finish};
 use std::alloc::{AllocError, Global};
 
-/// The entry that the record makes, by what it claims; a record that finishes no task makes none.
+/// Returns the entry that the record makes, by its claim, or `None` if the record finishes no task. Fails
+/// only when out of memory.
 pub(crate) fn entry_of(alloc: Global, event: &Record) -> Result<Option<Entry>, AllocError>
     ensures { IfOk result (λ entry. entry ≡ entry_of event.now) }
 {

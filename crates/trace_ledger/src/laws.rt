@@ -1,5 +1,5 @@
-//! What the ledger of a trace tells of tasks: laws over the definitions alone, proved for every trace. The
-//! functions do nothing.
+//! What the ledger of a trace says of tasks. These are laws about the definitions alone, proved for every
+//! trace. The functions do nothing.
 ghost use Rattle.std.specs.Prelude.{◌≡◌, ◌≢◌, ◌↔◌, ℕ, false, List, take};
 ghost use Rattle.ompt_events.specs.declared.records.Record.{Record};
 ghost use Rattle.ompt_events.specs.Traces.{IsTrace};
@@ -13,9 +13,9 @@ ghost use Rattle.trace_ledger.specs.Entries.{IsEntryAt, IsLedgerOf, IsDone, HasR
 ghost use Rattle.trace_ledger.specs.Entries.{IsFreeUpTo, ShowsNoneUpTo};
 ghost use Rattle.trace_ledger.specs.Credits.{IsHeldInTree, IsHeldInPool, IsFamilyDone};
 
-/// Records without the causes 1 to 13 have right entries, and so have the records of a trace in the tasks'
-/// own order where it shows none of these causes, as a list and as the records of a run. Right entries are all
-/// that the other laws ask for.
+/// Records without the causes 1 to 13 have right entries. If a trace shows none of these causes, its
+/// records in the tasks' own order have right entries, as a list and as the records of a run. The other
+/// laws require right entries; two of them also require `IsTrace`.
 pub fn entries_are_right()
     ensures listed { (rs : List Record) → IsFreeUpTo rs 13 → HasRightEntries rs }
     ensures shown { (rs : List Record) → ShowsNoneUpTo rs 13 → HasRightEntries (in_own_order rs) }
@@ -23,10 +23,10 @@ pub fn entries_are_right()
         → HasRightEntries own.run.records }
 {}
 
-/// Credit that is held means finished tasks. In a trace with right entries the first n entries finish a
-/// task exactly where they hold the share with which it starts in its parent's pool, and the task with all
-/// its descendants exactly where they hold the share with which it starts in its root's tree
-/// (F. Mattern, 1989: work is over exactly where all of its credit has come back).
+/// Held credit means finished tasks. In a trace with right entries, the first n entries finish a task if
+/// and only if they hold the share with which it starts in its parent's pool. They finish the task and all
+/// its descendants if and only if they hold the share with which it starts in its root's tree (F. Mattern,
+/// 1989: work is over exactly where all of its credit has come back).
 pub fn held_is_done()
     ensures pool { (rs : List Record) (entries : List Entry) (n root parent number task : ℕ) (path : List ℕ)
         → IsTrace rs → HasRightEntries rs → IsLedgerOf rs entries
@@ -38,15 +38,15 @@ pub fn held_is_done()
         → IsFamilyDone rs n task ↔ IsHeldInTree (take n entries) root path }
 {}
 
-/// Entries of two records don't overlap: in records with right entries no two of them bring back one share,
-/// or a share and a part of it, neither of a root's tree nor of a pool.
+/// Entries of two records do not overlap: in records with right entries, no two of them bring back the
+/// same share, or a share and a part of it, of a root's tree or of a pool.
 pub fn entries_are_apart()
     ensures { (rs : List Record) (i j index other : ℕ) (e f : Entry)
         → HasRightEntries rs → i ≢ j → IsEntryAt rs i index e → IsEntryAt rs j other f
         → is_overlap e f ≡ false }
 {}
 
-/// Each trace with right entries has a ledger: its finishing records make the entries, one an index.
+/// Each trace with right entries has a ledger. Its finishing records make the entries, one for each index.
 pub fn ledger_is_there()
     ensures { (rs : List Record) → IsTrace rs → HasRightEntries rs
         → (entries : List Entry) × IsLedgerOf rs entries }

@@ -1,4 +1,4 @@
-//! The ledger that a trace's finishing records make.
+//! The ledger that the finishing records of a trace make.
 ghost use Rattle.std.specs.Prelude.{◌≡◌, ◌++◌, ◌∷◌, [], Some, IfOk, OnOk, IsOkUnless};
 ghost use Rattle.ompt_events.specs.Traces.{IsSound};
 ghost use Rattle.credit_ledger.specs.declared.entry.Entry.{Entry};
@@ -14,9 +14,10 @@ use ompt_events::Record;
 use std::alloc::Global;
 use task_tree::Run;
 
-/// The ledger of the run: each finishing record's entry stands at the index that the record names. Where the
-/// records have right entries, as those without the causes 1 to 13 have (`laws::entries_are_right`), it has
-/// all of them and no other, and `Memory` is the only refusal; else nothing is promised.
+/// Returns the ledger of the run: the entry of each finishing record is at the index that the record
+/// names. If the records have right entries, as those without the causes 1 to 13 have
+/// (`laws::entries_are_right`), the ledger has all these entries and no other, and the call fails only
+/// with `Memory`. The contract guarantees nothing else.
 pub fn ledger_of(alloc: Global, run: &Run) -> Result<Ledger, LedgerFault>
     ensures ledger { HasRightEntries run.now.records
         → IfOk result (λ ledger. IsLedgerOf run.now.records ledger) }
@@ -35,7 +36,8 @@ pub fn ledger_of(alloc: Global, run: &Run) -> Result<Ledger, LedgerFault>
     Ok(ledger)
 }
 
-/// Enters what the record brings back.
+/// Enters what the record brings back, if it finishes a task. Requires a sound body. Fails with the
+/// ledger's fault; if the entry is possible, only with `Memory`.
 fn enter(alloc: Global, event: &Record, ledger: &mut Ledger) -> Result<(), LedgerFault>
     requires { IsSound event.now.body }
     ensures entered { (entry : Entry) → entry_of event.now ≡ Some entry

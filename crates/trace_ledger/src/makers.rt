@@ -7,7 +7,8 @@ use ompt_events::finish;
 use std::alloc::{AllocError, Global};
 use task_tree::Run;
 
-/// By entry the place of the record that makes it, if one does. Takes as many steps as there are records.
+/// Returns by entry the place of the record that makes it, if one does. Fails only when out of memory.
+/// Takes as many steps as there are records.
 pub(crate) fn find_makers(alloc: Global, run: &Run) -> Result<Vec<Option<u32>>, AllocError>
     ensures { IfOk result (λ makers. AreEntryRecords run.now.records (length run.now.records) makers.items) }
 {
@@ -20,7 +21,7 @@ pub(crate) fn find_makers(alloc: Global, run: &Run) -> Result<Vec<Option<u32>>, 
     Ok(makers)
 }
 
-/// How many entries the records make.
+/// Returns how many entries the records make.
 fn entry_count(run: &Run) -> usize
     ensures { result ≡ entries_in run.now.records }
 {
@@ -30,7 +31,7 @@ fn entry_count(run: &Run) -> usize
         .count()
 }
 
-/// The record at a place makes the entry, if the table has it.
+/// Records that the record at a place makes the entry, if the table has that entry.
 fn name_maker(makers: &mut Vec<Option<u32>>, entry: usize, at: u32)
     ensures { makers.new.items ≡ slice_set makers.old.items entry (Some at) }
 {
