@@ -107,7 +107,7 @@ places_of rs task =
 abbrev pub moves_of : List Record → ℕ → List (ℕ × Move)
 moves_of rs task = flat_map (moves_at rs task) (places_of rs task)
 
--- whether the task runs on another thread than its home, as turns tell
+-- whether the task runs on another thread than its home, as its recorded turns show
 abbrev pub has_moved : List Record → ℕ → Bool
 has_moved rs task = is_some (find (λ i. is_told_start i && not (is_on rs (home_of rs task) i)) (places rs))
   where
