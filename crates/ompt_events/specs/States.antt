@@ -166,7 +166,8 @@ pub data Nature : Type 0 where
   Wait : Nature
   Plain : Nature
 
--- a root yields, switches and runs next alone; a taskwait completes alone, and no other task does so
+-- a root only yields, switches and runs next; a taskwait with dependences only has the status
+-- `taskwait_complete`, and no other task has it
 abbrev pub may : Nature → Move → Bool
 may Root (Stopped status.Yield) = true
 may Root (Stopped status.Switch) = true
