@@ -125,7 +125,8 @@ turn_ends_at rs task turn i =
     stopped_there : List Move
     stopped_there = option_map_or (λ (r : Record). stops task r.body) (slice_get rs i) []
 
--- whether the move fulfils the task's event before its body has ended; begins or ends a turn; or does neither
+-- whether the move fulfils the task's event before its body has ended; begins or ends a turn; or does
+-- neither
 abbrev pub is_early_move : Move → Bool
 is_early_move (Stopped status.EarlyFulfill) = true
 is_early_move _ = false
@@ -148,7 +149,8 @@ abbrev pub turn_moves : List Record → ℕ → ℕ → List (ℕ × Move)
 turn_moves rs task turn =
     flat_map (turn_starts_at rs task turn) (places rs) ++ flat_map (turn_ends_at rs task turn) (places rs)
 
--- the moves of a task that moved: early fulfilments, then turn by turn its start and its end, then all others
+-- the moves of a task that moved: early fulfilments, then turn by turn its start and its end, then all
+-- others
 abbrev pub moved_moves : List Record → ℕ → List (ℕ × Move)
 moved_moves rs task =
     moves_by_file rs task is_early_move

@@ -62,7 +62,8 @@ moves_in pass rs gone task = flat_map (moves_at rs task) (filter (is_read pass r
 abbrev pub turned : List Record → ℕ → ℕ → List (ℕ × states.Move)
 turned rs n task = if has_moved rs task then flat_map (turn_moves rs task) (range_with_len 0 n) else []
 
--- the moves of a task that were read before the pass: before the last one also all turns of a task that moved
+-- the moves of a task that were read before the pass: before the last one also all turns of a task that
+-- moved
 abbrev pub read_before : Pass → List Record → ℕ → List (ℕ × states.Move)
 read_before Early rs task = []
 read_before Home rs task = moves_in Early rs (places rs) task
@@ -109,7 +110,8 @@ abbrev pub earlier_of : Option ℕ → ℕ → ℕ
 earlier_of None at = at
 earlier_of (Some first) at = if ltb first at then first else at
 
--- the first place at which a move was not allowed, after a move at this place from the one state to the other
+-- the first place at which a move was not allowed, after a move at this place from the one state to the
+-- other
 abbrev pub refused_after : Option ℕ → Option State → Option State → ℕ → Option ℕ
 refused_after refused (Some state) None at = Some (earlier_of refused at)
 refused_after refused _ _ at = refused

@@ -77,8 +77,8 @@ impl Progress {
     }
 
     /// Applies one move of a task if this pass reads the record for the task. Returns whether it does.
-    // It is inlined, as are `go_on`, `note_next` and `read`, so that each pass has a copy of its own, in which the
-    // tests for the other passes are left out: that takes half as long as a call.
+    // It is inlined, as are `go_on`, `note_next` and `read`, so that each pass has a copy of its own, in
+    // which the tests for the other passes are left out: that takes half as long as a call.
     #[inline(always)]
     fn note(&mut self, origins: &Origins, pass: Pass, moved: TaskMove) -> bool
         requires all { length self.old.states ≡ length origins.now.family.tasks }

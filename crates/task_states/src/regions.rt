@@ -77,9 +77,10 @@ impl<'a> Regions<'a> {
     }
 }
 
-/// Returns for each record the begin that an end belongs to, or the innermost region of the task that is open
-/// when a begin opens another. Fails with the first place in the file of an end that belongs to no begin, or
-/// of a begin or end of a barrier by an explicit task. Such a record opens or closes a region as any other.
+/// Returns for each record the begin that an end belongs to, or the innermost region of the task that is
+/// open when a begin opens another. Fails with the first place in the file of an end that belongs to no
+/// begin, or of a begin or end of a barrier by an explicit task. Such a record opens or closes a region as
+/// any other.
 fn find_links(alloc: Global, own: &Own) -> Result<Vec<Slot>, Fault>
     ensures linked { IfOk result (λ links.
         AreLinked own.now.run.records (length own.now.run.records) links.items) }
