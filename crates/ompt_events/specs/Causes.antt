@@ -1,5 +1,5 @@
--- Why no run within the model gives a list of records. Each cause is a fact about the list alone,
--- and assumes that no lower-numbered cause occurs.
+-- Why no run within the model can produce a list of records. Each cause is a fact about the list alone, and
+-- assumes that no lower-numbered cause occurs.
 use Rattle.std.specs.Prelude.{true, None, ℕ, ◌≡◌, ◌≢◌, ◌<◌, ◌≤◌, ◌+◌, ◌==◌, List, [], length, take, Some}
 use Rattle.std.specs.Prelude.{Contains, count_by, slice_get, is_some, if◌then◌else◌}
 use Rattle.ompt_events.specs.declared.records.Record.{Record}
@@ -74,7 +74,8 @@ pub record IsNotCurrent (rs : List Record) (i : ℕ) : Type 0 where
   pub misfits : MisfitsAt rs i
   pub first : (k : ℕ) → k < i → thread_at rs k ≡ thread_at rs i → MisfitsAt rs k → ⊥
 
--- an explicit task runs next that ran next earlier in file order on another thread, and no turns are told
+-- an explicit task runs next that ran next earlier in file order on another thread, and no turns are
+-- recorded
 abbrev pub IsMoved : List Record → ℕ → Type 0
 IsMoved rs i =
     (task k : ℕ) × IsExplicit rs task × (at started rs i ≡ Some task) × (k < i)
@@ -85,11 +86,11 @@ pub data BeginsTurn (rs : List Record) (i task : ℕ) : ℕ → Type 0 where
   runs : {turn : ℕ} → at begun_turn rs i ≡ Some (task, turn) → BeginsTurn rs i task turn
   is_root : at begun_root rs i ≡ Some task → BeginsTurn rs i task 0
 
--- turns are told at the record, and the task runs next in this turn
+-- turns are recorded at the record, and the task runs next in this turn
 abbrev pub TellsStart : List Record → ℕ → ℕ → ℕ → Type 0
 TellsStart rs i task turn = (at told_turns rs i ≢ None) × (at begun_turn rs i ≡ Some (task, turn))
 
--- the turns that the record tells are not those of its tasks
+-- the turns that the record has are not those of its tasks
 pub data HasTurnGap (rs : List Record) (i : ℕ) : Type 0 where
   -- the prior task is in another turn
   other_turn : (told : Turns) → at told_turns rs i ≡ Some told → told.prior ≢ turn_at rs i → HasTurnGap rs i
@@ -143,7 +144,7 @@ pub data IsShort (rs : List Record) (i : ℕ) : Type 0 where
       → IsBarrierBegin rs task number begin → IsTeammate rs task member
       → ((start : ℕ) → IsBarrierBegin rs member number start → ⊥) → IsShort rs i
 
--- where the thread of the record stands before it
+-- the walk of the record's thread before it
 abbrev pub IsWalkAt : List Record → ℕ → Walk → Type 0
 IsWalkAt rs i walk = (r : Record) × (slice_get rs i ≡ Some r) × (walk ≡ walk_of r.thread (take i rs))
 
@@ -180,7 +181,7 @@ pub data HasMisplacedDeps (rs : List Record) (i : ℕ) : Type 0 where
   missing : is_some (at created_with_deps rs i) ≡ true → ((b : ℕ) → AreFollowed rs i b → ⊥)
       → HasMisplacedDeps rs i
 
--- the claim is right: the task stands there below its root, and has so many children
+-- the claim is right: the task is at this path below its root, and has this many children
 pub record IsRightClaim (rs : List Record) (task : ℕ) (claimed : Claim) : Type 0 where
   pub stands : HasPath rs claimed.root task claimed.path
   pub kept : claimed.kept ≡ length (children rs task)
@@ -195,11 +196,11 @@ HasWrongShare rs i =
 abbrev pub RepeatsEntry : List Record → ℕ → Type 0
 RepeatsEntry rs i = (k : ℕ) × (k < i) × IsFinishing rs k × IsFinishing rs i × (seen_at rs k ≡ seen_at rs i)
 
--- how long the ledger gets
+-- the ledger length after all records
 abbrev pub entries_in : List Record → ℕ
 entries_in rs = count_by (λ r. is_some (finish r.body)) rs
 
--- the record names more of the ledger than there ever is
+-- the record names a greater length than the ledger ever has
 pub data IsAhead (rs : List Record) (i : ℕ) : Type 0 where
   entry : IsFinishing rs i → entries_in rs ≤ seen_at rs i → IsAhead rs i
   ledger_length : entries_in rs < seen_at rs i → IsAhead rs i
@@ -212,7 +213,7 @@ known_after rs i = if is_some (at finish rs i) then seen_at rs i + 1 else seen_a
 abbrev pub IsBehind : List Record → ℕ → Type 0
 IsBehind rs i = (k : ℕ) × IsProgramStep rs k i × (seen_at rs i < known_after rs k)
 
--- the record stands in no list in which each record has all that happens before it earlier
+-- the record is in no list that has, before each of its records, all that happens before it
 pub record HasNoOrder (rs : List Record) (i : ℕ) : Type 0 where
   pub within : i < length rs
   pub never : (order : List ℕ) → IsGrounded rs order → Contains order i → ⊥
@@ -263,7 +264,7 @@ pub record IsFirstWith (rs : List Record) (cause : Cause) (i : ℕ) : Type 0 whe
   pub has : HasCause rs i cause
   pub first : (k : ℕ) → k < i → HasCause rs k cause → ⊥
 
--- of the causes that are looked for this is the one with the least number, at its first record
+-- of the causes that are searched for this is the one with the least number, at its first record
 pub record IsMalformed (rs : List Record) (sought : List Cause) (i : ℕ) (cause : Cause) : Type 0 where
   pub sought_for : Contains sought cause
   pub found : IsFirstWith rs cause i
@@ -282,7 +283,7 @@ pub record IsFirstShown (rs : List Record) (cause : Cause) (i : ℕ) : Type 0 wh
   pub shown : Shows rs i cause
   pub first : (k : ℕ) → k < i → Shows rs k cause → ⊥
 
--- of the causes that are looked for the trace shows this one, which has the least number, first at this
+-- of the causes that are searched for the trace shows this one, which has the least number, first at this
 -- record
 pub record IsShownMalformed (rs : List Record) (sought : List Cause) (i : ℕ) (cause : Cause) : Type 0 where
   pub sought_for : Contains sought cause

@@ -36,6 +36,6 @@ IsCompleteIn rs order task i = IsFinished rs (CountsIn rs order i) task
 abbrev pub CountsAt : List Record → ℕ → ℕ → Type 0
 CountsAt rs i k = (seen_at rs k < seen_at rs i) ⊎ ((k ≡ i) × StartsTask rs i)
 
--- by what the record at i has seen of the ledger the task is complete there
+-- by the ledger length that i names, the task is complete there
 abbrev pub IsCompleteAt : List Record → ℕ → ℕ → Type 0
 IsCompleteAt rs task i = IsFinished rs (CountsAt rs i) task

@@ -40,6 +40,6 @@ cancel_flags =
 abbrev pub has_flag : ℕ → ℕ → Bool
 has_flag bits flag = bit_and bits flag == flag
 
--- each bit has a name in the table
+-- each bit that is set has a name in the table
 abbrev pub are_named : List (List ℕ × ℕ) → ℕ → Bool
 are_named table bits = nat_eq (bit_and bits (known_bits table)) bits

@@ -9,7 +9,7 @@ pub record IsStart (rs : List Record) (i task : ℕ) : Type 0 where
   pub starts : at begun_turn rs i ≡ Some (task, 0)
   pub first : (k : ℕ) → k < i → at begun_turn rs k ≢ Some (task, 0)
 
--- the task is suspended at a, and at b, another record, it runs on: its next turn begins
+-- the task is suspended at a, and at b, another record, it resumes: its next turn begins
 pub record IsResumption (rs : List Record) (a b : ℕ) : Type 0 where
   pub task : ℕ
   pub turn : ℕ
@@ -27,7 +27,7 @@ pub data IsProgramStep (rs : List Record) (a b : ℕ) : Type 0 where
   thread_order : a < b → b < length rs → thread_at rs a ≡ thread_at rs b → IsProgramStep rs a b
   -- the creation of a task, and its start
   creation : (task : ℕ) → at created rs a ≡ Some task → IsStart rs b task → IsProgramStep rs a b
-  -- the suspension of a task, and the record at which it runs on
+  -- the suspension of a task, and the record at which it resumes
   resumption : IsResumption rs a b → IsProgramStep rs a b
   -- the creation of a task, and a discard of it
   discard : (task : ℕ) → at created rs a ≡ Some task → at discarded rs b ≡ Some task → IsProgramStep rs a b

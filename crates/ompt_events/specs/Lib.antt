@@ -1,6 +1,6 @@
--- What records say and what a run's records must say, in OpenMP's words; a verdict means what stands here.
--- Read from top to bottom: single records; lists of records and the tasks, regions and teams in them;
--- what happens before what and orders; when a task is complete and where it must be; causes of a refusal.
+-- What records say and what a run's records must say, in OpenMP's words; these definitions are what a
+-- verdict means. Read from top to bottom: single records; lists of records and the tasks, regions and teams
+-- in them; what happens before what and orders; when a task is complete and where it must be; causes.
 pub mod Names
 pub mod Flags
 pub mod Records

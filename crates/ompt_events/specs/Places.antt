@@ -1,4 +1,4 @@
--- A record is spoken of by its place, a number from 0, in the list of records in file order.
+-- The place of a record is its position, from 0, in the list of records in file order.
 use Rattle.std.specs.Prelude.{ℕ, ◌==◌, Bool, false, List, length, filter, Option, slice_get, option_map}
 use Rattle.std.specs.Prelude.{option_and_then}
 use Rattle.std.specs.List.{range_with_len}

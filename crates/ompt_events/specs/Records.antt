@@ -92,12 +92,12 @@ abbrev pub started : Body → Option ℕ
 started (TaskSchedule status turns prior next share) = next
 started _ = None
 
--- the turns that the record tells: which one of the prior task ends, and which one of the next task begins
+-- the turns that the record has: which one of the prior task ends, and which one of the next task begins
 abbrev pub told_turns : Body → Option Turns
 told_turns (TaskSchedule status turns prior next share) = turns
 told_turns _ = None
 
--- the same numbers; where the record tells no turns, it is turn 0
+-- the same numbers; where the record has no turns, it is turn 0
 abbrev pub prior_turn : Body → ℕ
 prior_turn body = option_map_or (λ (t : Turns). t.prior) (told_turns body) 0
 

@@ -107,7 +107,7 @@ places_of rs task =
 abbrev pub moves_of : List Record → ℕ → List (ℕ × Move)
 moves_of rs task = flat_map (moves_at rs task) (places_of rs task)
 
--- whether the task runs on another thread than its home, as turns tell
+-- whether the task runs on another thread than its home, as its recorded turns show
 abbrev pub has_moved : List Record → ℕ → Bool
 has_moved rs task = is_some (find (λ i. is_told_start i && not (is_on rs (home_of rs task) i)) (places rs))
   where
@@ -125,7 +125,8 @@ turn_ends_at rs task turn i =
     stopped_there : List Move
     stopped_there = option_map_or (λ (r : Record). stops task r.body) (slice_get rs i) []
 
--- whether the move fulfils the task's event before its body has ended; begins or ends a turn; or does neither
+-- whether the move fulfils the task's event before its body has ended; begins or ends a turn; or does
+-- neither
 abbrev pub is_early_move : Move → Bool
 is_early_move (Stopped status.EarlyFulfill) = true
 is_early_move _ = false
@@ -148,7 +149,8 @@ abbrev pub turn_moves : List Record → ℕ → ℕ → List (ℕ × Move)
 turn_moves rs task turn =
     flat_map (turn_starts_at rs task turn) (places rs) ++ flat_map (turn_ends_at rs task turn) (places rs)
 
--- the moves of a task that moved: early fulfilments, then turn by turn its start and its end, then all others
+-- the moves of a task that moved: early fulfilments, then turn by turn its start and its end, then all
+-- others
 abbrev pub moved_moves : List Record → ℕ → List (ℕ × Move)
 moved_moves rs task =
     moves_by_file rs task is_early_move
@@ -166,7 +168,8 @@ pub data Nature : Type 0 where
   Wait : Nature
   Plain : Nature
 
--- a root yields, switches and runs next alone; a taskwait completes alone, and no other task does so
+-- a root only yields, switches and runs next; a taskwait with dependences only has the status
+-- `taskwait_complete`, and no other task has it
 abbrev pub may : Nature → Move → Bool
 may Root (Stopped status.Yield) = true
 may Root (Stopped status.Switch) = true

@@ -9,7 +9,7 @@ use Rattle.ompt_events.specs.Names.{demands_next}
 use Rattle.ompt_events.specs.Records.{running, ended_root, started, wait_completed}
 use Rattle.ompt_events.specs.Tree.{IsRoot, IsCreatedAt}
 
--- where a thread stands: its open roots, the innermost first, and the task that it runs
+-- the walk of a thread: its open roots, the innermost first, and the task that it runs
 pub record Walk : Type 0 where
   pub roots : List ℕ
   pub current : Option ℕ
@@ -32,11 +32,11 @@ after_body walk _ = walk
 abbrev pub after_record : Walk → Record → Walk
 after_record walk r = after_body walk r.body
 
--- where the thread stands after its part of the records
+-- the walk of the thread after its part of the records
 abbrev pub walk_of : ℕ → List Record → Walk
 walk_of thread rs = fold after_record at_start (filter (λ r. r.thread == thread) rs)
 
--- a record with this body speaks for a task that a thread which stands there doesn't run
+-- a record with this body speaks for a task that a thread with this walk doesn't run
 pub data Misfits (rs : List Record) (walk : Walk) (body : Body) : Type 0 where
   -- the record is of a task that isn't the current one
   not_running : (task : ℕ) → running body ≡ Some task → walk.current ≢ Some task → Misfits rs walk body

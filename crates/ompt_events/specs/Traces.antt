@@ -23,7 +23,7 @@ pub record TraceView : Type 0 where
   pub version : ℕ
   pub records : List Record
 
--- each bit has a name in the table
+-- each bit that is set has a name in the table
 abbrev pub AreNamed : List (List ℕ × ℕ) → ℕ → Type 0
 AreNamed table bits = bit_and bits (known_bits table) ≡ bits
 
@@ -37,7 +37,7 @@ abbrev pub BeginsOrEnds : Body → Type 0
 BeginsOrEnds (ImplicitTask BeginEnd actual index given parallel task) = ⊥
 BeginsOrEnds _ = ⊤
 
--- a record that can stand in a trace, as far as it alone shows
+-- a record that can be in a trace, as far as it alone shows
 pub record IsSound (body : Body) : Type 0 where
   pub named_flags : IfSome (flags body) (AreNamed task_flags)
   pub named_cancellation : IfSome (cancellation body) (AreNamed cancel_flags)
@@ -90,11 +90,11 @@ pub record IsTrace (rs : List Record) : Type 0 where
   pub sound : All (λ r. IsSound r.body) rs
   pub in_range : All IsInRange rs
 
--- turns are told in version 2, and there where a task runs next
+-- turns are recorded in version 2, and there where a task runs next
 abbrev pub HasItsTurns : ℕ → Body → Type 0
 HasItsTurns version body = is_some (told_turns body) ≡ ((version == 2) && is_some (started body))
 
--- a record that can stand in a trace of this version, as far as it alone shows
+-- a record that can be in a trace of this version, as far as it alone shows
 abbrev pub IsSoundIn : ℕ → Body → Type 0
 IsSoundIn version body = IsSound body × HasItsTurns version body
 

@@ -58,7 +58,7 @@ children_between rs parent begin i = drop (child_number rs parent begin) (childr
 abbrev pub IsChild : List Record → ℕ → ℕ → ℕ → Type 0
 IsChild rs parent number task = slice_get (children rs parent) number ≡ Some task
 
--- the task stands below the root at this path, the numbers of the children from the root down
+-- the task is below the root at this path, the numbers of the children from the root down
 pub data HasPath (rs : List Record) (root : ℕ) : ℕ → List ℕ → Type 0 where
   top : IsRoot rs root → HasPath rs root root []
   below : (number : ℕ) {parent task : ℕ} {path : List ℕ} → HasPath rs root parent path

@@ -1,7 +1,7 @@
--- In which turn of a task a record is, and the order in which the tasks' own records stand. A task runs in
--- turns: turn 0 from its start, or from its begin where it is a root, and one more each time that it runs on.
--- An untied task may run on on another thread (OpenMP 5.2, 12.1 and 12.9: untied tasks, task scheduling), so
--- its records go by turns, and not by the order in which the file has them.
+-- In which turn of a task a record is, and the tasks' own order of records. A task runs in turns: turn 0
+-- from its start, or from its begin where it is a root, and one more each time that it resumes. An untied
+-- task may resume on another thread (OpenMP 5.2, 12.1 and 12.9: untied tasks, task scheduling), so its
+-- records go by turns, and not by the order in which the file has them.
 use Rattle.std.specs.Prelude.{ℕ, suc, max, ◌≡◌, ◌==◌, ◌&&◌, Bool, false, List, Option, None, if◌then◌else◌}
 use Rattle.std.specs.Prelude.{take, slice_get, filter, fold}
 use Rattle.std.specs.List.{range_with_len, filter_map, flat_map, position_or_len}
@@ -10,7 +10,7 @@ use Rattle.ompt_events.specs.declared.records.Record.{Record}
 use Rattle.ompt_events.specs.Records.{running, told_turns, begun_turn}
 use Rattle.ompt_events.specs.Places.{at, places}
 
--- no record tells a turn
+-- no record has turns
 abbrev pub TellsNoTurns : List Record → Type 0
 TellsNoTurns rs = (i : ℕ) → at told_turns rs i ≡ None
 
@@ -41,11 +41,11 @@ abbrev pub own_places : List Record → List ℕ
 own_places rs =
     flat_map (λ turn. filter (λ i. turn_at rs i == turn) (places rs)) (range_with_len 0 (turns_in rs))
 
--- the records in that order: in it the records of each task stand in the task's own order
+-- the records in that order: in it the records of each task are in the task's own order
 abbrev pub in_own_order : List Record → List Record
 in_own_order rs = filter_map (slice_get rs) (own_places rs)
 
--- where the record at the place stands in that order
+-- the number, in that order, of the record at the place
 abbrev pub own_place : List Record → ℕ → ℕ
 own_place rs i = position_or_len (λ k. k == i) (own_places rs)
 

@@ -1,6 +1,6 @@
--- What a trace of version 1 is in version 2, where turns are told. They are counted along the file, so each
--- task must run on one thread alone: where an untied task runs on on another one (OpenMP 5.2, 12.1), the
--- order of the file does not tell its turns.
+-- What a trace of version 1 is in version 2, where turns are recorded. They are counted along the file, so
+-- each task must run on one thread alone: where an untied task resumes on another one (OpenMP 5.2, 12.1),
+-- the order of the file does not show its turns.
 use Rattle.std.specs.Prelude.{ℕ, ◌≡◌, ◌≢◌, ◌<◌, ◌+◌, List, length, Some, take, count_by, slice_get}
 use Rattle.std.specs.Prelude.{if◌then◌else◌}
 use Rattle.std.specs.Option.{option_map_or}
@@ -38,7 +38,7 @@ turn_counted rs i task =
     count_by (λ (r : Record). is_task task (started r.body)) (take i rs)
     + (if is_made_so (λ b. is_task task (begun_root b)) rs then 1 else 0)
 
--- the same body, which tells these turns
+-- the same body, with these turns
 abbrev pub telling : Turns → Body → Body
 telling told (TaskSchedule status turns prior next share) = TaskSchedule status (Some told) prior next share
 telling told body = body
@@ -50,7 +50,7 @@ body_upgraded rs ss i body =
     option_map_or (λ task. telling (record { prior = turn_at ss i; next = turn_counted rs i task }) body)
     (started body) body
 
--- the records ss are the records rs, but for turns, which ss tells and rs does not
+-- the records ss are the records rs, but for turns, which ss has and rs does not
 pub record IsUpgrade (rs ss : List Record) : Type 0 where
   pub all : length ss ≡ length rs
   pub each : (i : ℕ) (r : Record) → slice_get rs i ≡ Some r → slice_get ss i ≡ Some (record {

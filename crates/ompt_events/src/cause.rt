@@ -1,8 +1,8 @@
-//! Why no run within the model gives a list of records: the causes, with their numbers and names.
+//! The causes of malformed records, with their numbers and names.
 ghost use Rattle.std.specs.Prelude.{◌≡◌, ◌↔◌, Some};
 ghost use Rattle.ompt_events.specs.CauseNames.{cause_name, cause_number};
 
-/// Why the records are malformed: no run within the model gives them. If several causes occur, the
+/// Why the records are malformed: no run within the model can produce them. If several causes occur, the
 /// lowest-numbered one is reported.
 #[derive(Clone, Copy, Debug, PartialEq, Eq)]
 pub enum Cause {
@@ -14,15 +14,15 @@ pub enum Cause {
     Rootless,
     /// A record speaks for a task that its thread is not running.
     NotCurrent,
-    /// An explicit task runs on a second thread, in a file of version 1, which cannot tell its turns.
+    /// An explicit task runs on a second thread, in a file of version 1, which does not record turns.
     Moved,
-    /// The turns that a record tells are not those of its tasks, in a file of version 2.
+    /// The turns that a record has are not those of its tasks, in a file of version 2.
     TurnGap,
-    /// A status that the task's state does not allow.
+    /// A record changes a task in a way that the task's state does not allow.
     StatusOrder,
-    /// A region's end without its begin, or a barrier of an explicit task.
+    /// A region ends without its begin, or an explicit task has a barrier.
     RegionOrder,
-    /// A team lacks a member, or a member a barrier.
+    /// A team lacks a member, or a member lacks a barrier.
     TeamShort,
     /// A parallel region inside another.
     NestedParallel,
@@ -42,7 +42,7 @@ pub enum Cause {
     TargetTask,
 }
 
-// The table of numbers and names; the first word names the shape that its rows are put into.
+// The table of numbers and names; the first word names the code that its rows become.
 macro_rules! causes {
     ($shape:ident $value:expr) => {
         $shape! {
@@ -94,22 +94,22 @@ macro_rules! value_of {
 }
 
 impl Cause {
-    /// The number, from 1 to 16. Of the causes that occur the lowest-numbered one is reported. Moved and
-    /// TurnGap share the number 5, since each occurs in one version of the file alone.
+    /// Returns the number, from 1 to 16. Of the causes that occur, the lowest-numbered one is reported.
+    /// Moved and TurnGap share the number 5, since each occurs in only one version of the file.
     pub fn number(self) -> u8
         ensures { result ≡ cause_number self }
     {
         causes!(number_of self)
     }
 
-    /// The name in a report.
+    /// Returns the name of the cause in a report.
     pub fn name(self) -> &'static str
         ensures { result.now ≡ cause_name self }
     {
         causes!(name_of self)
     }
 
-    /// The cause of this name, if one has it.
+    /// Returns the cause with this name, if there is one.
     pub fn from_name(name: &str) -> Option<Self>
         ensures { (cause : Cause) → (result ≡ Some cause) ↔ (cause_name cause ≡ name.now) }
     {

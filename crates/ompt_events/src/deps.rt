@@ -1,4 +1,4 @@
-//! What a task depends on, as a list that contracts see as such.
+//! The dependences of a task. Contracts see them as a list.
 ghost use Rattle.std.specs.Prelude.{◌≡◌, ◌<◌, ◌^◌, All};
 
 use crate::names::DepKind;
@@ -14,7 +14,7 @@ pub struct Dep {
 }
 
 impl Dep {
-    /// The location is a number of 64 bits.
+    /// Ensures that the location is a number of 64 bits.
     fn read_location(&self)
         ensures { self.now.var < 2 ^ 64 }
     {
@@ -22,7 +22,7 @@ impl Dep {
     }
 }
 
-/// The dependences of a task, in the order in which the runtime tells them.
+/// The dependences of a task, in the order in which the runtime reports them.
 #[derive(Debug, Drop)]
 pub struct Deps {
     items: Vec<Dep>,
@@ -54,7 +54,7 @@ impl PartialEq for Deps {
 }
 
 impl Deps {
-    /// The list of these dependences. Takes no memory.
+    /// Returns the list of these dependences. Takes no memory.
     pub fn from_vec(items: Vec<Dep>) -> Deps
         ensures { result ≡ items.items }
     {
@@ -62,21 +62,21 @@ impl Deps {
         Deps { items }
     }
 
-    /// The dependences in order.
+    /// Returns the dependences in order.
     pub fn as_slice(&self) -> &[Dep]
         ensures { result.now ≡ self.now }
     {
         self.items.as_slice()
     }
 
-    /// Each location is a number of 64 bits. Compiled, it is nothing.
+    /// Ensures that each location is a number of 64 bits. Compiles to nothing.
     pub(crate) fn read_numbers(&self)
         ensures { All (λ d. d.var < 2 ^ 64) self.now }
     {
         let _items = self.items.as_slice();
     }
 
-    /// The dependences, given back. Takes no memory.
+    /// Returns the dependences, and drops the list around them. Takes no memory.
     pub fn into_vec(self) -> Vec<Dep>
         ensures { result.items ≡ self }
     {
@@ -85,7 +85,8 @@ impl Deps {
     }
 }
 
-/// Each location is a number of 64 bits, as a body knows once it has read it. Compiled, it is nothing.
+/// Ensures that each location is a number of 64 bits: the proof has this fact once the location is read.
+/// Compiles to nothing.
 fn read_locations(items: &[Dep])
     ensures { All (λ d. d.var < 2 ^ 64) items.now }
 {

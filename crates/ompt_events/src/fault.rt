@@ -1,4 +1,4 @@
-//! Why a call on the records of a trace has no answer.
+//! Why a call on the records of a trace fails.
 ghost use Rattle.std.specs.Prelude.{◌≡◌, ◌∷◌, [], List, IfErr, OnOk};
 ghost use Rattle.ompt_events.specs.declared.records.Record.{Record};
 ghost use Rattle.ompt_events.specs.declared.fault.Fault.TheVariants.{Memory};
@@ -9,14 +9,14 @@ use crate::cause::Cause;
 use std::alloc::{AllocError, AllocFailed};
 use thiserror::Error;
 
-/// Why a call on the records of a trace has no answer. Each call says which causes it looks for.
+/// Why a call on the records of a trace fails. Each call says which causes it searches for.
 #[derive(Clone, Copy, Debug, PartialEq, Eq, Error)]
 pub enum Fault {
     /// Allocation failed.
     #[error("out of memory")]
     Memory,
-    /// The records are malformed: `at` is the first record that shows the cause, and no cause with a smaller
-    /// number that the call looks for occurs.
+    /// The records are malformed: `at` is the first record that shows the cause. No lower-numbered cause
+    /// that the call searches for occurs.
     #[error("malformed at record {at}")]
     Malformed {
         /// The place of the record, from 0.
@@ -42,7 +42,8 @@ impl<T: Drop> From<AllocFailed<T>> for Fault {
     }
 }
 
-/// Excludes a cause, given what a search for it found: refused is the first record that has it, if one does.
+/// Excludes a cause, given what a search for it found. Fails with the first record that has the cause, if
+/// one has it.
 pub fn exclude(cause: Cause, found: Option<usize>) -> Result<(), Fault>
     ensures free { OnOk result ((records : List Record) → FindsFirst records cause found
         → IsFreeOf records cause) }

@@ -4,8 +4,8 @@ ghost use Rattle.ompt_events.specs.Flags.{task_flags, cancel_flags, are_named};
 
 use bitflags::{Flag, Flags, bitflag_items};
 
-/// What kind of task a record speaks of (OpenMP 5.2, `ompt_task_flag_t`).
-/// The bits may be any; a trace holds named ones alone.
+/// The kind of task that a record is about (OpenMP 5.2, `ompt_task_flag_t`). Any bits may be set here; in a
+/// trace only named ones are.
 #[derive(Clone, Copy, Debug, PartialEq, Eq)]
 pub struct TaskFlags(pub u32);
 
@@ -72,7 +72,7 @@ impl TaskFlags {
         },
     ];
 
-    /// Whether each bit has a name.
+    /// Returns whether each bit that is set has a name.
     pub fn are_named(self) -> bool
         ensures { result ≡ are_named task_flags self.0 }
     {
@@ -102,8 +102,8 @@ impl Flags for TaskFlags {
     }
 }
 
-/// What is cancelled, and how far the cancellation has come (OpenMP 5.2, `ompt_cancel_flag_t`).
-/// The bits may be any; a trace holds named ones alone.
+/// What is cancelled, and how far the cancellation has come (OpenMP 5.2, `ompt_cancel_flag_t`). Any bits may
+/// be set here; in a trace only named ones are.
 #[derive(Clone, Copy, Debug, PartialEq, Eq)]
 pub struct CancelFlags(pub u32);
 
@@ -155,7 +155,7 @@ impl CancelFlags {
         },
     ];
 
-    /// Whether each bit has a name.
+    /// Returns whether each bit that is set has a name.
     pub fn are_named(self) -> bool
         ensures { result ≡ are_named cancel_flags self.0 }
     {

@@ -1,5 +1,5 @@
-//! What follows from the definitions of causes and moves alone. The functions do nothing: their contracts
-//! are the laws.
+//! Laws that follow from the definitions of causes and moves alone. The functions do nothing: their
+//! contracts are the laws.
 ghost use Rattle.std.specs.Prelude.{◌≡◌, ◌==◌, ◌↔◌, ◌⊎◌, ◌<◌, ℕ, List, length, filter};
 ghost use Rattle.ompt_events.specs.declared.records.Record.{Record};
 ghost use Rattle.ompt_events.specs.HappensBefore.{HappensBefore};

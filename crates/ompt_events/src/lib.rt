@@ -1,7 +1,7 @@
 //! The recorded events of an OpenMP 5.2 runtime's tool interface (OMPT), and what they mean.
 //!
-//! Each call here says what one record says (`records`), or builds a checked list of records (`trace`).
-//! Read `records`, then `names` and `flags`, then `trace`; the definitions stand in `specs/`, in the order
+//! Each call here returns what one record says (`records`), or builds a checked list of records (`trace`).
+//! Read `records`, then `names` and `flags`, then `trace`. The definitions are in `specs/`, in the order
 //! that `specs/Lib.antt` gives, and `laws` says what follows from the two hardest of them.
 #![tactic(auto)]
 

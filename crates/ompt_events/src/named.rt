@@ -1,4 +1,4 @@
-//! The tasks that a record names, without taking memory.
+//! The tasks that a record names. Nothing here takes memory.
 ghost use Rattle.std.specs.Prelude.{◌≡◌, [], ◌∷◌, ◌++◌, option_to_list};
 
 use std::marker::Model;
@@ -21,7 +21,7 @@ impl Model for NamedTasks {
 }
 
 impl NamedTasks {
-    /// No task.
+    /// Returns a list without a task.
     pub(crate) fn none() -> NamedTasks
         ensures { result ≡ [] }
     {
@@ -31,7 +31,7 @@ impl NamedTasks {
         }
     }
 
-    /// One task, and up to two more.
+    /// Returns a list of one task, and up to two more.
     pub(crate) fn of(first: u64, second: Option<u64>, third: Option<u64>) -> NamedTasks
         ensures { result ≡ first ∷ option_to_list second ++ option_to_list third }
     {
@@ -55,7 +55,7 @@ impl NamedTasks {
         }
     }
 
-    /// The tasks in order.
+    /// Returns the tasks in order.
     pub fn as_slice(&self) -> &[u64]
         ensures { result.now ≡ self.now }
     {

@@ -1,4 +1,4 @@
-//! The names of statuses, endpoints and kinds, as they stand in a file.
+//! The names of statuses, endpoints and kinds in a file.
 ghost use Rattle.std.specs.Prelude.{◌≡◌, ◌↔◌, Some};
 ghost use Rattle.ompt_events.specs.Waits.{wait_kind};
 ghost use Rattle.ompt_events.specs.Regions.{is_barrier, is_called_barrier, waits_for_tasks};
@@ -6,8 +6,8 @@ ghost use Rattle.ompt_events.specs.Names.{status_name, endpoint_name, sync_kind_
 
 use crate::records::Part;
 
-/// What a task_schedule event says of the task that stops running or is fulfilled
-/// (OpenMP 5.2, `ompt_task_status_t`).
+/// The status of the task that stops running or is fulfilled at a task_schedule event (OpenMP 5.2,
+/// `ompt_task_status_t`).
 #[derive(Clone, Copy, Debug, PartialEq, Eq)]
 pub enum Status {
     Complete,
@@ -54,7 +54,7 @@ pub enum DepKind {
     Inoutset,
 }
 
-/// What a thread is there for (OpenMP 5.2, `ompt_thread_t`).
+/// The type of a thread (OpenMP 5.2, `ompt_thread_t`).
 #[derive(Clone, Copy, Debug, PartialEq, Eq)]
 pub enum ThreadKind {
     Initial,
@@ -63,9 +63,9 @@ pub enum ThreadKind {
     Unknown,
 }
 
-// Each table stands once; the first word names the shape that its rows are put into.
+// Each table is written once; the first word names the code that its rows become.
 
-// Of each status: its name, whether another task runs next, and the part of its task that it finishes.
+// For each status: its name, whether another task runs next, and the part of its task that it finishes.
 macro_rules! statuses {
     ($shape:ident $value:expr) => {
         $shape! {
@@ -165,28 +165,28 @@ macro_rules! part_of {
 }
 
 impl Status {
-    /// The name in a file.
+    /// Returns the name in a file.
     pub fn name(self) -> &'static str
         ensures { result.now ≡ status_name self }
     {
         statuses!(name_of self)
     }
 
-    /// The status of this name, if one has it.
+    /// Returns the status with this name, if there is one.
     pub fn from_name(name: &str) -> Option<Self>
         ensures { (status : Status) → (result ≡ Some status) ↔ (status_name status ≡ name.now) }
     {
         statuses!(value_of name)
     }
 
-    /// Whether another task runs after an event with this status.
+    /// Returns whether another task runs after an event with this status.
     pub fn demands_next(self) -> bool
         ensures { result ≡ demands_next self }
     {
         statuses!(has_next self)
     }
 
-    /// The part of its task that an event with this status finishes.
+    /// Returns the part of its task that an event with this status finishes, if it finishes any.
     pub fn part(self) -> Option<Part>
         ensures { result ≡ status_part self }
     {
@@ -195,14 +195,14 @@ impl Status {
 }
 
 impl Endpoint {
-    /// The name in a file.
+    /// Returns the name in a file.
     pub fn name(self) -> &'static str
         ensures { result.now ≡ endpoint_name self }
     {
         endpoints!(name_of self)
     }
 
-    /// The endpoint of this name, if one has it.
+    /// Returns the endpoint with this name, if there is one.
     pub fn from_name(name: &str) -> Option<Self>
         ensures { (endpoint : Endpoint) → (result ≡ Some endpoint) ↔ (endpoint_name endpoint ≡ name.now) }
     {
@@ -211,21 +211,22 @@ impl Endpoint {
 }
 
 impl SyncKind {
-    /// The name in a file.
+    /// Returns the name in a file.
     pub fn name(self) -> &'static str
         ensures { result.now ≡ sync_kind_name self }
     {
         sync_kinds!(name_of self)
     }
 
-    /// The kind of this name, if one has it.
+    /// Returns the kind with this name, if there is one.
     pub fn from_name(name: &str) -> Option<Self>
         ensures { (kind : SyncKind) → (result ≡ Some kind) ↔ (sync_kind_name kind ≡ name.now) }
     {
         sync_kinds!(value_of name)
     }
 
-    /// Whether it is a barrier that waits for the tasks of the parallel region (OpenMP 5.2, 15.3).
+    /// Returns whether a region of this kind is a barrier that waits for the tasks of the parallel region
+    /// (OpenMP 5.2, 15.3).
     pub fn is_barrier(self) -> bool
         ensures { result ≡ is_barrier self }
     {
@@ -239,7 +240,7 @@ impl SyncKind {
         }
     }
 
-    /// Whether it is called a barrier, of whatever kind: an explicit task may have none (OpenMP 5.2, 15.3).
+    /// Returns whether this is any kind of barrier. An explicit task may have no barrier (OpenMP 5.2, 15.3).
     pub fn is_called_barrier(self) -> bool
         ensures { result ≡ is_called_barrier self }
     {
@@ -249,8 +250,8 @@ impl SyncKind {
         }
     }
 
-    /// Whether the end of a region of this kind waits for tasks: a barrier, a taskwait or a taskgroup
-    /// (OpenMP 5.2, 15.3, 15.4 and 15.5).
+    /// Returns whether the end of a region of this kind waits for tasks: a barrier, a taskwait or a
+    /// taskgroup (OpenMP 5.2, 15.3, 15.4 and 15.5).
     pub fn waits_for_tasks(self) -> bool
         ensures { result ≡ waits_for_tasks self }
     {
@@ -273,7 +274,7 @@ pub enum WaitKind {
 }
 
 impl SyncKind {
-    /// What the end of a region of this kind waits for; none where it waits for no tasks.
+    /// Returns what the end of a region of this kind waits for, or none where it waits for no tasks.
     pub fn wait_kind(self) -> Option<WaitKind>
         ensures { result ≡ wait_kind self }
     {
@@ -287,14 +288,14 @@ impl SyncKind {
 }
 
 impl DepKind {
-    /// The name in a file.
+    /// Returns the name in a file.
     pub fn name(self) -> &'static str
         ensures { result.now ≡ dep_kind_name self }
     {
         dep_kinds!(name_of self)
     }
 
-    /// The kind of this name, if one has it.
+    /// Returns the kind with this name, if there is one.
     pub fn from_name(name: &str) -> Option<Self>
         ensures { (kind : DepKind) → (result ≡ Some kind) ↔ (dep_kind_name kind ≡ name.now) }
     {
@@ -303,14 +304,14 @@ impl DepKind {
 }
 
 impl ThreadKind {
-    /// The name in a file.
+    /// Returns the name in a file.
     pub fn name(self) -> &'static str
         ensures { result.now ≡ thread_kind_name self }
     {
         thread_kinds!(name_of self)
     }
 
-    /// The kind of this name, if one has it.
+    /// Returns the kind with this name, if there is one.
     pub fn from_name(name: &str) -> Option<Self>
         ensures { (kind : ThreadKind) → (result ≡ Some kind) ↔ (thread_kind_name kind ≡ name.now) }
     {
@@ -318,8 +319,8 @@ impl ThreadKind {
     }
 }
 
-/// Whether a task with the one dependence waits for an earlier sibling that has the other one at the same
-/// location (OpenMP 5.2, 15.9.5).
+/// Returns whether a task with the one dependence waits for an earlier sibling that has the other one at the
+/// same location (OpenMP 5.2, 15.9.5).
 pub fn conflicts(a: DepKind, b: DepKind) -> bool
     ensures { result ≡ conflict a b }
 {

@@ -1,10 +1,10 @@
-//! A list of numbers that contracts see as such.
+//! The path of a task below its root. Contracts see it as a list of numbers.
 ghost use Rattle.std.specs.Prelude.{◌≡◌, ◌<◌, ◌^◌, ◌++◌, ◌∷◌, [], All, IfOk};
 
 use std::alloc::{AllocError, Global};
 use std::marker::Model;
 
-/// Where a task stands below its root: at each step the number of the child, from the root down.
+/// The place of a task below its root: the numbers of the children, from the root down.
 #[derive(Debug, Drop)]
 pub struct Path {
     numbers: Vec<u32>,
@@ -35,21 +35,21 @@ impl PartialEq for Path {
 }
 
 impl Path {
-    /// The path of these numbers. Takes no memory.
+    /// Returns the path of these numbers. Takes no memory.
     pub fn from_vec(numbers: Vec<u32>) -> Path
         ensures { result ≡ numbers.items }
     {
         Path { numbers }
     }
 
-    /// The numbers, from the root down.
+    /// Returns the numbers, from the root down.
     pub fn as_slice(&self) -> &[u32]
         ensures { result.now ≡ self.now }
     {
         self.numbers.as_slice()
     }
 
-    /// The same path once more. Refused for memory alone.
+    /// Returns a copy of the path. Fails only when out of memory.
     pub fn copied(&self, alloc: Global) -> Result<Path, AllocError>
         ensures { IfOk result (λ copy. copy ≡ self.now) }
     {
@@ -58,7 +58,8 @@ impl Path {
         Ok(Path::from_vec(numbers))
     }
 
-    /// The path of the child with this number, of the task at this path. Refused for memory alone.
+    /// Returns the path of a child, from its number and the path of its parent. Fails only when out of
+    /// memory.
     pub fn child(&self, alloc: Global, number: u32) -> Result<Path, AllocError>
         ensures { IfOk result (λ path. path ≡ self.now ++ number ∷ []) }
     {
@@ -68,14 +69,14 @@ impl Path {
         Ok(Path::from_vec(numbers))
     }
 
-    /// Each is a number of 32 bits. Compiled, it is nothing.
+    /// Ensures that each is a number of 32 bits. Compiles to nothing.
     pub(crate) fn read_numbers(&self)
         ensures { All (λ n. n < 2 ^ 32) self.now }
     {
         let _numbers = self.numbers.as_slice();
     }
 
-    /// The numbers, given back. Takes no memory.
+    /// Returns the numbers, and drops the path around them. Takes no memory.
     pub fn into_vec(self) -> Vec<u32>
         ensures { result.items ≡ self }
     {

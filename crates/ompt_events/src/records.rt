@@ -21,7 +21,7 @@ pub enum Part {
     Event,
 }
 
-/// What a finishing record says of its task's place in the tree of tasks.
+/// What a finishing record says of the place of its task in the tree of tasks.
 #[derive(Debug, Drop, PartialEq)]
 pub struct Claim {
     /// How many children the task created.
@@ -32,8 +32,9 @@ pub struct Claim {
     pub path: Path,
 }
 
-/// Which turns a task_schedule event ends and begins, in files that tell it. A task runs in turns: it starts
-/// in turn 0, and each time that it runs on after a suspension its turn is one more. A root begins in turn 0.
+/// Which turns a task_schedule event ends and begins, in files of version 2. A task runs in turns: it starts
+/// in turn 0, and each time that it resumes after a suspension its turn is one more. A root begins in turn
+/// 0.
 #[derive(Clone, Copy, Debug, PartialEq, Eq)]
 pub struct Turns {
     /// The turn of the prior task, which ends.
@@ -64,7 +65,7 @@ pub enum Body {
     },
     /// A thread ends (19.5.2.2).
     ThreadEnd,
-    /// `task` begins a parallel region, for which it asks for so many threads (19.5.2.3).
+    /// `task` begins a parallel region, and requests this number of threads for it (19.5.2.3).
     ParallelBegin {
         requested: u32,
         task: u64,
@@ -126,7 +127,7 @@ pub enum Body {
 }
 
 impl Body {
-    /// The initial or implicit task that begins.
+    /// Returns the initial or implicit task that begins.
     pub fn begun_root(&self) -> Option<u64>
         ensures { result ≡ begun_root self.now }
     {
@@ -140,7 +141,7 @@ impl Body {
         }
     }
 
-    /// The initial or implicit task that ends.
+    /// Returns the initial or implicit task that ends.
     pub fn ended_root(&self) -> Option<u64>
         ensures { result ≡ ended_root self.now }
     {
@@ -154,7 +155,7 @@ impl Body {
         }
     }
 
-    /// The implicit task that begins as a member of a team; an initial task is none.
+    /// Returns the member of a team that begins: an implicit task. An initial task is no member.
     pub fn joined(&self) -> Option<Membership>
         ensures { result ≡ joined self.now }
     {
@@ -176,7 +177,7 @@ impl Body {
         }
     }
 
-    /// The initial task that begins.
+    /// Returns the initial task that begins.
     pub fn begun_initial(&self) -> Option<u64>
         ensures { result ≡ begun_initial self.now }
     {
@@ -191,7 +192,7 @@ impl Body {
         }
     }
 
-    /// The task that begins a parallel region, and the region.
+    /// Returns the task that begins a parallel region, and the region.
     pub fn forked(&self) -> Option<(u64, u64)>
         ensures { result ≡ forked self.now }
     {
@@ -201,7 +202,7 @@ impl Body {
         }
     }
 
-    /// The parallel region that ends, or whose team a task joins.
+    /// Returns the parallel region that ends, or whose team a task joins.
     pub fn region_named(&self) -> Option<u64>
         ensures { result ≡ region_named self.now }
     {
@@ -211,7 +212,7 @@ impl Body {
         }
     }
 
-    /// The task that creates, and the explicit task that it creates.
+    /// Returns the task that creates, and the explicit task that it creates.
     pub fn creation(&self) -> Option<(u64, u64)>
         ensures { result ≡ creation self.now }
     {
@@ -221,14 +222,14 @@ impl Body {
         }
     }
 
-    /// The explicit task that is created.
+    /// Returns the explicit task that is created.
     pub fn created(&self) -> Option<u64>
         ensures { result ≡ created self.now }
     {
         self.creation().map(|(_, child)| child)
     }
 
-    /// The explicit task that is created, where its dependences follow.
+    /// Returns the explicit task that is created, where its dependences follow.
     pub fn created_with_deps(&self) -> Option<u64>
         ensures { result ≡ created_with_deps self.now }
     {
@@ -242,7 +243,7 @@ impl Body {
         }
     }
 
-    /// The task whose dependences are listed, and the list.
+    /// Returns the task whose dependences are listed, and the list.
     pub fn dependences(&self) -> Option<(u64, &[Dep])>
         ensures { option_map (λ d. (d.0, d.1.now)) result ≡ dependences self.now }
     {
@@ -252,7 +253,8 @@ impl Body {
         }
     }
 
-    /// The task that the record makes: one that is created, or an initial or implicit one that begins.
+    /// Returns the task that the record makes: one that is created, or an initial or implicit one that
+    /// begins.
     pub fn made(&self) -> Option<u64>
         ensures { result ≡ made self.now }
     {
@@ -262,7 +264,7 @@ impl Body {
         }
     }
 
-    /// The status of a task_schedule event, its prior task and its next one.
+    /// Returns the status of a task_schedule event, its prior task and its next one.
     pub fn schedule(&self) -> Option<(Status, u64, Option<u64>)>
         ensures { result ≡ schedule self.now }
     {
@@ -277,7 +279,7 @@ impl Body {
         }
     }
 
-    /// The task that runs next.
+    /// Returns the task that runs next.
     pub fn started(&self) -> Option<u64>
         ensures { result ≡ started self.now }
     {
@@ -287,7 +289,8 @@ impl Body {
         }
     }
 
-    /// The turns that the record tells: which one of the prior task ends, and which one of the next begins.
+    /// Returns the turns that the record has: the one of the prior task that ends, and the one of the next
+    /// task that begins.
     pub fn told_turns(&self) -> Option<Turns>
         ensures { result ≡ told_turns self.now }
     {
@@ -297,7 +300,7 @@ impl Body {
         }
     }
 
-    /// The task that runs next, and the turn that it begins; turn 0 where the record tells none.
+    /// Returns the task that runs next, and the turn that it begins: turn 0 if the record has no turns.
     pub fn begun_turn(&self) -> Option<(u64, u32)>
         ensures { result ≡ begun_turn self.now }
     {
@@ -311,7 +314,7 @@ impl Body {
         }
     }
 
-    /// The task that is suspended, and the turn that it ends; turn 0 where the record tells none.
+    /// Returns the task that is suspended, and the turn that it ends: turn 0 if the record has no turns.
     pub fn suspended_turn(&self) -> Option<(u64, u32)>
         ensures { result ≡ suspended_turn self.now }
     {
@@ -326,7 +329,7 @@ impl Body {
         }
     }
 
-    /// The task that stops running, and the turn that it ends; turn 0 where the record tells none.
+    /// Returns the task that stops running, and the turn that it ends: turn 0 if the record has no turns.
     pub fn ended_turn(&self) -> Option<(u64, u32)>
         ensures { result ≡ ended_turn self.now }
     {
@@ -341,7 +344,7 @@ impl Body {
         }
     }
 
-    /// The task whose event is fulfilled, early or late (OpenMP 5.2, 12.5.2).
+    /// Returns the task whose event is fulfilled, early or late (OpenMP 5.2, 12.5.2).
     pub fn fulfilled(&self) -> Option<u64>
         ensures { result ≡ fulfilled self.now }
     {
@@ -355,7 +358,7 @@ impl Body {
         }
     }
 
-    /// The taskwait with dependences that is complete (OpenMP 5.2, 15.5).
+    /// Returns the taskwait with dependences that is complete (OpenMP 5.2, 15.5).
     pub fn wait_completed(&self) -> Option<u64>
         ensures { result ≡ wait_completed self.now }
     {
@@ -369,7 +372,7 @@ impl Body {
         }
     }
 
-    /// The task that must be running on the thread: the one that the record is of.
+    /// Returns the task that must be running on the thread: the one that the record is of.
     pub fn running(&self) -> Option<u64>
         ensures { result ≡ running self.now }
     {
@@ -384,7 +387,7 @@ impl Body {
         }
     }
 
-    /// The task that is discarded before it began (OpenMP 5.2, 11.5).
+    /// Returns the task that is discarded before it began (OpenMP 5.2, 11.5).
     pub fn discarded(&self) -> Option<u64>
         ensures { result ≡ discarded self.now }
     {
@@ -394,7 +397,7 @@ impl Body {
         }
     }
 
-    /// The task that begins or ends a synchronisation region, with the region's kind.
+    /// Returns the task that begins or ends a synchronisation region, with the region's kind.
     pub fn region(&self) -> Option<(u64, SyncKind, Endpoint)>
         ensures { result ≡ region self.now }
     {
@@ -409,7 +412,7 @@ impl Body {
         }
     }
 
-    /// Whether a region ends that waits for tasks; a begin and end in one is an end too.
+    /// Returns whether the record ends a region that waits for tasks. A begin and end in one is an end too.
     pub fn ends_wait(&self) -> bool
         ensures { result ≡ ends_wait self.now }
     {
@@ -419,7 +422,7 @@ impl Body {
         }
     }
 
-    /// The flags of the task that begins, ends or is created.
+    /// Returns the flags of the task that begins, ends or is created.
     pub fn flags(&self) -> Option<TaskFlags>
         ensures { option_map (λ f. f.0) result ≡ flags self.now }
     {
@@ -429,7 +432,7 @@ impl Body {
         }
     }
 
-    /// What the record claims of the place of the task that it finishes.
+    /// Returns the record's claim of the place of the task that it finishes.
     pub fn claim(&self) -> Option<&Claim>
         ensures { option_copied result ≡ claim self.now }
     {
@@ -439,7 +442,7 @@ impl Body {
         }
     }
 
-    /// Each task that the record names, a claimed root too.
+    /// Returns each task that the record names, also the root of its claim.
     pub fn named(&self) -> NamedTasks
         ensures { result ≡ named self.now }
     {
@@ -469,14 +472,14 @@ pub struct Record {
     pub thread: u8,
     /// How many records its thread made before it.
     pub seq: u32,
-    /// How long the ledger of finished tasks was, as far as the thread knew;
-    /// of a finishing record, the index of its own entry.
+    /// The length of the ledger of finished tasks, as far as the thread knew it. Of a finishing record it is
+    /// the index of its own entry.
     pub seen: u32,
     /// What happened.
     pub body: Body,
 }
 
-/// The task that the record finishes, and in which part.
+/// Returns the task that the record finishes, and in which part.
 pub fn finish(event: &Record) -> Option<(u64, Part)>
     ensures { result ≡ finish event.now.body }
 {
@@ -492,21 +495,21 @@ pub fn finish(event: &Record) -> Option<(u64, Part)>
     }
 }
 
-/// Whether the task is an initial one.
+/// Returns whether the task is an initial one.
 fn is_initial(flags: TaskFlags) -> bool
     ensures { result ≡ has_flag flags.0 flag.initial }
 {
     flags.contains(TaskFlags::INITIAL)
 }
 
-/// The root that is claimed.
+/// Returns the root of the claim.
 fn claimed_root(claim: &Option<Claim>) -> Option<u64>
     ensures { result ≡ option_map (λ c. c.root) claim.now }
 {
     claim.as_ref().map(|claim| claim.root)
 }
 
-/// Whether a cancellation discards its task.
+/// Returns whether a cancellation discards its task.
 fn discards(flags: CancelFlags) -> bool
     ensures { result ≡ has_flag flags.0 flag.discarded_task }
 {

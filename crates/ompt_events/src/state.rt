@@ -1,6 +1,6 @@
 //! The states of a task.
 
-/// Where a task stands between its creation and its completion.
+/// The state of a task between its creation and its completion.
 #[derive(Clone, Copy, Debug, PartialEq, Eq)]
 pub enum State {
     /// It has not begun.

@@ -15,11 +15,12 @@ pub const MAX_TASKS: usize = 1 << 20;
 /// The most dependences that a task has.
 pub const MAX_DEPENDENCES: usize = 64;
 
-/// The most numbers that a path has: how deep below its root a finished task may stand.
+/// The most numbers that a path has: how deep below its root a finished task may be.
 pub const MAX_DEPTH: usize = 1024;
 
 /// Records in file order, each sound by itself, within the limits on their number. In a trace of version 2
-/// each record after which a task runs next tells turns, in one of version 1 none does.
+/// each record after which a task runs next has turns, and no other record does; in one of version 1 none
+/// has.
 #[derive(Debug, Drop)]
 pub struct Trace {
     version: u32,
@@ -37,11 +38,11 @@ impl Model for Trace {
 }
 
 impl Trace {
-    /// The trace of version 1 of these records. Refused are the records, given back, and the place of the
-    /// first one that cannot stand in such a trace: one past the limit on records or tasks, with a flag bit
-    /// that has no name, with a claim though it does not finish a task or with none though it does, with a
-    /// next task that its status forbids or without one that it demands, an implicit task's begin and end in
-    /// one, with a path or a list of dependences that is too long, or one that tells turns. Takes no memory.
+    /// Returns the trace of version 1 of these records. Fails with the records and the place of the first
+    /// one that cannot be in such a trace. Such a record is past the limit on records or tasks, has a flag
+    /// bit without a name, has a claim but finishes no task or finishes one without a claim, has a next task
+    /// that its status forbids or lacks one that it demands, is the begin and end of an implicit task in
+    /// one, has a path or a list of dependences that is too long, or has turns. Takes no memory.
     pub fn from_records(records: Vec<Record>) -> Result<Trace, (Vec<Record>, usize)>
         ensures accepted { IfOk result (λ trace. trace ≡ record { version = 1; records = records.items }) }
         ensures refused { IfErr result (λ refusal. (refusal.0.items ≡ records.items)
@@ -50,9 +51,9 @@ impl Trace {
         trace_of(1, records)
     }
 
-    /// The trace of version 2 of these records. Refused are the same records as by [`Trace::from_records`],
-    /// but for turns: a record after which a task runs next is refused without them, any other record with
-    /// them. Takes no memory.
+    /// Returns the trace of version 2 of these records. Fails as [`Trace::from_records`] does, but for
+    /// turns: a record after which a task runs next must have them, and any other record must not. Takes no
+    /// memory.
     pub fn from_turns(records: Vec<Record>) -> Result<Trace, (Vec<Record>, usize)>
         ensures accepted { IfOk result (λ trace. trace ≡ record { version = 2; records = records.items }) }
         ensures refused { IfErr result (λ refusal. (refusal.0.items ≡ records.items)
@@ -61,15 +62,14 @@ impl Trace {
         trace_of(2, records)
     }
 
-    /// The version of the file format that the trace is of: 1, or 2 where its records tell turns. Takes no
-    /// memory.
+    /// Returns the version of the file format: 1, or 2 where records have turns. Takes no memory.
     pub fn version(&self) -> u32
         ensures { result ≡ self.now.version }
     {
         self.version
     }
 
-    /// The records in file order. Takes no memory.
+    /// Returns the records in file order. Takes no memory.
     pub fn records(&self) -> &[Record]
         ensures value { result.now ≡ self.now.records }
         ensures is_trace { IsTraceOf self.now.version result.now }
@@ -77,7 +77,7 @@ impl Trace {
         self.records.as_slice()
     }
 
-    /// The records in file order, for a trace of other records to be made of them. Takes no memory.
+    /// Returns the records in file order, and drops the trace around them. Takes no memory.
     pub fn into_records(self) -> Vec<Record>
         ensures value { result.items ≡ self.records }
         ensures is_trace { IsTraceOf self.version result.items }
@@ -86,7 +86,8 @@ impl Trace {
     }
 }
 
-/// The trace of this version of the records, or the place of the first one that cannot stand there.
+/// Returns the trace of this version of the records. Fails with the records and the place of the first one
+/// that cannot be in such a trace.
 fn trace_of(version: u32, records: Vec<Record>) -> Result<Trace, (Vec<Record>, usize)>
     requires { (version ≡ 1) ⊎ (version ≡ 2) }
     ensures accepted { IfOk result (λ trace. trace ≡ record { version = version; records = records.items }) }
@@ -99,7 +100,7 @@ fn trace_of(version: u32, records: Vec<Record>) -> Result<Trace, (Vec<Record>, u
     }
 }
 
-/// The first record that cannot stand where it does.
+/// Returns the place of the first record that cannot be in a trace of this version after those before it.
 fn first_refused(version: u32, records: &[Record]) -> Option<usize>
     requires { (version ≡ 1) ⊎ (version ≡ 2) }
     ensures { MatchOption result (IsTraceOf version records.now) (IsFirstRefused version records.now) }
@@ -124,7 +125,7 @@ fn first_refused(version: u32, records: &[Record]) -> Option<usize>
 }
 
 impl Body {
-    /// Whether a record with this body can stand in a trace, as far as it alone shows. Takes no memory.
+    /// Returns whether a record with this body can be in a trace, as far as it alone shows. Takes no memory.
     pub fn is_sound(&self) -> bool
         ensures { IsTrue result ↔ IsSound self.now }
     {
@@ -157,15 +158,15 @@ impl Body {
 }
 
 impl Body {
-    /// Whether a record with this body can stand in a trace of the version, as far as it alone shows. Takes
-    /// no memory.
+    /// Returns whether a record with this body can be in a trace of the version, as far as it alone shows.
+    /// Takes no memory.
     pub fn is_sound_in(&self, version: u32) -> bool
         ensures { IsTrue result ↔ IsSoundIn version self.now }
     {
         self.is_sound() && self.tells_its_turns(version)
     }
 
-    /// Whether it tells turns exactly where a trace of the version demands it.
+    /// Returns whether the record has turns exactly where a trace of the version demands them.
     fn tells_its_turns(&self, version: u32) -> bool
         ensures { IsTrue result ↔ HasItsTurns version self.now }
     {
@@ -174,7 +175,7 @@ impl Body {
     }
 }
 
-/// Whether the claimed path, if there is one, is within the limit.
+/// Returns whether the claimed path, if there is one, is within the limit.
 fn is_short(claim: &Option<Claim>) -> bool
     ensures { IsTrue result ↔ IfSome claim.now (λ claim. length claim.path ≤ MAX_DEPTH) }
 {
@@ -184,10 +185,11 @@ fn is_short(claim: &Option<Claim>) -> bool
     }
 }
 
-// A body knows the range of a number behind a reference once it has read it. Compiled, the reads are nothing.
+// A proof has the range of a number behind a reference once the number is read. The reads compile to
+// nothing.
 
 impl Record {
-    /// Each number of a record is within the range of its type. Does nothing: the contract is what it says.
+    /// Ensures that each number of a record is within the range of its type. Compiles to nothing.
     pub fn read_numbers(&self)
         ensures { IsInRange self.now }
     {
@@ -198,7 +200,7 @@ impl Record {
     }
 }
 
-/// Each number among the callback's arguments is within the range of its type.
+/// Ensures that each number among the callback's arguments is within the range of its type.
 fn read_arguments(body: &Body)
     ensures { BodyInRange body.now }
 {
@@ -253,7 +255,7 @@ fn read_arguments(body: &Body)
     }
 }
 
-/// Each turn, if there are some, is within the range of its type.
+/// Ensures that each turn, if there are some, is within the range of its type.
 fn read_turns(turns: Option<Turns>)
     ensures { IfSome turns TurnsInRange }
 {
@@ -262,7 +264,7 @@ fn read_turns(turns: Option<Turns>)
     }
 }
 
-/// Each number of the claim, if there is one, is within the range of its type.
+/// Ensures that each number of the claim, if there is one, is within the range of its type.
 fn read_claimed(claim: &Option<Claim>)
     ensures { IfSome claim.now ClaimInRange }
 {
@@ -271,7 +273,7 @@ fn read_claimed(claim: &Option<Claim>)
     }
 }
 
-/// Each number of the claim is within the range of its type.
+/// Ensures that each number of the claim is within the range of its type.
 fn read_claim(claim: &Claim)
     ensures { ClaimInRange claim.now }
 {
@@ -280,7 +282,7 @@ fn read_claim(claim: &Claim)
     claim.path.read_numbers();
 }
 
-/// An id, if there is one, is a number of 64 bits.
+/// Ensures that an id, if there is one, is a number of 64 bits.
 fn read_id(found: Option<u64>)
     ensures { IfSome found (λ id. id < 2 ^ 64) }
 {

@@ -25,7 +25,7 @@ pub record IsTally (steps : List Step) (tally : Tally) : Type 0 where
   pub beyond : (thread : ℕ) → max_threads ≤ thread → step_count steps thread ≡ 0
   pub tasks : tally.tasks ≡ task_count steps
 
--- the answer to a search for a step that is named, if one is
+-- the result of a search for a step that is named, if one is
 abbrev pub IsStepFound : List Step → Option (ℕ × ℕ) → Option (Option (ℕ × ℕ)) → Type 0
 IsStepFound steps named None = is_earlier steps named ≡ false
 IsStepFound steps named (Some found) = (is_earlier steps named ≡ true) × (found ≡ named)

@@ -1,4 +1,4 @@
--- The rules of a script in words of its steps alone, for the law that `may_follow` tests just these.
+-- The rules of a script by its steps alone, for the law that `may_follow` tests exactly these.
 use Rattle.std.specs.Prelude.{ℕ, ◌≡◌, ◌≢◌, ◌<◌, List, Option, None, Some, IfSome, Contains, AllPairs}
 use Rattle.ompt_events.specs.declared.records.Body.{Body}
 use Rattle.ompt_events.specs.Records.{made, named, claim, told_turns}

@@ -1,4 +1,4 @@
--- What a script is. Its line 1 is a header; step number i, from 0, stands on line i + 2.
+-- What a script is. Its line 1 is a header; step number i, from 0, is on line i + 2.
 use Rattle.std.specs.Prelude.{ℕ, ◌≡◌, ◌≤◌, ◌+◌, ◌==◌, ◌&&◌, ◌||◌, Bool, true, false, not, List, [], ◌∷◌}
 use Rattle.std.specs.Prelude.{length, take, Option, Some, None, is_some, option_map, option_and_then}
 use Rattle.std.specs.Prelude.{if◌then◌else◌, fold, count_by, slice_get, nat_lt, nat_le}
@@ -17,7 +17,7 @@ use Rattle.scripts.specs.declared.fault.ScriptFault.TheVariants.{Memory, Full, M
 
 -- ---- what becomes of a task
 
--- whether it is a call for a recorder: it makes no claim and tells no turns
+-- whether it is a call for a recorder: it has no claim and no turns
 abbrev pub is_call : Body → Bool
 is_call body = not (is_some (claim body)) && not (is_some (told_turns body))
 
@@ -48,7 +48,7 @@ life_after life body task =
 abbrev pub life : List Step → ℕ → Option Life
 life steps task = fold (λ before (s : Step). life_after before s.body task) None steps
 
--- ---- where a call may stand
+-- ---- which call may come where
 
 -- how many of the steps the thread has, and how many tasks the steps make
 abbrev pub step_count : List Step → ℕ → ℕ
@@ -104,7 +104,8 @@ abbrev pub step_of : List Step → ℕ → Option (ℕ × ℕ) → Body → Step
 step_of steps thread after body =
     record { line = length steps + 2; thread = thread; after = after; body = body }
 
--- whether there are as many steps as there may be, or tasks where the call makes one
+-- whether there are as many steps as there may be, or the call makes a task and there are as many tasks as
+-- there may be
 abbrev pub is_full : List Step → Body → Bool
 is_full steps body =
     nat_le max_records (length steps) || (is_some (made body) && nat_le max_tasks (task_count steps))

@@ -5,14 +5,15 @@ ghost use Rattle.scripts.specs.Scripts.{is_call, finished, ended, fate, has_twic
 use crate::lives::Life;
 use ompt_events::{Body, Part};
 
-/// Whether it is a call for a recorder, which adds claims and turns itself: it has neither.
+/// Returns whether the body has no claim and no turns, as a call for a recorder must: the recorder adds
+/// them.
 pub(crate) fn is_call(body: &Body) -> bool
     ensures { result ≡ is_call body.now }
 {
     body.claim().is_none() && body.told_turns().is_none()
 }
 
-/// The task that the call finishes, unless it finishes the task's body alone.
+/// Returns the task that the call finishes, unless it finishes the task's body alone.
 fn finished(body: &Body) -> Option<u64>
     ensures { result ≡ finished body.now }
 {
@@ -25,7 +26,7 @@ fn finished(body: &Body) -> Option<u64>
     }
 }
 
-/// The task that the call ends.
+/// Returns the task that the call ends.
 fn ended(body: &Body) -> Option<u64>
     ensures { result ≡ ended body.now }
 {
@@ -35,7 +36,7 @@ fn ended(body: &Body) -> Option<u64>
     }
 }
 
-/// The task that the call makes or ends, and what becomes of it.
+/// Returns the task that the call makes or ends, and what has become of it after the call.
 pub(crate) fn fate(body: &Body) -> Option<(u64, Life)>
     ensures { result ≡ fate body.now }
 {
@@ -48,7 +49,7 @@ pub(crate) fn fate(body: &Body) -> Option<(u64, Life)>
     }
 }
 
-/// Whether a task is named twice.
+/// Returns whether a task is named twice.
 pub(crate) fn has_twice(tasks: &[u64]) -> bool
     ensures { result ≡ has_twice tasks.now }
 {

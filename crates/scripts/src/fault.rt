@@ -1,7 +1,7 @@
 //! Why a call cannot be added to a script.
 use thiserror::Error;
 
-/// Why a call cannot be added to a script. Where more than one applies it is the last one in this list.
+/// Why a call cannot be added to a script. If more than one applies, it is the last one in this list.
 #[derive(Clone, Copy, Debug, PartialEq, Eq, Error)]
 pub enum ScriptFault {
     /// Out of memory. Number 1.

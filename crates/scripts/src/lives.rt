@@ -19,14 +19,14 @@ pub enum Life {
     Over,
 }
 
-/// What has become of the task.
+/// Returns what has become of the task, or none where no call made it.
 fn life_of(lives: &BTreeMap<u64, Life>, task: u64) -> Option<Life>
     ensures { result ≡ get nat_cmp lives.now task }
 {
     lives.get(&task).copied()
 }
 
-/// Whether a call that makes the task, or does not, may name it.
+/// Returns whether a call that makes the task, or does not, may name it.
 fn may_be_named(lives: &BTreeMap<u64, Life>, makes: bool, task: u64) -> bool
     ensures { result ≡ may_be_named makes (get nat_cmp lives.now task) }
 {
@@ -37,7 +37,7 @@ fn may_be_named(lives: &BTreeMap<u64, Life>, makes: bool, task: u64) -> bool
     }
 }
 
-/// Whether it is the task that a call makes.
+/// Returns whether this is the task that a call makes.
 fn is_made(made: Option<u64>, task: u64) -> bool
     ensures { result ≡ is_made made task }
 {
@@ -47,7 +47,7 @@ fn is_made(made: Option<u64>, task: u64) -> bool
     }
 }
 
-/// Whether a call that makes this task, or none, may name each of these tasks.
+/// Returns whether a call that makes this task, or none, may name each of these tasks.
 pub(crate) fn all_may_be_named(
     lives: &BTreeMap<u64, Life>,
     made: Option<u64>,
@@ -64,7 +64,7 @@ pub(crate) fn all_may_be_named(
     true
 }
 
-/// Notes what becomes of a task by the call.
+/// Records what becomes of a task by the call. Fails only when out of memory, and the table is as it was.
 pub(crate) fn note(lives: &mut BTreeMap<u64, Life>, body: &Body) -> Result<(), AllocError>
     ensures noted { OnOk result ((task : ℕ) → get nat_cmp lives.new task
         ≡ life_after (get nat_cmp lives.old task) body.now task) }

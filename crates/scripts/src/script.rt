@@ -14,13 +14,13 @@ use std::marker::Model;
 /// One call of a script.
 #[derive(Debug, Drop)]
 pub struct Step {
-    /// The line on which the call stands; the header is line 1.
+    /// The line of the call; the header is line 1.
     pub line: u32,
     /// The thread that makes the call.
     pub thread: u8,
     /// A step that is taken before this one: its thread, and how many steps that thread has before it.
     pub after: Option<(u8, u32)>,
-    /// The call, which makes no claim and tells no turns.
+    /// The call, which has no claim and no turns.
     pub body: Body,
 }
 
@@ -45,7 +45,7 @@ impl Model for Script {
 }
 
 impl Script {
-    /// A script without a step. Takes no memory.
+    /// Returns a script without a step. Takes no memory.
     pub fn new(alloc: Global) -> Script
         ensures { result ≡ [] }
     {
@@ -56,7 +56,7 @@ impl Script {
         }
     }
 
-    /// The steps. Takes no memory.
+    /// Returns the steps. Takes no memory.
     pub fn steps(&self) -> &[Step]
         ensures value { result.now ≡ self.now }
         ensures is_script { IsScript result.now }
@@ -64,15 +64,15 @@ impl Script {
         self.steps.as_slice()
     }
 
-    /// Whether a call may follow the steps. Takes no memory.
+    /// Returns whether a call may follow the steps. Takes no memory.
     pub fn may_follow(&self, after: Option<(u64, u64)>, body: &Body) -> bool
         ensures { result ≡ may_follow self.now after body.now }
     {
         self.place_of(after, body).is_some()
     }
 
-    /// Adds a call of the thread, on the next line. A call that is refused comes back, and the script is as
-    /// it was.
+    /// Adds a call of the thread, on the next line. Fails with the call and the cause if the call may not
+    /// follow the steps, the script is full, or out of memory; the script is then as it was.
     pub fn add(
         &mut self,
         thread: u8,
@@ -106,7 +106,8 @@ impl Script {
         Ok(())
     }
 
-    /// The step that is taken before a call, if one is named, where the call may follow the steps.
+    /// Returns the step that is taken before a call, or that none is named, if the call may follow the
+    /// steps.
     fn place_of(&self, after: Option<(u64, u64)>, body: &Body) -> Option<Option<(u8, u32)>>
         ensures may { is_some result ≡ may_follow self.now after body.now }
         ensures same { IfSome result (λ found. found ≡ after) }
@@ -118,7 +119,8 @@ impl Script {
         }
     }
 
-    /// Whether a call names no task twice, and may name each after the steps.
+    /// Returns whether a call has no claim and no turns, names no task twice, and may name each after the
+    /// steps.
     fn may_name(&self, body: &Body) -> bool
         ensures { result ≡ may_name self.now body.now }
     {
@@ -127,7 +129,8 @@ impl Script {
         is_call(body) && !has_twice(tasks) && all_may_be_named(&self.lives, body.made(), tasks)
     }
 
-    /// Whether the script has as many steps as it may, or tasks where the call makes one.
+    /// Returns whether the script has as many steps as it may, or the call makes a task and the script makes
+    /// as many as it may.
     fn is_full(&self, body: &Body) -> bool
         ensures { result ≡ is_full self.now body.now }
     {

@@ -14,7 +14,7 @@ pub(crate) struct Tally {
 }
 
 impl Tally {
-    /// No step and no task.
+    /// Returns the tally of no step and no task.
     pub(crate) fn new() -> Tally
         ensures { IsTally [] result }
     {
@@ -24,15 +24,15 @@ impl Tally {
         }
     }
 
-    /// How many tasks the steps make.
+    /// Returns the number of tasks that the steps make.
     pub(crate) fn tasks(&self) -> u32
         ensures { result ≡ self.now.tasks }
     {
         self.tasks
     }
 
-    /// The step that is named by its thread and its number there, if there is such a step; where none is named,
-    /// that none is.
+    /// Returns the step that is named by its thread and its number there, if there is such a step. Where
+    /// none is named, returns that none is.
     pub(crate) fn find(&self, named: Option<(u64, u64)>) -> Option<Option<(u8, u32)>>
         ensures { (steps : List Step) → IsTally steps self.now → IsStepFound steps named result }
     {

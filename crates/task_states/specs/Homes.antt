@@ -1,4 +1,5 @@
--- What the schedules tell: where each explicit task runs, and whether any is fulfilled early.
+-- What the task_schedule events show: where each explicit task runs, and whether the event of any task is
+-- fulfilled early.
 use Rattle.std.specs.Prelude.{ℕ, ◌≡◌, ◌<◌, ◌==◌, Bool, List, Option, Some, None, true, false, if◌then◌else◌}
 use Rattle.std.specs.Prelude.{length, slice_get}
 use Rattle.ompt_events.specs.declared.records.Record.{Record}
@@ -10,7 +11,7 @@ use Rattle.task_tree.specs.Runs.{RunView, IsRun}
 use Rattle.task_states.specs.declared.homes.Home.{Home}
 use Rattle.task_states.specs.declared.homes.Home.TheVariants.{Nowhere, On, Many}
 
--- where a task runs, in the words of the code: whether it has moved, and its home, if it has one
+-- where a task runs, for each value of the code's type: whether it has moved, and its home, if it has one
 abbrev pub home_told : Bool → Option ℕ → Home
 home_told true home = Many
 home_told false None = Nowhere
@@ -19,11 +20,11 @@ home_told false (Some thread) = On thread
 abbrev pub home_at : List Record → ℕ → Home
 home_at rs task = home_told (has_moved rs task) (home_of rs task)
 
--- the task moved, if turns tell so
+-- that the task moved, if turns are recorded; else none
 abbrev pub told_move : Bool → Option Home
 told_move told = if told then Some Many else None
 
--- where a task runs that now runs on this thread; none where it ran on another one and no turns are told
+-- where a task runs that now runs on this thread; none where it ran on another one and no turns are recorded
 abbrev pub home_after : Home → ℕ → Bool → Option Home
 home_after Nowhere thread told = Some (On thread)
 home_after (On before) thread told = if before == thread then Some (On before) else told_move told

@@ -1,4 +1,4 @@
--- Which records put a parallel region inside another, by where their thread stands.
+-- Which records put a parallel region inside another, by the walk of their thread.
 use Rattle.std.specs.Prelude.{ℕ, ◌≡◌, ◌⊎◌, List, Some, None, true, is_some, IsSomeAnd, slice_get}
 use Rattle.ompt_events.specs.declared.records.Record.{Record}
 use Rattle.ompt_events.specs.declared.records.Membership.{Membership}

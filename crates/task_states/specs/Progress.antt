@@ -1,4 +1,4 @@
--- How far each task has come while the records are gone over in passes.
+-- The state that each task has reached while passes go over the records.
 use Rattle.std.specs.Prelude.{ℕ, ◌≡◌, ◌<◌, ◌≤◌, ◌+◌, ◌++◌, ◌∷◌, ◌&&◌, ◌==◌, ltb, not, Bool, true, false, List}
 use Rattle.std.specs.Prelude.{[], length, Option, Some, None, All, Contains, IsSomeAnd, is_some}
 use Rattle.std.specs.Prelude.{if◌then◌else◌, filter, find, take, slice_get}
@@ -28,7 +28,7 @@ use Rattle.task_states.specs.declared.moves.Move.TheVariants.{Stopped, Started, 
 use Rattle.task_states.specs.declared.progress.Pass.{Pass}
 use Rattle.task_states.specs.declared.progress.Pass.TheVariants.{Early, Home, Rest}
 
--- the words of the definitions for those of the code
+-- the values of the definitions for those of the code
 abbrev pub the_nature : Nature → states.Nature
 the_nature Root = states.Root
 the_nature Wait = states.Wait
@@ -62,14 +62,15 @@ moves_in pass rs gone task = flat_map (moves_at rs task) (filter (is_read pass r
 abbrev pub turned : List Record → ℕ → ℕ → List (ℕ × states.Move)
 turned rs n task = if has_moved rs task then flat_map (turn_moves rs task) (range_with_len 0 n) else []
 
--- the moves of a task that were read before the pass: before the last one also all turns of a task that moved
+-- the moves of a task that were read before the pass: before the last one also all turns of a task that
+-- moved
 abbrev pub read_before : Pass → List Record → ℕ → List (ℕ × states.Move)
 read_before Early rs task = []
 read_before Home rs task = moves_in Early rs (places rs) task
 read_before Rest rs task =
     moves_in Early rs (places rs) task ++ moves_in Home rs (places rs) task ++ turned rs (turns_in rs) task
 
--- the moves of a task that are read once the pass has gone over these places
+-- the moves of a task that are read after the pass over these places
 abbrev pub moves_read : Pass → List Record → List ℕ → ℕ → List (ℕ × states.Move)
 moves_read pass rs gone task = read_before pass rs task ++ moves_in pass rs gone task
 
@@ -109,12 +110,13 @@ abbrev pub earlier_of : Option ℕ → ℕ → ℕ
 earlier_of None at = at
 earlier_of (Some first) at = if ltb first at then first else at
 
--- the first place at which a move was not allowed, after a move at this place from the one state to the other
+-- the first place at which a move was not allowed, after a move at this place from the one state to the
+-- other
 abbrev pub refused_after : Option ℕ → Option State → Option State → ℕ → Option ℕ
 refused_after refused (Some state) None at = Some (earlier_of refused at)
 refused_after refused _ _ at = refused
 
--- each task has come as far as these moves take it
+-- each task has the state after these moves
 pub record HasCome (rs : List Record) (tasks : List ℕ) (moves : ℕ → List (ℕ × states.Move))
     (progress : ProgressView) : Type 0 where
   pub all : length progress.states ≡ length tasks
@@ -203,8 +205,8 @@ reads Early early home turned = early && not home
 reads Home early home turned = home
 reads Rest early home turned = not early && not home && not turned
 
--- the record at the place may make this move of the task with the index; what is early there and what begins
--- or ends a turn, the move tells
+-- the record at the place may make this move of the task with the index; the move shows whether it is an
+-- early fulfilment there, and whether it begins or ends a turn
 pub record IsMoveOf (run : RunView) (i index : ℕ) (step : Move) : Type 0 where
   pub within : i < length run.records
   pub task : ℕ

@@ -53,7 +53,8 @@ top_after links opened i Begin = Some i
 top_after links opened i End = below_of links opened
 top_after links opened i BeginEnd = opened
 
--- the regions that are open, all begun before n, the innermost first: each has the number of the one below it
+-- the regions that are open, all begun before n, the innermost first: each has the number of the one below
+-- it
 abbrev pub IsStack : List (Option ℕ) → ℕ → Option ℕ → List ℕ → Type 0
 IsStack links n top [] = top ≡ None
 IsStack links n top (begin ∷ below) =

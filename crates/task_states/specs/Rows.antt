@@ -7,15 +7,15 @@ abbrev pub row_items : {X : Type 0} → Option (Vec X) → List X
 row_items None = []
 row_items (Some row) = row.items
 
--- what stands in the row with this index; nothing past the last row
+-- what is in the row with this index; nothing past the last row
 abbrev pub row_at : {X : Type 0} → List (Vec X) → ℕ → List X
 row_at rows index = row_items (slice_get rows index)
 
--- at each index stands what stood there
+-- at each index the row is what it was
 abbrev pub AreSameRows : {X : Type 0} → List (Vec X) → List (Vec X) → Type 0
 AreSameRows before after = (index : ℕ) → row_at after index ≡ row_at before index
 
--- the place stands behind all in the row with this index, and the other rows have what they had
+-- the place is added at the end of the row with this index, and the other rows have what they had
 pub record IsPlaceAdded (before after : List (Vec ℕ)) (index place : ℕ) : Type 0 where
   pub here : row_at after index ≡ row_at before index ++ place ∷ []
   pub others : (other : ℕ) → other ≢ index → row_at after other ≡ row_at before other

@@ -1,4 +1,4 @@
--- Where a thread stands by indices of tasks: its open roots, the innermost first, and the task that it runs.
+-- The walk of a thread by indices of tasks: its open roots, the innermost first, and the task that it runs.
 use Rattle.std.specs.Prelude.{ℕ, ◌≡◌, ◌≢◌, ◌⊎◌, true, ◌∷◌, Some, IsSomeAnd, if◌then◌else◌, drop, slice_get}
 use Rattle.ompt_events.specs.declared.names.Status.TheVariants.{TaskwaitComplete}
 use Rattle.ompt_events.specs.Names.{demands_next}
@@ -43,7 +43,7 @@ ParentMisfits run walk event =
 abbrev pub EndMisfits : Walk → ℕ → Type 0
 EndMisfits walk root = (walk.current ≢ Some root) ⊎ (slice_get walk.roots 0 ≢ Some root)
 
--- the event speaks for a task that a thread which stands there doesn't run
+-- the event speaks for a task that a thread with this walk doesn't run
 abbrev pub EventMisfits : RunView → Walk → ThreadEvent → Type 0
 EventMisfits run walk (Scheduled event) =
     PriorMisfits walk event ⊎ (NextMisfits run walk event ⊎ ParentMisfits run walk event)

@@ -11,7 +11,8 @@ use ompt_events::{Cause, Fault, Status};
 use std::alloc::Global;
 use task_tree::{Run, Schedule, ThreadEvent};
 
-/// Searches for the first record that speaks for a task which its thread does not run (OpenMP 5.2, 12.9).
+/// Excludes NotCurrent. Fails with the first record that speaks for a task which its thread does not run
+/// (OpenMP 5.2, 12.9).
 pub(crate) fn find_misfit(alloc: Global, run: &Run) -> Result<(), Fault>
     ensures free { OnOk result (IsFreeOf run.now.records NotCurrent) }
     ensures fault { IfErr result (IsFault run.now.records (NotCurrent ∷ [])) }
@@ -33,8 +34,8 @@ pub(crate) fn find_misfit(alloc: Global, run: &Run) -> Result<(), Fault>
     Ok(())
 }
 
-/// Whether the event, which some record says, speaks for a task that a thread which stands there does not
-/// run.
+/// Returns whether the event, which is that of some record, speaks for a task that a thread with this walk
+/// does not run.
 fn misfits(run: &Run, walk: &ThreadWalk, event: ThreadEvent) -> bool
     requires { (at : ℕ) × IsThreadEvent run.now at event }
     ensures { IsTrue result ↔ EventMisfits run.now walk.now event }
@@ -51,14 +52,14 @@ fn misfits(run: &Run, walk: &ThreadWalk, event: ThreadEvent) -> bool
     }
 }
 
-/// Whether the prior task must be running, and is not.
+/// Returns whether the prior task must be running, and is not.
 fn prior_misfits(walk: &ThreadWalk, schedule: Schedule) -> bool
     ensures { IsTrue result ↔ PriorMisfits walk.now schedule }
 {
     schedule.status.demands_next() && walk.current() != Some(schedule.prior)
 }
 
-/// Whether a root runs next that is not the innermost open one.
+/// Returns whether a root runs next that is not the innermost open one.
 fn next_misfits(run: &Run, walk: &ThreadWalk, schedule: Schedule) -> bool
     requires { IfSome schedule.next (λ next. next < length run.now.family.tasks) }
     ensures { IsTrue result ↔ NextMisfits run.now walk.now schedule }
@@ -69,7 +70,7 @@ fn next_misfits(run: &Run, walk: &ThreadWalk, schedule: Schedule) -> bool
     }
 }
 
-/// Whether a taskwait with dependences is complete whose parent is not the current task.
+/// Returns whether a taskwait with dependences is complete whose parent is not the current task.
 fn parent_misfits(run: &Run, walk: &ThreadWalk, schedule: Schedule) -> bool
     ensures { IsTrue result ↔ ParentMisfits run.now walk.now schedule }
 {
@@ -82,7 +83,7 @@ fn parent_misfits(run: &Run, walk: &ThreadWalk, schedule: Schedule) -> bool
     }
 }
 
-/// Whether a root that ends does not run, or is not the innermost open one.
+/// Returns whether a root that ends does not run, or is not the innermost open one.
 fn end_misfits(walk: &ThreadWalk, root: usize) -> bool
     ensures { IsTrue result ↔ EndMisfits walk.now root }
 {

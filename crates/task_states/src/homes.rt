@@ -16,19 +16,19 @@ use std::alloc::{AllocError, Global};
 use std::marker::Model;
 use task_tree::Run;
 
-/// Where a task runs.
+/// The threads on which a task runs.
 #[derive(Clone, Copy)]
 pub(crate) enum Home {
     /// It does not run.
     Nowhere,
     /// On this thread alone.
     On(u8),
-    /// On more than one thread, as turns tell.
+    /// On more than one thread, as its recorded turns show.
     Many,
 }
 
-/// What the schedules of a run tell: by index of each explicit task where it runs, and whether the event of
-/// any task is fulfilled before that task's body has ended.
+/// What the task_schedule events of a run show: by index of each explicit task where it runs, and whether
+/// the event of any task is fulfilled before that task's body has ended.
 #[derive(Drop)]
 pub(crate) struct Schedules<'a> {
     run: Run<'a>,
@@ -49,7 +49,7 @@ impl<'a> Model for Schedules<'a> {
 }
 
 impl<'a> Schedules<'a> {
-    /// The run.
+    /// Returns the run.
     pub(crate) fn run(&self) -> &Run<'a>
         ensures value { result.now ≡ self.now }
         ensures is_run { IsRun self.now }
@@ -57,7 +57,7 @@ impl<'a> Schedules<'a> {
         &self.run
     }
 
-    /// Where the explicit task at this index runs.
+    /// Returns where the explicit task at this index runs.
     pub(crate) fn home(&self, index: usize) -> Home
         requires { index < length self.now.family.tasks }
         ensures { (task : ℕ) → slice_get self.now.family.tasks index ≡ Some task
@@ -66,7 +66,7 @@ impl<'a> Schedules<'a> {
         self.homes[index]
     }
 
-    /// Whether the event of any task is fulfilled before that task's body has ended.
+    /// Returns whether the event of any task is fulfilled before that task's body has ended.
     pub(crate) fn any_early(&self) -> bool
         ensures { result ≡ false → IsNeverEarly self.now.records (length self.now.records) }
     {
@@ -74,8 +74,8 @@ impl<'a> Schedules<'a> {
     }
 }
 
-/// What the schedules tell. Searches for the first record after which an explicit task runs on a second
-/// thread, and no turns tell that it moved.
+/// Returns what the task_schedule events of the run show. Excludes Moved. Fails with the first record
+/// without turns after which an explicit task runs on a second thread.
 pub(crate) fn find_moved<'a>(alloc: Global, run: &Run<'a>) -> Result<Schedules<'a>, Fault>
     ensures run { IfOk result (λ schedules. schedules ≡ run.now) }
     ensures free { OnOk result (IsFreeOf run.now.records Moved) }
@@ -103,14 +103,14 @@ pub(crate) fn find_moved<'a>(alloc: Global, run: &Run<'a>) -> Result<Schedules<'
     })
 }
 
-/// No task runs.
+/// Returns the table in which no task runs. Fails only when out of memory.
 fn no_homes(alloc: Global, tasks: usize) -> Result<Vec<Home>, AllocError>
     ensures { IfOk result (λ homes. homes.items ≡ replicate tasks Nowhere) }
 {
     vec![in alloc; Home::Nowhere; tasks]
 }
 
-/// The index of the explicit task that runs next, if one does.
+/// Returns the index of the explicit task that runs next, if one does.
 fn explicit_start(run: &Run, at: usize) -> Option<usize>
     requires within { at < length run.now.records }
     requires is_run { IsRun run.now }
@@ -125,7 +125,7 @@ fn explicit_start(run: &Run, at: usize) -> Option<usize>
     }
 }
 
-/// Whether the record tells turns.
+/// Returns whether the record has turns.
 fn tells_turns(run: &Run, at: usize) -> bool
     requires { at < length run.now.records }
     ensures { result ≡ is_some (says_at told_turns run.now.records at) }
@@ -133,7 +133,8 @@ fn tells_turns(run: &Run, at: usize) -> bool
     run.record(at).body.told_turns().is_some()
 }
 
-/// Where a task runs that now runs on this thread; none where it ran on another one and no turns are told.
+/// Returns where a task runs that now runs on this thread, or none where it ran on another one and no turns
+/// are recorded.
 fn home_after(home: Home, thread: u8, told: bool) -> Option<Home>
     ensures { result ≡ home_after home thread told }
 {
@@ -150,7 +151,7 @@ fn home_after(home: Home, thread: u8, told: bool) -> Option<Home>
     }
 }
 
-/// The task moved, if turns tell so.
+/// Returns that the task moved, if turns are recorded, and else none.
 fn told_move(told: bool) -> Option<Home>
     ensures { result ≡ told_move told }
 {

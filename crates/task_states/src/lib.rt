@@ -1,4 +1,4 @@
-//! The states that a task goes through, where each thread stands, and seven causes of malformed records.
+//! The states that a task goes through, the walk of each thread, and seven causes of malformed records.
 //!
 //! Read `table` first, the states and what changes them, and `walk`, the tasks that a thread runs; then
 //! `states`, which takes all tasks of a run through their states: `current`, `homes`, `progress` (with

@@ -1,4 +1,4 @@
-//! What a record does to a task, and what the task's state then is.
+//! What a record does to a task, and the state of the task after it.
 ghost use Rattle.std.specs.Prelude.{ℕ, ◌≡◌, ◌<◌, Some, length};
 ghost use Rattle.ompt_events.specs.States.{may as may_move, state_after};
 ghost use Rattle.task_states.specs.Progress.{the_nature, the_move, fulfils_early, is_early_status, is_early_step, is_turn_step};
@@ -7,7 +7,7 @@ use crate::table::{discard_state, next_state, start_state};
 use ompt_events::{State, Status};
 use task_tree::Run;
 
-/// What a task is: what may happen to it depends on that.
+/// The nature of a task. It decides what may happen to the task.
 #[derive(Clone, Copy)]
 pub enum Nature {
     /// An initial or implicit task.
@@ -29,7 +29,7 @@ pub enum Move {
     Discarded,
 }
 
-/// The state of the task after the move; none where its nature or its state allows no such move.
+/// Returns the state of the task after the move, or none where its nature or its state allows no such move.
 pub fn after_move(nature: Nature, state: State, step: Move) -> Option<State>
     ensures { (i : ℕ) → result ≡ state_after (the_nature nature) (Some state) (i, the_move step) }
 {
@@ -43,8 +43,8 @@ pub fn after_move(nature: Nature, state: State, step: Move) -> Option<State>
     }
 }
 
-/// Whether such a move may happen to a task of this nature: a root yields, switches and runs next alone; a
-/// taskwait completes alone, and no other task does so.
+/// Returns whether such a move may happen to a task of this nature. A root only yields, switches and runs
+/// next. A taskwait with dependences only has the status `taskwait_complete`, and no other task has it.
 fn may(nature: Nature, step: Move) -> bool
     ensures { result ≡ may_move (the_nature nature) (the_move step) }
 {
@@ -64,7 +64,7 @@ fn may(nature: Nature, step: Move) -> bool
     }
 }
 
-/// Whether the record fulfils the event of any task before that task's body has ended.
+/// Returns whether the record fulfils the event of any task before that task's body has ended.
 pub(crate) fn fulfils_early(run: &Run, at: usize) -> bool
     requires { at < length run.now.records }
     ensures { result ≡ fulfils_early run.now.records at }
@@ -75,7 +75,7 @@ pub(crate) fn fulfils_early(run: &Run, at: usize) -> bool
     }
 }
 
-/// Whether it is the status of such a fulfilment.
+/// Returns whether this is the status of such a fulfilment.
 fn is_early(status: Status) -> bool
     ensures { result ≡ is_early_status status }
 {
@@ -85,7 +85,7 @@ fn is_early(status: Status) -> bool
     }
 }
 
-/// Whether the move is such a fulfilment of the task's own event.
+/// Returns whether the move is such a fulfilment of the task's own event.
 pub(crate) fn is_early_move(step: Move) -> bool
     ensures { result ≡ is_early_step step }
 {
@@ -95,7 +95,7 @@ pub(crate) fn is_early_move(step: Move) -> bool
     }
 }
 
-/// Whether the move begins or ends a turn of the task.
+/// Returns whether the move begins or ends a turn of the task.
 pub(crate) fn is_turn_move(step: Move) -> bool
     ensures { result ≡ is_turn_step step }
 {

@@ -10,9 +10,9 @@ use crate::walk::{ThreadWalk, new_walks};
 use std::alloc::{AllocError, Global};
 use task_tree::{Run, ThreadEvent};
 
-/// The first record at which a parallel region lies inside another (OpenMP 5.2, 10.1): a task that is not
-/// initial begins one, a member of a team begins inside another member, or an initial task inside any root.
-/// One step for each record.
+/// Returns the first record at which a parallel region lies inside another (OpenMP 5.2, 10.1): a task that
+/// is not initial begins one, a member of a team begins inside another member, or an initial task begins
+/// inside any root. Takes one step for each record.
 pub fn find_nested(alloc: Global, run: &Run) -> Result<Option<usize>, AllocError>
     ensures { IfOk result (FindsFirst run.now.records NestedParallel) }
 {
@@ -34,7 +34,7 @@ pub fn find_nested(alloc: Global, run: &Run) -> Result<Option<usize>, AllocError
     Ok(None)
 }
 
-/// The begin or end of a root, if the record is one. No other changes which roots are open.
+/// Returns the begin or end of a root, if the record is one. No other record changes which roots are open.
 fn root_event(run: &Run, at: usize) -> Option<ThreadEvent>
     requires { at < length run.now.records }
     ensures { MatchOption result (IsNoRootEvent run.now at) (IsRootEvent run.now at) }
@@ -46,7 +46,7 @@ fn root_event(run: &Run, at: usize) -> Option<ThreadEvent>
     Some(ThreadEvent::RootEnd(root))
 }
 
-/// Whether a task that is not initial begins a parallel region.
+/// Returns whether a task that is not initial begins a parallel region.
 fn forks_inside(run: &Run, at: usize) -> bool
     requires within { at < length run.now.records }
     requires is_run { IsRun run.now }
@@ -58,7 +58,7 @@ fn forks_inside(run: &Run, at: usize) -> bool
     }
 }
 
-/// Whether a root begins, where its thread stands, inside a member of a team or another root.
+/// Returns whether a root begins inside a member of a team or another root, by its thread's walk.
 fn begins_inside(run: &Run, walk: &ThreadWalk, at: usize) -> bool
     requires within { at < length run.now.records }
     requires is_run { IsRun run.now }
@@ -68,7 +68,7 @@ fn begins_inside(run: &Run, walk: &ThreadWalk, at: usize) -> bool
     joins_inside(run, walk, at) || initial_inside(run, walk, at)
 }
 
-/// Whether a member of a team begins while another is the innermost open root.
+/// Returns whether a member of a team begins while another is the innermost open root.
 fn joins_inside(run: &Run, walk: &ThreadWalk, at: usize) -> bool
     requires within { at < length run.now.records }
     requires is_run { IsRun run.now }
@@ -81,7 +81,7 @@ fn joins_inside(run: &Run, walk: &ThreadWalk, at: usize) -> bool
     }
 }
 
-/// Whether there is a task, and it is a member of a team.
+/// Returns whether there is a task, and it is a member of a team.
 fn has_member(run: &Run, task: Option<usize>) -> bool
     requires is_run { IsRun run.now }
     requires known { IfSome task (λ index. index < length run.now.family.tasks) }
@@ -93,7 +93,7 @@ fn has_member(run: &Run, task: Option<usize>) -> bool
     }
 }
 
-/// Whether an initial task begins while a root is open.
+/// Returns whether an initial task begins while a root is open.
 fn initial_inside(run: &Run, walk: &ThreadWalk, at: usize) -> bool
     requires { at < length run.now.records }
     ensures { IsTrue result ↔ InitialInside run.now walk.now at }
@@ -101,7 +101,7 @@ fn initial_inside(run: &Run, walk: &ThreadWalk, at: usize) -> bool
     run.begun_initial(at).is_some() && walk.innermost().is_some()
 }
 
-/// Whether the task at this index is an initial one.
+/// Returns whether the task at this index is an initial one.
 fn is_initial(run: &Run, index: usize) -> bool
     requires within { index < length run.now.family.tasks }
     requires is_run { IsRun run.now }
@@ -111,7 +111,7 @@ fn is_initial(run: &Run, index: usize) -> bool
     run.begun_initial(run.made_at(index)).is_some()
 }
 
-/// Whether the task at this index is a member of a team.
+/// Returns whether the task at this index is a member of a team.
 fn is_member(run: &Run, index: usize) -> bool
     requires within { index < length run.now.family.tasks }
     requires is_run { IsRun run.now }

@@ -5,8 +5,8 @@ ghost use Rattle.ompt_events.specs.Causes.{IsFreeOf, IsFirstWith};
 
 use ompt_events::Trace;
 
-/// The first record whose `seq` is not the number of earlier records of its thread. The numbering is the
-/// file format's own; OpenMP 5.2 gives events no numbers. Takes no memory from the heap, and one step for
+/// Returns the first record whose `seq` is not the number of earlier records of its thread. The file format
+/// defines this number; OpenMP 5.2 does not number events. Takes no memory from the heap, and one step for
 /// each record.
 pub fn gap(trace: &Trace) -> Option<usize>
     ensures { MatchOption result (IsFreeOf trace.now.records SeqGap) (IsFirstWith trace.now.records SeqGap) }

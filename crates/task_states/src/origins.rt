@@ -16,8 +16,8 @@ use std::alloc::{AllocError, Global};
 use std::marker::Model;
 use task_tree::Run;
 
-/// The tasks of a run, by index of the task what it is, and where it runs: on the thread on which it begins
-/// as a root, or first runs, unless it moved.
+/// The tasks of a run: by index of each task its nature, and where it runs. That is the thread on which it
+/// begins as a root, or first runs, unless it moved.
 #[derive(Drop)]
 pub(crate) struct Origins<'a> {
     run: Run<'a>,
@@ -37,7 +37,7 @@ impl<'a> Model for Origins<'a> {
 }
 
 impl<'a> Origins<'a> {
-    /// What each task is, and where it runs.
+    /// Returns what each task is, and where it runs.
     pub(crate) fn find(alloc: Global, schedules: &Schedules<'a>) -> Result<Origins<'a>, AllocError>
         requires { IsFreeOf schedules.now.records NotCurrent }
         ensures { IfOk result (λ origins. origins ≡ schedules.now) }
@@ -52,7 +52,7 @@ impl<'a> Origins<'a> {
         })
     }
 
-    /// The run.
+    /// Returns the run.
     pub(crate) fn run(&self) -> &Run<'a>
         ensures value { result.now ≡ self.now }
         ensures is_run { IsRun self.now }
@@ -60,7 +60,7 @@ impl<'a> Origins<'a> {
         &self.run
     }
 
-    /// What each task is.
+    /// Returns the nature of each task.
     pub(crate) fn natures(&self) -> &[Nature]
         ensures natures { AreNatures self.now.records self.now.family.tasks result.now }
         ensures all { length result.now ≡ length self.now.family.tasks }
@@ -68,7 +68,7 @@ impl<'a> Origins<'a> {
         self.natures.as_slice()
     }
 
-    /// What the task at this index is.
+    /// Returns the nature of the task at this index.
     pub(crate) fn nature(&self, index: usize) -> Nature
         requires { index < length self.now.family.tasks }
         ensures { (task : ℕ) → slice_get self.now.family.tasks index ≡ Some task
@@ -77,7 +77,7 @@ impl<'a> Origins<'a> {
         self.natures[index]
     }
 
-    /// Where the task at this index runs.
+    /// Returns where the task at this index runs.
     pub(crate) fn home(&self, index: usize) -> Home
         requires { index < length self.now.family.tasks }
         ensures { (task : ℕ) → slice_get self.now.family.tasks index ≡ Some task
@@ -86,7 +86,7 @@ impl<'a> Origins<'a> {
         self.homes[index]
     }
 
-    /// Whether the task at this index has moved.
+    /// Returns whether the task at this index has moved.
     pub(crate) fn has_moved(&self, index: usize) -> bool
         requires { index < length self.now.family.tasks }
         ensures { (task : ℕ) → slice_get self.now.family.tasks index ≡ Some task
@@ -95,7 +95,7 @@ impl<'a> Origins<'a> {
         is_many(self.home(index))
     }
 
-    /// Whether any task has moved.
+    /// Returns whether any task has moved.
     pub(crate) fn any_moved(&self) -> bool
         ensures { result ≡ false → (task : ℕ) → has_moved self.now.records task ≡ false }
     {
@@ -103,14 +103,14 @@ impl<'a> Origins<'a> {
     }
 }
 
-/// Whether any of the homes is that of a task that moved.
+/// Returns whether any of the homes is that of a task that moved.
 fn any_many(homes: &[Home]) -> bool
     ensures { result ≡ list_any is_many homes.now }
 {
     homes.iter().any(|home| is_many(*home))
 }
 
-/// Whether it is the home of a task that moved.
+/// Returns whether it is the home of a task that moved.
 pub(crate) fn is_many(home: Home) -> bool
     ensures { result ≡ is_many home }
 {
@@ -120,7 +120,7 @@ pub(crate) fn is_many(home: Home) -> bool
     }
 }
 
-/// Whether a record of this thread is at the home.
+/// Returns whether a record of this thread is at the home.
 pub(crate) fn is_at(home: Home, thread: u8) -> bool
     ensures { result ≡ is_at home thread }
 {
@@ -130,14 +130,14 @@ pub(crate) fn is_at(home: Home, thread: u8) -> bool
     }
 }
 
-/// Whether the move begins or ends a turn, and the home is that of a task that moved.
+/// Returns whether the move begins or ends a turn, and the home is that of a task that moved.
 pub(crate) fn is_turned(home: Home, step: Move) -> bool
     ensures { result ≡ is_many home && is_turn_step step }
 {
     is_many(home) && is_turn_move(step)
 }
 
-/// What each task is.
+/// Returns the nature of each task.
 fn find_natures(alloc: Global, run: &Run) -> Result<Vec<Nature>, AllocError>
     ensures natures { IfOk result (λ natures.
         AreNatures run.now.records run.now.family.tasks natures.items) }
@@ -151,7 +151,7 @@ fn find_natures(alloc: Global, run: &Run) -> Result<Vec<Nature>, AllocError>
     Ok(natures)
 }
 
-/// What the task at this index is.
+/// Returns the nature of the task at this index.
 fn nature_at(run: &Run, index: usize) -> Nature
     requires within { index < length run.now.family.tasks }
     requires is_run { IsRun run.now }
@@ -168,7 +168,7 @@ fn nature_at(run: &Run, index: usize) -> Nature
     }
 }
 
-/// Whether the task that the record makes is a taskwait with dependences (OpenMP 5.2, 15.5).
+/// Returns whether the task that the record makes is a taskwait with dependences (OpenMP 5.2, 15.5).
 fn is_wait_made(run: &Run, at: usize) -> bool
     requires { at < length run.now.records }
     ensures { result ≡ is_wait_made run.now.records at }
@@ -179,8 +179,8 @@ fn is_wait_made(run: &Run, at: usize) -> bool
     }
 }
 
-/// For each task where it runs: on the thread of the record that makes it, where it is a root, else where the
-/// schedules tell.
+/// Returns for each task where it runs: a root on the thread of the record that makes it, any other task
+/// as the task_schedule events show.
 fn find_homes(alloc: Global, schedules: &Schedules) -> Result<Vec<Home>, AllocError>
     requires { IsFreeOf schedules.now.records NotCurrent }
     ensures homes { IfOk result (λ homes.
@@ -195,7 +195,7 @@ fn find_homes(alloc: Global, schedules: &Schedules) -> Result<Vec<Home>, AllocEr
     Ok(homes)
 }
 
-/// Where the task at this index runs.
+/// Returns where the task at this index runs.
 fn home_at(schedules: &Schedules, index: usize) -> Home
     requires within { index < length schedules.now.family.tasks }
     requires current { IsFreeOf schedules.now.records NotCurrent }

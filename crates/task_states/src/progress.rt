@@ -1,4 +1,4 @@
-//! How far each task comes by the moves that its state allows.
+//! The state that each task reaches by the moves that its states allow.
 ghost use Rattle.std.specs.Prelude.{ℕ, ◌≡◌, ◌<◌, ◌++◌, List, Some, None, [], true, IsTrue, IfOk, OnOk, MatchOption, All, length, set, get_or, slice_get};
 ghost use Rattle.std.specs.List.{flat_map};
 ghost use Rattle.ompt_events.specs.declared.cause.Cause.TheVariants.{NotCurrent, StatusOrder};
@@ -23,9 +23,9 @@ use std::alloc::{AllocError, Global};
 use std::marker::Model;
 use task_tree::Run;
 
-/// Which records of a task are read in one go over the file: each task's moves are read in three, fulfilments
-/// ahead of its home, its home's records, then all others. A task that moved has no home; its turns are read
-/// one by one before the last.
+/// The records of a task that one pass over the file reads. Each task's moves are read in three passes:
+/// fulfilments ahead of its home, its home's records, then all others. A task that moved has no home; its
+/// turns are read one by one before the last pass.
 #[derive(Clone, Copy)]
 pub(crate) enum Pass {
     Early,
@@ -58,7 +58,7 @@ impl Model for Progress {
 }
 
 impl Progress {
-    /// Goes on by one move of a task of this nature.
+    /// Applies one move of a task of this nature.
     #[inline(always)]
     fn go_on(&mut self, nature: Nature, moved: TaskMove)
         requires { moved.index < length self.old.states }
@@ -76,10 +76,9 @@ impl Progress {
         }
     }
 
-    /// Goes on by one move of a task, where this pass reads the record for the task, and says whether it
-    /// does.
-    // It is inlined, as are `go_on`, `note_next` and `read`, so that each pass has a copy of its own, in which the
-    // tests for the other passes are left out: that takes half as long as a call.
+    /// Applies one move of a task if this pass reads the record for the task. Returns whether it does.
+    // It is inlined, as are `go_on`, `note_next` and `read`, so that each pass has a copy of its own, in
+    // which the tests for the other passes are left out: that takes half as long as a call.
     #[inline(always)]
     fn note(&mut self, origins: &Origins, pass: Pass, moved: TaskMove) -> bool
         requires all { length self.old.states ≡ length origins.now.family.tasks }
@@ -103,8 +102,8 @@ impl Progress {
         false
     }
 
-    /// The same for the task that runs next after the record, if one does. Where none does, nothing is left
-    /// to read.
+    /// Does the same for the task that runs next after the record, if one does. Where none does, returns
+    /// true: nothing is left to read.
     #[inline(always)]
     fn note_next(&mut self, origins: &Origins, pass: Pass, at: usize, next: Option<usize>) -> bool
         requires all { length self.old.states ≡ length origins.now.family.tasks }
@@ -125,7 +124,7 @@ impl Progress {
         self.note(origins, pass, TaskMove { at, index, step })
     }
 
-    /// Goes on by what the record at a place does to its tasks, where this pass reads it for them, and says
+    /// Applies what the record at a place does to its tasks, where this pass reads it for them. Returns
     /// whether it reads it for each of them.
     #[inline(always)]
     fn read(&mut self, origins: &Origins, pass: Pass, at: usize) -> bool
@@ -155,8 +154,8 @@ impl Progress {
 }
 
 impl Progress {
-    /// Goes on by the fulfilments ahead of a task's home. As this pass reads no other records, it passes over
-    /// them after one look at the status, and looks for none of their tasks.
+    /// Applies the fulfilments ahead of a task's home. This pass reads no other records: it skips them after
+    /// one look at the status, and searches for none of their tasks.
     fn read_early(&mut self, origins: &Origins)
         requires { HasCome origins.now.records origins.now.family.tasks
             (moves_before Early origins.now.records 0) self.old }
@@ -171,8 +170,8 @@ impl Progress {
         }
     }
 
-    /// Goes on by all records for the tasks whose home made them, and gives the places of the records with a
-    /// task that has another home, or none. There are few of those in most files.
+    /// Applies all records to the tasks whose home made them. Returns the places of the records with a task
+    /// that has another home, or none. There are few of those in most files.
     fn read_home(&mut self, alloc: Global, origins: &Origins) -> Result<Vec<usize>, AllocError>
         requires { HasCome origins.now.records origins.now.family.tasks
             (moves_before Home origins.now.records 0) self.old }
@@ -191,7 +190,7 @@ impl Progress {
         Ok(left)
     }
 
-    /// Goes on turn by turn by the moves with which tasks that moved begin and end it.
+    /// Applies, turn by turn, the moves with which tasks that moved begin and end it.
     // Where no record has a TurnGap, there are no more turns than records, so that this is linear too.
     fn read_turns(&mut self, alloc: Global, origins: &Origins) -> Result<(), AllocError>
         requires { HasCome origins.now.records origins.now.family.tasks
@@ -209,7 +208,7 @@ impl Progress {
         Ok(())
     }
 
-    /// Goes on by the moves with which tasks that moved begin a turn, or end it, at these places.
+    /// Applies the moves with which tasks that moved begin a turn, or end it, at these places.
     fn read_edges(&mut self, origins: &Origins, edge: Edge, places: &[u32])
         requires within { All (λ place. place < length origins.now.records) places.now }
         requires all { length self.old.states ≡ length origins.now.family.tasks }
@@ -226,7 +225,7 @@ impl Progress {
         }
     }
 
-    /// Goes on by the move with which a task that moved begins a turn there, or ends it.
+    /// Applies the move with which a task that moved begins a turn at the place, or ends it.
     fn read_edge(&mut self, origins: &Origins, edge: Edge, at: usize)
         requires within { at < length origins.now.records }
         requires all { length self.old.states ≡ length origins.now.family.tasks }
@@ -243,7 +242,7 @@ impl Progress {
         self.go_on(origins.nature(index), TaskMove { at, index, step });
     }
 
-    /// Goes on by all that is left to read, which stands at these places alone.
+    /// Applies all that is left to read, which is at these places alone.
     fn read_rest(&mut self, origins: &Origins, left: &[usize])
         requires left { AreLeft origins.now.records (length origins.now.records) left.now }
         requires come { HasCome origins.now.records origins.now.family.tasks
@@ -256,7 +255,7 @@ impl Progress {
         }
     }
 
-    /// Before any move.
+    /// Returns the progress before any move.
     fn new(alloc: Global, origins: &Origins) -> Result<Progress, AllocError>
         ensures { IfOk result
             (HasCome origins.now.records origins.now.family.tasks (λ _. [])) }
@@ -274,14 +273,14 @@ impl Progress {
 }
 
 impl Progress {
-    /// The first place at which a move was not allowed.
+    /// Returns the first place at which a move was not allowed.
     pub(crate) fn refused(&self) -> Option<usize>
         ensures { result ≡ self.now.refused }
     {
         self.refused
     }
 
-    /// The states.
+    /// Returns the states.
     pub(crate) fn into_states(self) -> Vec<Option<State>>
         ensures { result.items ≡ self.states }
     {
@@ -289,7 +288,7 @@ impl Progress {
     }
 }
 
-/// How far each task comes by all its moves.
+/// Returns the state that each task reaches by all its moves.
 pub(crate) fn find_progress(alloc: Global, schedules: &Schedules) -> Result<Progress, AllocError>
     requires { IsFreeOf schedules.now.records NotCurrent }
     ensures come { IfOk result (HasCome schedules.now.records schedules.now.family.tasks
@@ -310,7 +309,7 @@ pub(crate) fn find_progress(alloc: Global, schedules: &Schedules) -> Result<Prog
     Ok(progress)
 }
 
-/// The state of a task that has not moved.
+/// Returns the state of a task that has not moved.
 fn first_state(nature: Nature) -> State
     ensures { result ≡ first_state (the_nature nature) }
 {
@@ -320,7 +319,7 @@ fn first_state(nature: Nature) -> State
     }
 }
 
-/// The move with which a task begins a turn there, or ends it, and the task's index.
+/// Returns the move with which a task begins a turn there, or ends it, and the task's index.
 fn edge_move(run: &Run, edge: Edge, at: usize) -> Option<(usize, Move)>
     requires within { at < length run.now.records }
     requires is_run { IsRun run.now }
@@ -339,8 +338,9 @@ fn edge_move(run: &Run, edge: Edge, at: usize) -> Option<(usize, Move)>
     }
 }
 
-/// Whether a pass reads a record for a task, which is an early fulfilment of the task's event or not, at the
-/// task's home or not, and begins or ends a turn of a task that moved or not.
+/// Returns whether a pass reads a record for a task, given whether the record is an early fulfilment of the
+/// task's event, whether it is at the task's home, and whether it begins or ends a turn of a task that
+/// moved.
 fn reads(pass: Pass, is_early: bool, is_home: bool, is_turned: bool) -> bool
     ensures { result ≡ reads pass is_early is_home is_turned }
 {
@@ -351,7 +351,8 @@ fn reads(pass: Pass, is_early: bool, is_home: bool, is_turned: bool) -> bool
     }
 }
 
-/// Keeps the first place at which a move was not allowed, after one at this place that led to this state.
+/// Keeps the first place at which a move was not allowed, after a move at this place that led to this state,
+/// or was not allowed.
 fn note_refused(refused: &mut Option<usize>, after: Option<State>, at: usize)
     ensures { (before : State) → refused.new ≡ refused_after refused.old (Some before) after at }
 {
@@ -360,7 +361,7 @@ fn note_refused(refused: &mut Option<usize>, after: Option<State>, at: usize)
     }
 }
 
-/// The earlier of the two, where there are two.
+/// Returns the earlier of the two places, or the second one where there is no first.
 fn earlier(first: Option<usize>, at: usize) -> usize
     ensures { result ≡ earlier_of first at }
 {

@@ -19,7 +19,7 @@ use task_tree::{Own, RegionEvent, Run, Slot};
 #[derive(Debug, Drop)]
 pub struct Regions<'a> {
     own: Own<'a>,
-    /// For each record that ends a region the number of its begin, and for each that begins one the region
+    /// For each record that ends a region, the number of its begin; for each that begins one, the region
     /// that is open below it.
     begins: Vec<Slot>,
 }
@@ -35,9 +35,9 @@ impl<'a> Model for Regions<'a> {
 }
 
 impl<'a> Regions<'a> {
-    /// The regions of a run in its tasks' own order. Refused is a region that ends without its begin, or a
-    /// barrier of an explicit task (OpenMP 5.2, 15.3), at the first place in the file. It takes a few steps
-    /// for each record, and memory linear in the records.
+    /// Returns the regions of a run in its tasks' own order. Fails with the first place in the file at which
+    /// a region ends without its begin, or an explicit task has a barrier (OpenMP 5.2, 15.3). Takes a few
+    /// steps for each record, and memory linear in the records.
     pub fn in_own(alloc: Global, own: &Own<'a>) -> Result<Regions<'a>, Fault>
         ensures own { IfOk result (λ regions. regions.own ≡ own.now) }
         ensures regions { IfOk result AreRegions }
@@ -52,7 +52,7 @@ impl<'a> Regions<'a> {
         })
     }
 
-    /// The run in its tasks' own order.
+    /// Returns the run in its tasks' own order.
     pub fn own(&self) -> &Own<'a>
         ensures value { result.now ≡ self.now.own }
         ensures are_regions { AreRegions self.now }
@@ -60,8 +60,8 @@ impl<'a> Regions<'a> {
         &self.own
     }
 
-    /// The number of the record at which the region began that the record with this number ends; a begin and
-    /// end in one began there too.
+    /// Returns the number of the begin of the region that the record with this number ends, or none if it
+    /// ends none. For a begin and end in one that is the same number.
     pub fn begin_of(&self, number: usize) -> Option<usize>
         requires { number < length self.now.own.run.records }
         ensures { MatchOption result ((task begin : ℕ) (kind : SyncKind)
@@ -77,9 +77,10 @@ impl<'a> Regions<'a> {
     }
 }
 
-/// For each record: the begin that an end belongs to, and the innermost region of the task that is open when
-/// a begin opens another. Searches for the first place in the file of an end that belongs to no begin, or of
-/// a begin or end of a barrier by an explicit task. Such a record opens or closes a region as any other.
+/// Returns for each record the begin that an end belongs to, or the innermost region of the task that is
+/// open when a begin opens another. Fails with the first place in the file of an end that belongs to no
+/// begin, or of a begin or end of a barrier by an explicit task. Such a record opens or closes a region as
+/// any other.
 fn find_links(alloc: Global, own: &Own) -> Result<Vec<Slot>, Fault>
     ensures linked { IfOk result (λ links.
         AreLinked own.now.run.records (length own.now.run.records) links.items) }
@@ -109,8 +110,8 @@ fn find_links(alloc: Global, own: &Own) -> Result<Vec<Slot>, Fault>
     }
 }
 
-/// The earlier in the file of two places: the earliest so far, if there is one, and that of the record with
-/// this number, if that has the cause that is looked for.
+/// Returns the earlier in the file of two places: the earliest so far, if there is one, and that of the
+/// record with this number, if that record has the cause.
 fn earlier(own: &Own, earliest: Option<usize>, number: usize, has: bool) -> Option<usize>
     requires { number < length own.now.run.records }
     ensures { (cause : Cause) → (IsTrue has ↔ HasCause own.now.run.records number cause)
@@ -126,8 +127,8 @@ fn earlier(own: &Own, earliest: Option<usize>, number: usize, has: bool) -> Opti
     }
 }
 
-/// Whether the region may not begin or end there: it ends, and the innermost open one of its task is not of
-/// that kind; or it is a barrier of an explicit task.
+/// Returns whether the region may not begin or end there: it ends, and the innermost open one of its task is
+/// not of that kind; or it is a barrier of an explicit task.
 fn is_misplaced(run: &Run, number: usize, opened: Option<usize>, event: RegionEvent) -> bool
     requires event { IsRegionEvent run.now number event.task event.kind event.endpoint }
     requires opened { IsInnermost run.now number event.task opened }
@@ -143,14 +144,14 @@ fn is_misplaced(run: &Run, number: usize, opened: Option<usize>, event: RegionEv
     false
 }
 
-/// A table of so many entries, each without a place.
+/// Returns a table of this many entries, each without a place.
 fn no_places(alloc: Global, count: usize) -> Result<Vec<Slot>, AllocError>
     ensures { IfOk result (λ places. places.items ≡ replicate count None) }
 {
     vec![in alloc; Slot::none(); count]
 }
 
-/// Whether the record ends a region, and the innermost open one of its task is not of that kind.
+/// Returns whether the record ends a region, and the innermost open one of its task is not of that kind.
 fn misses_begin(run: &Run, opened: Option<usize>, event: RegionEvent) -> bool
     ensures misses { IsTrue result → (event.endpoint ≡ Endpoint.End)
         × ((begin : ℕ) → opened ≡ Some begin → kind_at run.now.records begin ≢ Some event.kind) }
@@ -166,7 +167,7 @@ fn misses_begin(run: &Run, opened: Option<usize>, event: RegionEvent) -> bool
     }
 }
 
-/// Whether a region of this kind begins or ends there.
+/// Returns whether a region of this kind begins or ends there.
 fn is_of_kind(run: &Run, place: usize, kind: SyncKind) -> bool
     ensures { IsTrue result ↔ (kind_at run.now.records place ≡ Some kind) }
 {
@@ -176,7 +177,7 @@ fn is_of_kind(run: &Run, place: usize, kind: SyncKind) -> bool
     }
 }
 
-/// The kind of the region that begins or ends there.
+/// Returns the kind of the region that begins or ends there.
 fn kind_of(run: &Run, place: usize) -> Option<SyncKind>
     ensures { result ≡ kind_at run.now.records place }
 {
@@ -187,7 +188,7 @@ fn kind_of(run: &Run, place: usize) -> Option<SyncKind>
     Some(kind)
 }
 
-/// Whether the region is a barrier, and the task explicit, which may have none.
+/// Returns whether the region is a barrier, and the task is explicit, so that it may have none.
 fn is_barred(run: &Run, event: RegionEvent) -> bool
     requires { event.task < length run.now.family.tasks }
     ensures { (task : ℕ) → slice_get run.now.family.tasks event.task ≡ Some task → IsTrue result
@@ -196,7 +197,7 @@ fn is_barred(run: &Run, event: RegionEvent) -> bool
     event.kind.is_called_barrier() && run.is_explicit(event.task)
 }
 
-/// The innermost open region of a task after its record with this number.
+/// Returns the innermost open region of a task after its record with this number.
 fn next_top(links: &[Slot], opened: Slot, number: usize, endpoint: Endpoint) -> Slot
     requires { number < 4294967295 }
     ensures { result ≡ top_after links.now opened number endpoint }
@@ -211,8 +212,8 @@ fn next_top(links: &[Slot], opened: Slot, number: usize, endpoint: Endpoint) -> 
     }
 }
 
-/// The begin that the end of a region at a place belongs to, or the region that is open below the one that
-/// begins there.
+/// Returns the begin that the end of a region at a place belongs to, or the region that is open below the
+/// one that begins there.
 fn link_at(links: &[Slot], at: usize) -> Slot
     ensures { result ≡ slice_index_or links.now at None }
 {

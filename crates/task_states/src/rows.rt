@@ -5,7 +5,7 @@ ghost use Rattle.task_states.specs.Rows.{row_at, AreSameRows};
 
 use std::alloc::{AllocError, Global};
 
-/// Makes the rows up to this index, each of them empty.
+/// Adds empty rows up to this index. Fails only when out of memory.
 pub fn reach<T: Drop>(alloc: Global, rows: &mut Vec<Vec<T>>, index: usize) -> Result<(), AllocError>
     ensures made { OnOk result (index < length rows.new.items) }
     ensures same { OnOk result (AreSameRows rows.old.items rows.new.items) }
@@ -18,7 +18,7 @@ pub fn reach<T: Drop>(alloc: Global, rows: &mut Vec<Vec<T>>, index: usize) -> Re
     Ok(())
 }
 
-/// The row with this index; empty where none is made.
+/// Returns the row with this index, empty where none is made.
 pub fn row<T>(rows: &[Vec<T>], index: usize) -> &[T]
     ensures { result.now ≡ row_at rows.now index }
 {

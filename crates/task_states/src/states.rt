@@ -42,12 +42,12 @@ impl<'a> Model for States<'a> {
 }
 
 impl<'a> States<'a> {
-    /// Takes each task of the run through its states. Malformed records are refused, with the first of these
+    /// Returns the states of the run's tasks. If the records are malformed, fails with the first of these
     /// causes that occurs, at its first record in the file: a record of a task that its thread does not run
     /// (OpenMP 5.2, 12.9); an explicit task that runs on two threads without turns (it is tied, 12.1), or a
     /// turn that is not its task's; a change that a task's state does not allow (19.5.2.10); a region that
     /// ends without its begin, or a barrier of an explicit task (15.3). The run is that of the file, and
-    /// `own` has its records in the tasks' own order. The first turn gap is known already. It takes a few
+    /// `own` has its records in the tasks' own order. The caller passes the first turn gap. Takes a few
     /// steps for each record, and memory linear in the records.
     pub fn in_run(
         alloc: Global,
@@ -81,7 +81,7 @@ impl<'a> States<'a> {
         })
     }
 
-    /// The run of the file.
+    /// Returns the run of the file.
     pub fn run(&self) -> &Run<'a>
         ensures value { result.now ≡ self.now.run }
         ensures is_states { IsStates self.now }
@@ -89,7 +89,7 @@ impl<'a> States<'a> {
         &self.run
     }
 
-    /// The state of the task after all its records; none for a task that no record makes.
+    /// Returns the state of the task after all its records, or none for a task that no record makes.
     pub fn last(&self, task: u64) -> Option<State>
         ensures { IsLastState self.now.run.records task result }
     {
@@ -99,7 +99,7 @@ impl<'a> States<'a> {
         }
     }
 
-    /// The regions, whose records stand in the tasks' own order.
+    /// Returns the regions, whose records are in the tasks' own order.
     pub fn regions(&self) -> &Regions<'a>
         ensures value { result.now ≡ self.now.regions }
         ensures is_states { IsStates self.now }
@@ -108,8 +108,8 @@ impl<'a> States<'a> {
     }
 }
 
-/// The state of each task after all its records. Searches for the first record that changes a task in a way
-/// that its state does not allow.
+/// Returns the state of each task after all its records. Fails with the first record that changes a task in
+/// a way that its state does not allow.
 fn find_states(alloc: Global, schedules: &Schedules) -> Result<Vec<Option<State>>, Fault>
     requires { IsFreeOf schedules.now.records NotCurrent }
     ensures states { IfOk result (λ states.

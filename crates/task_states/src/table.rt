@@ -4,7 +4,7 @@ ghost use Rattle.ompt_events.specs.States.{next_state_of, start_state_of, discar
 
 use ompt_events::{State, Status};
 
-// The table stands once; the first word names the shape that its rows are put into. A row is a state; its
+// The table is written once; the first word names the code that its rows become. A row is a state; its
 // columns are the states after an event with each status, in parentheses and in the order of `Status`, then
 // after the task runs next and after it is discarded. A `-` allows no such event.
 macro_rules! states {
@@ -68,26 +68,26 @@ macro_rules! after_discard {
     };
 }
 
-/// The state of a task after a task_schedule event that has it as `prior` with this status (OpenMP 5.2,
-/// 19.5.2.10 and `ompt_task_status_t`); none where its state allows no such event. How early and late
-/// fulfilment of an event (12.5.2) meet the end of the task's body is the file format's own rule: after an
-/// early one the task is complete with the end of its body, and a late one completes it.
+/// Returns the state of a task after a task_schedule event that has it as `prior` with this status (OpenMP
+/// 5.2, 19.5.2.10 and `ompt_task_status_t`), or none where its state allows no such event. The file format
+/// defines how the fulfilment of an event (12.5.2) and the end of the task's body complete the task: after
+/// an early fulfilment the end of the body completes it, and a late fulfilment completes it at once.
 pub fn next_state(state: State, status: Status) -> Option<State>
     ensures { result ≡ next_state_of state status }
 {
     states!(after_status state status)
 }
 
-/// The state of a task after a task_schedule event that has it as `next` (OpenMP 5.2, 19.5.2.10): it runs.
-/// None where it runs already or has ended.
+/// Returns the state of a task after a task_schedule event that has it as `next` (OpenMP 5.2, 19.5.2.10): it
+/// runs. Returns none where it runs already or has ended.
 pub fn start_state(state: State) -> Option<State>
     ensures { result ≡ start_state_of state }
 {
     states!(after_start state)
 }
 
-/// The state of a task after it is discarded (OpenMP 5.2, 11.5 and `ompt_cancel_discarded_task`).
-/// None where it has begun, or its event was fulfilled already.
+/// Returns the state of a task after it is discarded (OpenMP 5.2, 11.5 and `ompt_cancel_discarded_task`), or
+/// none where it has begun or its event was fulfilled already.
 pub fn discard_state(state: State) -> Option<State>
     ensures { result ≡ discard_state_of state }
 {

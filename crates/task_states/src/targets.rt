@@ -9,9 +9,9 @@ ghost use Rattle.task_states.specs.Targets.{IsTargetMade};
 use bitflags::Flags;
 use ompt_events::{Body, Endpoint, TaskFlags, Trace};
 
-/// The first record that makes a target task, one with the flag `target` (OpenMP 5.2, 13.8 and
-/// `ompt_task_flag_t`). It runs on a device, whose events are no part of the file. Takes no memory from the
-/// heap, and one step for each record.
+/// Returns the first record that makes a target task, one with the flag `target` (OpenMP 5.2, 13.8 and
+/// `ompt_task_flag_t`). Such a task runs on a device, whose events are not in the file. Takes no memory from
+/// the heap, and one step for each record.
 pub fn target(trace: &Trace) -> Option<usize>
     ensures { MatchOption result (IsFreeOf trace.now.records TargetTask)
         (IsFirstWith trace.now.records TargetTask) }
@@ -24,7 +24,7 @@ pub fn target(trace: &Trace) -> Option<usize>
     None
 }
 
-/// Whether the record makes a target task.
+/// Returns whether the record makes a target task.
 fn makes_target(body: &Body) -> bool
     ensures { IsTrue result ↔ IsTargetMade body.now }
 {
@@ -39,7 +39,7 @@ fn makes_target(body: &Body) -> bool
     }
 }
 
-/// Whether these are the flags of a target task.
+/// Returns whether these are the flags of a target task.
 fn is_target(flags: TaskFlags) -> bool
     ensures { result ≡ has_flag flags.0 flag.target }
 {

@@ -1,4 +1,4 @@
-//! The calls that take a trace with its tree, for callers that have no run.
+//! Calls on a trace with its tree, for callers that have no run.
 ghost use Rattle.std.specs.Prelude.{◌≡◌, [], ◌∷◌, IfOk, IfErr, OnOk, MatchOption};
 ghost use Rattle.ompt_events.specs.declared.cause.Cause.TheVariants.{NotCurrent, Moved, TurnGap, StatusOrder, RegionOrder, NestedParallel};
 ghost use Rattle.ompt_events.specs.declared.fault.Fault.TheVariants.{Memory};
@@ -14,11 +14,11 @@ use ompt_events::{Fault, Trace};
 use std::alloc::Global;
 use task_tree::Tree;
 
-/// Why the states of tasks have no answer: memory, or the first that occurs of `NotCurrent`, `Moved`,
-/// `TurnGap`, `StatusOrder` and `RegionOrder`.
+/// Why the search for the states of tasks fails: out of memory, or the first that occurs of `NotCurrent`,
+/// `Moved`, `TurnGap`, `StatusOrder` and `RegionOrder`.
 pub type StateFault = Fault;
 
-/// Takes each task of a trace through its states, as `States::in_run` does. The tree must be that of the
+/// Returns the states of the trace's tasks, as `States::in_run` does. Requires that the tree is that of the
 /// trace's tasks.
 pub fn run<'a>(alloc: Global, trace: &'a Trace, tree: &'a Tree) -> Result<States<'a>, StateFault>
     requires { IsTreeOf trace.now.records tree.now }
@@ -39,8 +39,8 @@ pub fn run<'a>(alloc: Global, trace: &'a Trace, tree: &'a Tree) -> Result<States
     States::in_run(alloc, &families.run(trace), &own, families.gap())
 }
 
-/// The first record of a trace at which a parallel region lies inside another (OpenMP 5.2,
-/// 10.1), as `find_nested` finds it. The tree must be that of the trace's tasks.
+/// Returns the first record of a trace at which a parallel region lies inside another (OpenMP 5.2, 10.1), as
+/// `find_nested` finds it. Requires that the tree is that of the trace's tasks.
 pub fn nested(alloc: Global, trace: &Trace, tree: &Tree) -> Result<Option<usize>, StateFault>
     requires { IsTreeOf trace.now.records tree.now }
     ensures found { IfOk result (λ found. MatchOption found

@@ -20,7 +20,7 @@ pub(crate) enum Edge {
     Ends,
 }
 
-/// How many turns there are: one more than the greatest that begins.
+/// Returns the number of turns: one more than the greatest that begins.
 pub(crate) fn turn_count(run: &Run) -> usize
     ensures { result ≡ turns_in run.now.records }
 {
@@ -31,7 +31,7 @@ pub(crate) fn turn_count(run: &Run) -> usize
     most as usize + 1
 }
 
-/// The turn that begins at the record, and 0 where none does.
+/// Returns the turn that begins at the record, or 0 where none does.
 fn begun_turn(event: &Record) -> u32
     ensures { result ≡ option_map_or (λ (b : ℕ × ℕ). b.1) (begun_turn event.now.body) 0 }
 {
@@ -41,7 +41,7 @@ fn begun_turn(event: &Record) -> u32
     }
 }
 
-/// By turn the places at which tasks that moved begin it, or end it, in file order.
+/// Returns by turn the places at which tasks that moved begin it, or end it, in file order.
 pub(crate) fn find_edges(
     alloc: Global,
     origins: &Origins,
@@ -62,7 +62,7 @@ pub(crate) fn find_edges(
     Ok(rows)
 }
 
-/// Notes the place in the row of this turn. Rows are made only up to the turn: most turns are those of roots,
+/// Adds the place to the row of this turn. Rows are made only up to the turn: most turns are those of roots,
 /// which never move.
 fn note_place(
     alloc: Global,
@@ -78,7 +78,7 @@ fn note_place(
     Ok(())
 }
 
-/// The turn that a task which moved begins, or ends, at the place.
+/// Returns the turn that a task which moved begins, or ends, at the place.
 fn moved_turn(origins: &Origins, edge: Edge, at: usize) -> Option<usize>
     requires { at < length origins.now.records }
     ensures { result ≡ moved_turn edge origins.now.records at }
@@ -89,7 +89,7 @@ fn moved_turn(origins: &Origins, edge: Edge, at: usize) -> Option<usize>
     }
 }
 
-/// The turn that a task which moved begins there.
+/// Returns the turn that a task which moved begins there.
 fn begun_there(origins: &Origins, at: usize) -> Option<usize>
     requires { at < length origins.now.records }
     ensures { result ≡ moved_turn Begins origins.now.records at }
@@ -102,7 +102,7 @@ fn begun_there(origins: &Origins, at: usize) -> Option<usize>
     Some(turn as usize)
 }
 
-/// The turn that a task which moved ends there.
+/// Returns the turn that a task which moved ends there.
 fn ended_there(origins: &Origins, at: usize) -> Option<usize>
     requires { at < length origins.now.records }
     ensures { result ≡ moved_turn Ends origins.now.records at }

@@ -1,4 +1,4 @@
-//! Where a thread stands: its open roots, and the task that it runs.
+//! The walk of a thread: its open roots, and the task that it runs.
 ghost use Rattle.std.specs.Prelude.{◌≡◌, IfOk, OnOk, replicate, slice_get};
 ghost use Rattle.ompt_events.specs.Threads.{at_start};
 ghost use Rattle.task_states.specs.Walks.{after_event};
@@ -10,7 +10,7 @@ use task_tree::ThreadEvent;
 /// Thread numbers are below this.
 const THREADS: usize = 256;
 
-/// Where a thread stands: its open roots, the innermost last, and the task that it runs, by their indices.
+/// The walk of a thread: its open roots, the innermost last, and the task that it runs, by their indices.
 #[derive(Drop)]
 pub(crate) struct ThreadWalk {
     roots: Vec<usize>,
@@ -27,7 +27,7 @@ impl Model for ThreadWalk {
 }
 
 impl ThreadWalk {
-    /// Before the thread's first record.
+    /// Returns the walk before the thread's first record.
     pub(crate) fn new(alloc: Global) -> ThreadWalk
         ensures { result ≡ at_start }
     {
@@ -37,7 +37,7 @@ impl ThreadWalk {
         }
     }
 
-    /// Goes on by what a record of the thread says of its tasks. Inlined into the loop over all records.
+    /// Applies what a record of the thread says of its tasks. Inlined into the loop over all records.
     #[inline(always)]
     pub(crate) fn advance(&mut self, event: ThreadEvent) -> Result<(), AllocError>
         ensures { OnOk result (self.new ≡ after_event self.old event) }
@@ -63,14 +63,14 @@ impl ThreadWalk {
         }
     }
 
-    /// The task that runs.
+    /// Returns the task that runs.
     pub(crate) fn current(&self) -> Option<usize>
         ensures { result ≡ self.now.current }
     {
         self.current
     }
 
-    /// The innermost open root.
+    /// Returns the innermost open root.
     pub(crate) fn innermost(&self) -> Option<usize>
         ensures { result ≡ slice_get self.now.roots 0 }
     {
@@ -78,7 +78,7 @@ impl ThreadWalk {
     }
 }
 
-/// Where each thread stands before its first record.
+/// Returns the walk of each thread before its first record.
 pub(crate) fn new_walks(alloc: Global) -> Result<Vec<ThreadWalk>, AllocError>
     ensures { IfOk result (λ walks. walks.items ≡ replicate 256 at_start) }
 {

@@ -1,4 +1,4 @@
--- What clauses see of a thread's buffer.
+-- What contracts see of a thread's buffer.
 use Rattle.std.specs.Prelude.{ℕ, ◌≡◌, ◌≤◌, Bool, List, nat_le, if◌then◌else◌, length}
 use Rattle.ompt_events.specs.declared.records.Record.{Record}
 use Rattle.ompt_events.specs.Limits.{max_records}

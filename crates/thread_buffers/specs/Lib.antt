@@ -1,2 +1,2 @@
--- What a buffer is seen as. There is one module, Buffers.
+-- What contracts see of a buffer. There is one module, Buffers.
 pub mod Buffers

@@ -8,7 +8,7 @@ use ompt_events::{MAX_RECORDS, Record};
 use std::alloc::Global;
 use std::marker::Model;
 
-/// The records that one thread has made so far, in order. Room for a record is taken before the record is
+/// The records that one thread has made so far, in order. Room for a record is reserved before the record is
 /// made, so that pushing it cannot fail.
 #[derive(Drop)]
 pub struct Buffer {
@@ -31,7 +31,7 @@ impl Model for Buffer {
 }
 
 impl Buffer {
-    /// An empty buffer of the thread with this number. Takes no memory.
+    /// Returns an empty buffer of the thread with this number. Takes no memory.
     pub fn new(alloc: Global, thread: u8) -> Buffer
         ensures thread { result.thread ≡ thread }
         ensures records { result.records ≡ [] }
@@ -42,8 +42,8 @@ impl Buffer {
         }
     }
 
-    /// Makes room for one more record. Refused as `Full` at 2^22 records, and else as `Memory` alone.
-    /// The records stay, whatever the answer.
+    /// Reserves room for one more record. Fails with `Full` at 2^22 records, and else only with `Memory`.
+    /// The records stay as they are in each case.
     pub fn reserve_one(&mut self) -> Result<(), BufferFault>
         ensures room { OnOk result (1 ≤ self.new.spare) }
         ensures kept { SameRecords self.old self.new }
@@ -56,7 +56,7 @@ impl Buffer {
         self.records.reserve(1).map_err(|_| BufferFault::Memory)
     }
 
-    /// Adds the record at the end, into room that was made for it. Takes no memory.
+    /// Adds the record at the end. Requires room that was reserved for it. Takes no memory.
     pub fn push_reserved(&mut self, event: Record)
         requires { 1 ≤ self.old.spare }
         ensures thread { self.new.thread ≡ self.old.thread }
@@ -66,28 +66,28 @@ impl Buffer {
         self.records.push_reserved(event);
     }
 
-    /// The number of the thread.
+    /// Returns the number of the thread.
     pub fn thread(&self) -> u8
         ensures { result ≡ self.now.thread }
     {
         self.thread
     }
 
-    /// How many records there are.
+    /// Returns the number of records.
     pub fn len(&self) -> usize
         ensures { result ≡ length self.now.records }
     {
         self.records.len()
     }
 
-    /// The records in the order in which they were pushed.
+    /// Returns the records in the order in which they were pushed.
     pub fn records(&self) -> &[Record]
         ensures { result.now ≡ self.now.records }
     {
         self.records.as_slice()
     }
 
-    /// The records, given back. Takes no memory.
+    /// Returns the records, and drops the buffer around them. Takes no memory.
     pub fn into_records(self) -> Vec<Record>
         ensures { result.items ≡ self.records }
     {
