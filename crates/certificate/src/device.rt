@@ -13,10 +13,10 @@ pub(crate) const MAX_TURNS: u32 = 10_000;
 #[derive(Clone, Copy, Debug, PartialEq, Eq, Error)]
 pub enum DeviceFault {
     /// Nothing was done, and the call may be made again.
-    #[error("the device wants to be asked again")]
+    #[error("interrupted; retry")]
     Again,
     /// The device has failed.
-    #[error("the device is broken")]
+    #[error("the device failed")]
     Broken,
 }
 

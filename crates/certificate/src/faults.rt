@@ -42,13 +42,13 @@ pub struct ReadFault {
 #[derive(Clone, Copy, Debug, PartialEq, Eq, Error)]
 pub enum WriteFault {
     /// The sink broke.
-    #[error("the sink broke")]
+    #[error("the sink failed")]
     Device,
     /// No memory was found.
-    #[error("no memory was found")]
+    #[error("out of memory")]
     Memory,
     /// The sink has asked for another turn, or taken no byte of some, 10,001 times in one call.
-    #[error("the sink took too many turns")]
+    #[error("too many retries")]
     TurnsSpent,
 }
 

@@ -115,7 +115,7 @@ pub enum CheckFault {
     #[error("the number of workers is not 1 to 256")]
     Workers,
     /// The gate refuses this worker.
-    #[error("worker {0} may not pass the gate")]
+    #[error("worker {0} was refused by the gate")]
     Gate(u32),
     /// A thread could not be started. No call of this crate fails so.
     #[error("no thread")]

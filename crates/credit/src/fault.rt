@@ -6,12 +6,12 @@ use thiserror::Error;
 #[derive(Clone, Copy, Debug, PartialEq, Eq, Error)]
 pub enum CreditFault {
     /// Out of memory.
-    #[error("no memory was found")]
+    #[error("out of memory")]
     Memory = 1,
     /// The new share overlaps an entered one.
     #[error("an entered share overlaps the new one")]
     Overlap = 2,
     /// The share has 1,025 Give halves or 2^48 halves in all, so it cannot be halved again.
-    #[error("the share may be halved no more")]
+    #[error("the share cannot be halved again")]
     TooDeep = 3,
 }

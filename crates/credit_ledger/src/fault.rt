@@ -5,7 +5,7 @@ use thiserror::Error;
 #[derive(Clone, Copy, Debug, PartialEq, Eq, Error)]
 pub enum LedgerFault {
     /// Out of memory. Number 1.
-    #[error("no memory was found")]
+    #[error("out of memory")]
     Memory,
     /// The entry with this index overlaps the new one, and none with a smaller index does. Number 2.
     #[error("entry {0} overlaps the new one")]

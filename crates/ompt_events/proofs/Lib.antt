@@ -1,4 +1,4 @@
-mod TraceLemmas
+pub mod TraceLemmas
 pub mod PlaceLemmas
 pub mod RecordLemmas
 pub mod EveryLemmas

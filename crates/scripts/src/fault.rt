@@ -11,6 +11,6 @@ pub enum ScriptFault {
     #[error("the script is full")]
     Full,
     /// The call may not follow the steps of the script. Number 3.
-    #[error("the call may not stand here")]
+    #[error("the call may not follow the calls before it")]
     Misplaced,
 }

@@ -10,7 +10,7 @@ use Rattle.std.proofs.lemmas.List.Concat.{flat_map-append}
 use Rattle.std.specs.Prelude.{◌==◌, ⊤, slice_get, option_and_then, is_some, filter, flat_map, filter_map}
 use Rattle.std.specs.List.{range_with_len, position_or_len, cons_option}
 use Rattle.std.specs.List.Sorted.{IsPermutation}
-pub use Rattle.ompt_events.proofs.EveryLemmas.{Every, every_append, every_weaker, every_of_all, every_if}
+pub use Rattle.ompt_events.proofs.EveryLemmas.{Every, every_append, every_weaker, every_if}
 pub use Rattle.ompt_events.proofs.EveryLemmas.{every_filter, every_passes, every_take, every_get, fold_most}
 use Rattle.ompt_events.proofs.PlaceLemmas.{range_more}
 

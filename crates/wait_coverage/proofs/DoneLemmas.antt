@@ -26,7 +26,7 @@ use Rattle.wait_coverage.specs.Lengths.{done_length, AreLengthsBy, AreLengths, A
 use Rattle.wait_coverage.specs.Done.{DoneView, records_of, tasks_of, AreFamilyLengths, IsDoneFrom}
 use Rattle.wait_coverage.specs.Done.{AreOwnLengths}
 use Rattle.wait_coverage.specs.Done.{IsParentsFirst, raised, AreRaised, IsAtOrAbove}
-use Rattle.wait_coverage.specs.Done.IsAbove.{itself, further}
+use Rattle.wait_coverage.specs.Done.IsAtOrAbove.{itself, further}
 use Rattle.wait_coverage.specs.declared.lengths.Lengths.{Lengths}
 use Rattle.wait_coverage.proofs.LengthLemmas.{AllCount, all_recorded, all_entered, done_below, below_done}
 
