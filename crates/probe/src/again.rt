@@ -1,4 +1,5 @@
-//! Calls that are made once more where they are refused memory, so that a test which refuses memory sees that they can be.
+//! Calls that are made once more where they are refused memory, so that a test which refuses memory sees
+//! that they can be.
 use anyhow::Result;
 
 /// Prints that memory was refused to a call, which is now made again.
@@ -7,8 +8,8 @@ pub fn tell_refused<P: Print>(rt: &P) -> Result<()> {
     Ok(())
 }
 
-/// Returns what the call answers. Where its fault matches the pattern, prints that memory was refused, and returns what
-/// the call answers when it is made again.
+/// Returns what the call answers. Where its fault matches the pattern, prints that memory was refused, and
+/// returns what the call answers when it is made again.
 macro_rules! again {
     ($rt:expr, $memory:pat, $call:expr) => {
         match $call {

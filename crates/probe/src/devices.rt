@@ -10,8 +10,8 @@ use ompt_events::Trace;
 use std::alloc::Global;
 use std::thread::Threads;
 
-/// Reads the file from such sources. Where it is a trace, also a longer one made of it, and writes its text, that of its
-/// upgrade and the bytes to such sinks.
+/// Reads the file from such sources. Where it is a trace, also a longer one made of it, and writes its text,
+/// that of its upgrade and the bytes to such sinks.
 pub fn all<R: Threads + Sync + Print + AllocGlobal>(rt: &R, bytes: &[u8]) -> Result<()> {
     for reading in READINGS {
         in_pieces(rt, bytes, reading)?;
@@ -57,7 +57,7 @@ impl Reading {
     }
 }
 
-/// How many records or steps the source gives, or the fault.
+/// Returns how many records or steps the source gives, or the fault.
 fn answer<R: Threads + Sync + AllocGlobal, S: Source>(
     rt: &R,
     reading: Reading,
@@ -72,7 +72,7 @@ fn answer<R: Threads + Sync + AllocGlobal, S: Source>(
     }
 }
 
-/// How many records were read, or the fault.
+/// Returns how many records were read, or the fault.
 fn records_read(alloc: Global, answer: Result<Trace, ReadFault>) -> Result<String> {
     match answer {
         Ok(trace) => {
@@ -83,7 +83,7 @@ fn records_read(alloc: Global, answer: Result<Trace, ReadFault>) -> Result<Strin
     }
 }
 
-/// How many steps were read, or the fault.
+/// Returns how many steps were read, or the fault.
 fn steps_read(alloc: Global, answer: Result<Script, ReadFault>) -> Result<String> {
     match answer {
         Ok(script) => {
@@ -94,7 +94,7 @@ fn steps_read(alloc: Global, answer: Result<Script, ReadFault>) -> Result<String
     }
 }
 
-/// Sources that give so many bytes a read, after so many answers `Again`.
+/// Reads from sources that give so many bytes a read, after so many answers `Again`.
 fn in_pieces<R: Threads + Sync + Print + AllocGlobal>(
     rt: &R,
     bytes: &[u8],
@@ -116,7 +116,8 @@ fn in_pieces<R: Threads + Sync + Print + AllocGlobal>(
     Ok(())
 }
 
-/// Sources that give one byte a read and break, each at another read. Prints the answers that differ from the one before.
+/// Reads from sources that give one byte a read and break, each at another read. Prints the answers that
+/// differ from the one before.
 fn broken<R: Threads + Sync + Print + AllocGlobal>(
     rt: &R,
     bytes: &[u8],
@@ -136,7 +137,8 @@ fn broken<R: Threads + Sync + Print + AllocGlobal>(
     Ok(())
 }
 
-/// A source of which the reads with each `every`-th number ask again, and how this is told.
+/// Reads from a source that asks again at each read whose number is a multiple of `every`, and prints how it
+/// does with the answer.
 fn stalling<R: Threads + Sync + Print + AllocGlobal>(
     rt: &R,
     bytes: &[u8],
@@ -151,7 +153,7 @@ fn stalling<R: Threads + Sync + Print + AllocGlobal>(
     Ok(())
 }
 
-/// The same with a longer trace; and sinks that take what is written of the trace.
+/// Reads a longer trace in the same way, and writes the trace to sinks.
 fn of_trace<R: Threads + Sync + Print + AllocGlobal>(
     rt: &R,
     bytes: &[u8],
@@ -173,7 +175,7 @@ fn of_trace<R: Threads + Sync + Print + AllocGlobal>(
     }
 }
 
-/// A file of version 1 with its records 240 times.
+/// Returns a file of version 1 with its records 240 times.
 fn long_file(alloc: Global, bytes: &[u8]) -> Result<Vec<u8>> {
     let Some(lines) = bytes.get(HEADER.len()..) else {
         bail!("no header");
@@ -200,8 +202,8 @@ impl Written<'_> {
     }
 }
 
-/// Sinks with room for so many bytes, of which a write breaks, or each takes nothing from one on; the write that breaks,
-/// and the first that takes nothing.
+/// Sinks with room for so many bytes, of which a write breaks, or each takes nothing from one on; the write
+/// that breaks, and the first that takes nothing.
 const SINKS: [(&str, usize, Option<u64>, Option<u64>); 6] = [
     ("room for all", 100_000, None, None),
     ("write 1 breaks", 100_000, Some(1), None),
@@ -258,7 +260,7 @@ const STALLS: [(&str, Stall); 7] = [
     ("each second write takes nothing", Stall::Every(2)),
 ];
 
-/// All these sinks take it.
+/// Writes to all these sinks.
 fn to_sinks<P: Print + AllocGlobal>(rt: &P, what: &str, written: Written<'_>) -> Result<()> {
     for (name, room, broken, idle) in SINKS {
         let mut sink = MemSink::new(rt.alloc(), room, broken, idle)?;
@@ -283,7 +285,7 @@ fn to_sinks<P: Print + AllocGlobal>(rt: &P, what: &str, written: Written<'_>) ->
     to_broken_sinks(rt, what, written)
 }
 
-/// Sinks that take 64 bytes a write and break, each at another write; the last one does not break.
+/// Writes to sinks that take 64 bytes a write and break, each at another write; the last one does not break.
 fn to_broken_sinks<P: Print + AllocGlobal>(rt: &P, what: &str, written: Written<'_>) -> Result<()> {
     for number in 0..u64::MAX {
         let mut sink = SlowSink::new(rt.alloc(), 64, Stall::Breaks(number));
@@ -298,8 +300,8 @@ fn to_broken_sinks<P: Print + AllocGlobal>(rt: &P, what: &str, written: Written<
     Ok(())
 }
 
-/// A sink that takes one byte a write, and nothing at each fourteenth: it has taken 130,000 bytes when it has taken none
-/// 10,001 times.
+/// Writes to a sink that takes one byte a write, and nothing at each fourteenth: it has taken 130,000 bytes
+/// when it has taken none 10,001 times.
 fn to_sink_that_stalls_late<P: Print + AllocGlobal>(
     rt: &P,
     what: &str,
@@ -310,7 +312,7 @@ fn to_sink_that_stalls_late<P: Print + AllocGlobal>(
     taken(rt, what, answer, sink.bytes())
 }
 
-/// A writer of std that takes the trace's text.
+/// Writes the trace's text to a writer of std.
 fn handed_over<P: Print + AllocGlobal>(rt: &P, trace: &Trace) -> Result<()> {
     let mut text = Vec::new(rt.alloc());
     let answer = write(rt.alloc(), trace, &mut ToWrite::new(&mut text));

@@ -1,5 +1,4 @@
 //! The predecessors of a trace's tasks.
-ghost use Rattle.std.specs.Prelude.{◌≡◌};
 ghost use Rattle.task_tree.specs.Paths.{IsTreeOf};
 
 use crate::again::again;
@@ -23,7 +22,8 @@ fn of_trace(rt: &HostRuntime, trace: &Trace) -> Result<()> {
     }
 }
 
-/// Prints the predecessors, or the first record with misplaced dependences. Where memory is refused they are found again.
+/// Prints the predecessors, or the first record with misplaced dependences. Where memory is refused they are
+/// found again.
 fn of_tree(rt: &HostRuntime, trace: &Trace, tree: &Tree) -> Result<()>
     requires { IsTreeOf trace.now.records tree.now }
 {

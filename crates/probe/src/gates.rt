@@ -31,8 +31,8 @@ pub struct CountingGate<'a, C: Clock> {
 }
 
 impl<'a, C: Clock> CountingGate<'a, C> {
-    /// The gate of this name for so many workers: `open`, `both`, or `refuse` with the numbers of workers, between which
-    /// commas stand.
+    /// Returns the gate of this name for so many workers: `open`, `both`, or `refuse` with the numbers of
+    /// workers, between which commas stand. Fails where there is no such gate.
     pub fn new(
         alloc: Global,
         clock: &'a C,
@@ -57,7 +57,7 @@ impl<'a, C: Clock> CountingGate<'a, C> {
         })
     }
 
-    /// How often the worker with this number came; 0 where there is none.
+    /// Returns how often the worker with this number came; 0 where there is none.
     pub fn passes_of(&self, worker: u32) -> u64 {
         match self.passes.get(worker as usize) {
             Some(passes) => passes.load(Ordering::SeqCst),
@@ -92,7 +92,7 @@ impl<C: Clock> Gate for CountingGate<'_, C> {
     }
 }
 
-/// The numbers between which commas stand.
+/// Returns the numbers between which commas stand.
 fn numbers(alloc: Global, text: &str) -> Result<Vec<u32>> {
     let mut numbers = Vec::new(alloc);
     for word in text.split(',') {

@@ -8,8 +8,8 @@ use ompt_events::Trace;
 use task_tree::{Families, Family, Own, OwnOrder, arrange, find_gap, turns_of, turns_rise};
 
 /// Prints of the trace on standard input: its version, the turn of each record, the first record with a turn
-/// gap, the places in the tasks' own order, whether turns are found to rise along the file, and the children of
-/// each task.
+/// gap, the places in the tasks' own order, whether turns are found to rise along the file, and the children
+/// of each task.
 pub fn of_input(rt: &HostRuntime) -> Result<()> {
     let trace = trace_of_input(rt)?;
     let family = family_of(rt, &trace)?;
@@ -23,7 +23,7 @@ pub fn of_input(rt: &HostRuntime) -> Result<()> {
     of_families(rt, &trace)
 }
 
-/// The family of the trace's tasks.
+/// Returns the family of the trace's tasks. Fails where it has none.
 fn family_of(rt: &HostRuntime, trace: &Trace) -> Result<Family>
     ensures { IfOk result (IsFamilyOf trace.now.records) }
 {

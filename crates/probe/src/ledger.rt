@@ -7,9 +7,10 @@ use credit_ledger::{Cover, Entry, Ledger, LedgerFault, Span};
 use ompt_events::{Part, Path};
 use std::alloc::Global;
 
-/// Does what each line of standard input says to one ledger, and prints the answer. The words of a command are
-/// `enter ROOT PATH KEPT PART`, `holds UPTO ROOT PATH FROM TO COVER`, `from ROOT PATH NUMBER COVER`, `entry INDEX`,
-/// `len` and `new`; a path is its numbers with commas between them. A call that is refused memory is made again.
+/// Does what each line of standard input says to one ledger, and prints the answer. The words of a command
+/// are `enter ROOT PATH KEPT PART`, `holds UPTO ROOT PATH FROM TO COVER`, `from ROOT PATH NUMBER COVER`,
+/// `entry INDEX`, `len` and `new`; a path is its numbers with commas between them. A call that is refused
+/// memory is made again.
 pub fn each(rt: &HostRuntime) -> Result<()> {
     let text = text_of_input(rt)?;
     let mut ledger = Ledger::new(rt.alloc());
@@ -20,7 +21,7 @@ pub fn each(rt: &HostRuntime) -> Result<()> {
     Ok(())
 }
 
-/// The first seven words of the text; those that it lacks are empty.
+/// Returns the first seven words of the text; those that it lacks are empty.
 fn words_of(text: &str) -> [&str; 7] {
     let mut words = [""; 7];
     for (place, word) in text.split(' ').take(7).enumerate() {
@@ -87,7 +88,7 @@ fn held_from(rt: &HostRuntime, ledger: &Ledger, words: [&str; 4]) -> Result<()> 
     Ok(())
 }
 
-/// The entry of thread 0 and task 2 with this claim and part.
+/// Returns the entry of thread 0 and task 2 with this claim and part.
 fn entry_of(alloc: Global, root: &str, path: &str, kept: &str, part: &str) -> Result<Entry> {
     let part = match part {
         "body" => Part::Body,
@@ -121,8 +122,8 @@ fn cover_of(word: &str) -> Result<Cover> {
     }
 }
 
-/// Enters the entry, and prints its index or the fault. Where memory is refused, the ledger must be as it was and the entry
-/// have come back, which is then entered.
+/// Enters the entry, and prints its index or the fault. Where memory is refused, the ledger must be as it
+/// was and the entry have come back, which is then entered.
 fn entered(rt: &HostRuntime, ledger: &mut Ledger, entry: Entry) -> Result<()> {
     let given = format!(in rt.alloc(); "{entry:?}")?;
     let list = list_of(rt.alloc(), ledger)?;
@@ -157,7 +158,7 @@ fn tell(rt: &HostRuntime, answer: Result<u32, (Entry, LedgerFault)>) -> Result<(
     Ok(())
 }
 
-/// The entries of the ledger, as text.
+/// Returns the entries of the ledger, as text.
 fn list_of(alloc: Global, ledger: &Ledger) -> Result<String> {
     let mut list = String::new(alloc);
     for index in 0..ledger.len() {

@@ -13,21 +13,21 @@ pub const HEADER: &str = "{\"format\":\"task-credit-audit\",\"version\":1}\n";
 /// The first line of a trace file of version 2.
 pub const HEADER_WITH_TURNS: &str = "{\"format\":\"task-credit-audit\",\"version\":2}\n";
 
-/// Standard input to its end.
+/// Returns standard input to its end.
 pub fn input(rt: &HostRuntime) -> Result<Vec<u8>> {
     let mut bytes = Vec::new(rt.alloc());
     rt.reader().read_to_end(&mut bytes)?;
     Ok(bytes)
 }
 
-/// Standard input to its end, as text.
+/// Returns standard input to its end, as text. Fails where it is not UTF-8.
 pub fn text_of_input(rt: &HostRuntime) -> Result<String> {
     let mut text = String::new(rt.alloc());
     rt.reader().read_to_string(&mut text)?;
     Ok(text)
 }
 
-/// The trace that stands on standard input.
+/// Returns the trace that stands on standard input. Fails where it cannot be read.
 pub fn trace_of_input(rt: &HostRuntime) -> Result<Trace> {
     trace_of(rt.alloc(), input(rt)?.as_slice())
 }
@@ -39,7 +39,8 @@ pub fn rewrite(rt: &HostRuntime) -> Result<()> {
     Ok(())
 }
 
-/// The traces of the files that stand one after another on standard input.
+/// Returns the traces of the files that stand one after another on standard input. Fails where one cannot be
+/// read.
 pub fn traces_of_input(rt: &HostRuntime) -> Result<Vec<Trace>> {
     let bytes = input(rt)?;
     let mut traces = Vec::new(rt.alloc());
@@ -56,13 +57,13 @@ pub fn traces_of_input(rt: &HostRuntime) -> Result<Vec<Trace>> {
     Ok(traces)
 }
 
-/// Whether the line is the first one of a file.
+/// Returns whether the line is the first one of a file.
 fn is_header(line: &[u8]) -> bool {
     line == HEADER.trim_ascii_end().as_bytes()
         || line == HEADER_WITH_TURNS.trim_ascii_end().as_bytes()
 }
 
-/// The trace of a file.
+/// Returns the trace of a file. Fails where it cannot be read.
 fn trace_of(alloc: Global, file: &[u8]) -> Result<Trace> {
     match read(alloc, &mut FromRead::new(file)) {
         Ok(trace) => Ok(trace),
@@ -70,7 +71,8 @@ fn trace_of(alloc: Global, file: &[u8]) -> Result<Trace> {
     }
 }
 
-/// The first part of the bytes that this byte ends, without it, and the bytes after it; none where no such byte is left.
+/// Returns the first part of the bytes that this byte ends, without it, and the bytes after it; none where
+/// no such byte is left.
 fn split_part(bytes: &[u8], end: u8) -> Option<(&[u8], &[u8])> {
     let at = memchr(end, bytes)?;
     if at >= bytes.len() {
@@ -79,7 +81,7 @@ fn split_part(bytes: &[u8], end: u8) -> Option<(&[u8], &[u8])> {
     Some((&bytes[..at], &bytes[at + 1..]))
 }
 
-/// The parts that this byte ends, without it.
+/// Returns the parts that this byte ends, without it.
 pub fn parts_of(alloc: Global, bytes: &[u8], end: u8) -> Result<Vec<&[u8]>> {
     let mut parts = Vec::new(alloc);
     let mut rest = bytes;
@@ -93,13 +95,13 @@ pub fn parts_of(alloc: Global, bytes: &[u8], end: u8) -> Result<Vec<&[u8]>> {
     Ok(parts)
 }
 
-/// The lines that a line feed ends, without it.
+/// Returns the lines that a line feed ends, without it.
 pub fn lines_of(alloc: Global, bytes: &[u8]) -> Result<Vec<&[u8]>> {
     parts_of(alloc, bytes, b'\n')
 }
 
-/// For each line of standard input, as line 2 of a file with this header: the line that is written of its
-/// record, or the fault.
+/// Prints for each line of standard input, as line 2 of a file with this header, the line that is written of
+/// its record, or the fault.
 pub fn each(rt: &HostRuntime, header: &str) -> Result<()> {
     let bytes = input(rt)?;
     for line in lines_of(rt.alloc(), &bytes)?.iter() {
@@ -109,7 +111,7 @@ pub fn each(rt: &HostRuntime, header: &str) -> Result<()> {
     Ok(())
 }
 
-/// The line that is written of the record that the line stands for, or the fault.
+/// Returns the line that is written of the record that the line stands for, or the fault.
 fn written(alloc: Global, header: &str, line: &[u8]) -> Result<String> {
     let mut file = Vec::from_slice(alloc, header.as_bytes())?;
     file.extend_from_slice(line)?;
@@ -124,14 +126,14 @@ fn written(alloc: Global, header: &str, line: &[u8]) -> Result<String> {
     }
 }
 
-/// The second line of the text.
+/// Returns the second line of the text.
 fn last_line(alloc: Global, text: &[u8]) -> Result<String> {
     let lines = lines_of(alloc, text)?;
     let line = lines.get(1).copied().unwrap_or(b"".as_slice());
     Ok(String::from_utf8_lossy(alloc, line)?)
 }
 
-/// The fault with its line, number and name.
+/// Returns the fault with its line, number and name, as text.
 pub fn told(alloc: Global, fault: ReadFault) -> Result<String> {
     let number = fault.cause.number();
     let name = fault.cause.name();

@@ -1,8 +1,9 @@
-//! Prints what calls of the libraries answer that the program `taskaudit` does not show, for `tests/`. Nothing is
-//! promised but safety. A word says which calls; most take a trace file or commands on standard input. The calls of
-//! recorders are those of `recorder_probe`.
-//! Begin at `run`. `lines` reads standard input; `again` makes a call that is refused memory once more; each other
-//! module has the calls of one library, or of several workers.
+//! Prints what calls of the libraries answer that the program `taskaudit` does not show, for `tests/`.
+//! Nothing is promised but safety.
+//!
+//! A word says which calls; most take a trace file or commands on standard input. The calls of recorders are
+//! those of `recorder_probe`. Begin at `run`. `lines` reads standard input; `again` makes a call that is
+//! refused memory once more; each other module has the calls of one library, or of several workers.
 #![tactic(auto)]
 
 mod again;

@@ -5,8 +5,8 @@ use bitflags::Flags;
 use certificate::{ReadCause, WriteFault};
 use ompt_events::{CancelFlags, Cause, DepKind, Endpoint, Status, SyncKind, TaskFlags, ThreadKind};
 
-/// For each line of standard input, a name: the values that have it, each with its own name, and what it
-/// says by itself.
+/// Prints for each line of standard input, a name, the values that have it, each with its own name, and what
+/// it says by itself.
 pub fn each(rt: &HostRuntime) -> Result<()> {
     let text = text_of_input(rt)?;
     for name in text.lines() {

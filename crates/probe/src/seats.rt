@@ -4,13 +4,13 @@ ghost use Rattle.std.specs.Prelude.{◌≡◌, IfOk};
 use crate::again::{again, tell_refused};
 use crate::threads::entry_of;
 use anyhow::{Result, bail};
-use credit_ledger::{LedgerFault, Seat, SharedLedger, Span};
+use credit_ledger::{Seat, SharedLedger, Span};
 use ompt_events::Path;
-use std::alloc::Global;
 use std::sync::Wait;
 
-/// One seat enters an entry, the other one is told of it, looks and asks whether it holds the task, and both are closed.
-/// A call that is refused memory must have given the turn back and left the ledger as it was; it is made again.
+/// Prints what two seats are told: one enters an entry, the other one is told of it, looks and asks whether
+/// it holds the task, and both are closed. A call that is refused memory must have given the turn back and
+/// left the ledger as it was; it is made again.
 pub fn each<R: Wait + Print + AllocGlobal>(rt: &R) -> Result<()> {
     let alloc = rt.alloc();
     let (ledger, mut first) = begun(rt)?;
@@ -30,7 +30,7 @@ pub fn each<R: Wait + Print + AllocGlobal>(rt: &R) -> Result<()> {
     Ok(())
 }
 
-/// A ledger and its first seat.
+/// Returns a ledger and its first seat.
 fn begun<R: Print + AllocGlobal>(rt: &R) -> Result<(SharedLedger, Seat)>
     ensures { IfOk result (λ made. made.1.place.table_id ≡ made.0.board.shared.table_id) }
 {
@@ -62,7 +62,7 @@ fn entered<R: Wait + Print + AllocGlobal>(
     }
 }
 
-/// Whether the entries hold the only task, and how many there are, by this seat.
+/// Returns how many entries there are, and whether they hold the only task, by this seat.
 fn whole<R: Wait + Print + AllocGlobal>(
     rt: &R,
     ledger: &SharedLedger,
@@ -88,7 +88,8 @@ fn whole<R: Wait + Print + AllocGlobal>(
     Ok(ledger.whole(rt, seat, &span)?)
 }
 
-/// Fails unless another seat's look finds so many entries. It waits for ever where a refused call has kept the turn.
+/// Fails unless another seat's look finds so many entries. It waits for ever where a refused call has kept
+/// the turn.
 fn check_turn<R: Wait>(rt: &R, ledger: &SharedLedger, seat: &mut Seat, len: u32) -> Result<()>
     requires { seat.old.place.table_id ≡ ledger.now.board.shared.table_id }
     ensures { seat.new.place.table_id ≡ seat.old.place.table_id }

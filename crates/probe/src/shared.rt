@@ -3,7 +3,7 @@ ghost use Rattle.std.specs.Prelude.{◌≡◌, IfOk};
 ghost use Rattle.std.specs.Thread.{IsSync};
 
 use crate::seats;
-use crate::threads::{Plan, all_turns, are_each_once, are_in_order, enter_one};
+use crate::threads::{Plan, all_turns, are_each_once, are_in_order, enter_one, entry_of};
 use anyhow::{Result, bail};
 use credit_ledger::{Ledger, LedgerFault, Seat, SharedLedger};
 use std::alloc::Global;
@@ -18,7 +18,7 @@ pub fn each<R: Threads + Wait + Sync + Print + AllocGlobal>(rt: &R) -> Result<()
     handed_on(rt)
 }
 
-/// Two threads, each of which enters an entry between two barriers, and looks after the second.
+/// Has two threads each enter an entry between two barriers, and look after the second.
 fn at_barriers<R: Threads + Wait + Sync + Print + AllocGlobal>(rt: &R) -> Result<()> {
     let (ledger, mut first) = SharedLedger::new(rt.alloc())?;
     let second = ledger.split(&mut first);
@@ -40,6 +40,21 @@ fn at_barriers<R: Threads + Wait + Sync + Print + AllocGlobal>(rt: &R) -> Result
     Ok(())
 }
 
+/// Enters the entry of a root's first child, and returns its index. Requires a seat of the ledger. Fails where
+/// the entry is refused.
+fn enter_first<R: Wait + AllocGlobal>(
+    rt: &R,
+    ledger: &SharedLedger,
+    seat: &mut Seat,
+    root: u64,
+) -> Result<u32, LedgerFault>
+    requires { seat.old.place.table_id ≡ ledger.now.board.shared.table_id }
+    ensures { seat.new.place.table_id ≡ seat.old.place.table_id }
+{
+    let entry = entry_of(rt.alloc(), root, 0)?;
+    enter_one(rt, ledger, seat, entry)
+}
+
 /// Enters an entry between two barriers, and tells its index and what a look after the second answers.
 fn meet<R: Wait + AllocGlobal>(
     rt: &R,
@@ -52,13 +67,13 @@ fn meet<R: Wait + AllocGlobal>(
 {
     let mut seat = seat;
     barrier.wait(rt);
-    let entered = enter_one(rt, ledger, &mut seat, root, 0);
+    let entered = enter_first(rt, ledger, &mut seat, root);
     barrier.wait(rt);
     let looked = ledger.look(rt, &mut seat);
     Ok((entered?, looked))
 }
 
-/// Eight threads that enter 1,000 entries each, and look after each of the first 100.
+/// Has eight threads enter 1,000 entries each, and look after each of the first 100.
 fn in_eight_threads<R: Threads + Wait + Sync + Print + AllocGlobal>(rt: &R) -> Result<()> {
     let alloc = rt.alloc();
     let (ledger, seat) = SharedLedger::new(alloc)?;
@@ -68,14 +83,15 @@ fn in_eight_threads<R: Threads + Wait + Sync + Print + AllocGlobal>(rt: &R) -> R
         entries: 1_000,
         looks: 100,
     };
-    let turns = all_turns(rt, &ledger, seat, plan)?;
+    let turns = all_turns(rt, alloc, &ledger, seat, plan)?;
     let closed = ledger.close(rt, turns.seats);
     let count = counted(alloc, &closed, turns.indices.as_slice())?;
     println!(rt; "{count} entries, each thread's in order, each index once")?;
     Ok(())
 }
 
-/// How many entries eight threads left: each thread's are in its order, and each index was told once.
+/// Returns how many entries eight threads left. Fails unless each thread's are in its order, and each index
+/// was told once.
 fn counted(alloc: Global, closed: &Ledger, indices: &[u32]) -> Result<u32> {
     let count = closed.len();
     if !are_in_order(alloc, closed, 8)? {
@@ -87,7 +103,7 @@ fn counted(alloc: Global, closed: &Ledger, indices: &[u32]) -> Result<u32> {
     Ok(count)
 }
 
-/// Three threads, one after another, of which each enters an entry and gives a new seat to the next.
+/// Has three threads, one after another, each enter an entry and give a new seat to the next.
 fn handed_on<R: Threads + Wait + Sync + Print + AllocGlobal>(rt: &R) -> Result<()> {
     let (ledger, mut first) = SharedLedger::new(rt.alloc())?;
     let note = ledger.split(&mut first);
@@ -132,6 +148,6 @@ fn enter_and_split<R: Wait + AllocGlobal>(
     ensures { IfOk result (λ note. note.place.table_id ≡ ledger.now.board.shared.table_id) }
 {
     let mut seat = seat;
-    enter_one(rt, ledger, &mut seat, root, 0)?;
+    enter_first(rt, ledger, &mut seat, root)?;
     Ok(ledger.split(&mut seat))
 }

@@ -48,7 +48,7 @@ fn begins(rt: &HostRuntime, one: &str, other: &str) -> Result<()> {
     Ok(())
 }
 
-/// The share of these halves, by halving the whole.
+/// Returns the share of these halves, by halving the whole.
 fn share(alloc: Global, halves: &str) -> Result<Share> {
     let mut share = Share::whole(alloc);
     if halves == "whole" {
@@ -70,7 +70,7 @@ fn entered(rt: &HostRuntime, purse: &mut Purse, share: Share) -> Result<()> {
     Ok(())
 }
 
-/// The numbers between commas.
+/// Returns the numbers between commas.
 pub fn path_of(alloc: Global, path: &str) -> Result<Vec<u32>> {
     let mut numbers = Vec::new(alloc);
     for number in path.split(',').filter(|number| !number.is_empty()) {
@@ -79,7 +79,8 @@ pub fn path_of(alloc: Global, path: &str) -> Result<Vec<u32>> {
     Ok(numbers)
 }
 
-/// Prints whether the share of a whole finish at this path, with so many children, is the one of these halves.
+/// Prints whether the share of a whole finish at this path, with so many children, is the one of these
+/// halves.
 fn of_path(rt: &HostRuntime, path: &str, kept: &str, halves: &str) -> Result<()> {
     let numbers = path_of(rt.alloc(), path)?;
     if numbers.len() > 1_024 {

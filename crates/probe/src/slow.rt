@@ -2,8 +2,8 @@
 use certificate::{DeviceFault, Sink, Source};
 use std::alloc::Global;
 
-/// A source that gives one byte a read. Each read whose number is a multiple of `every`, counted from 0, asks for another
-/// turn.
+/// A source that gives one byte a read. Each read whose number is a multiple of `every`, counted from 0,
+/// asks for another turn.
 #[derive(Drop)]
 pub struct SlowSource {
     bytes: Vec<u8>,
@@ -15,7 +15,7 @@ pub struct SlowSource {
 }
 
 impl SlowSource {
-    /// A source of these bytes.
+    /// Returns a source of these bytes.
     pub fn new(bytes: Vec<u8>, every: u64) -> SlowSource {
         SlowSource {
             bytes,
@@ -49,7 +49,7 @@ impl Source for SlowSource {
     }
 }
 
-/// Whether this is a multiple of that.
+/// Returns whether this is a multiple of that.
 fn is_multiple(number: u64, every: u64) -> bool {
     every > 0 && number % every == 0
 }
@@ -75,7 +75,7 @@ enum Write {
 }
 
 impl Stall {
-    /// What the write with this number does.
+    /// Returns what the write with this number does.
     fn write(self, number: u64) -> Write {
         match self {
             Stall::Breaks(broken) if number == broken => Write::Breaks,
@@ -101,7 +101,7 @@ pub struct SlowSink {
 }
 
 impl SlowSink {
-    /// A sink that has taken nothing.
+    /// Returns a sink that has taken nothing.
     pub fn new(alloc: Global, per_write: usize, stall: Stall) -> SlowSink {
         SlowSink {
             bytes: Vec::new(alloc),
@@ -113,7 +113,7 @@ impl SlowSink {
         }
     }
 
-    /// The bytes that were taken so far.
+    /// Returns the bytes that were taken so far.
     pub fn bytes(&self) -> &[u8] {
         self.bytes.as_slice()
     }

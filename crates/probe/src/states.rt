@@ -1,5 +1,4 @@
 //! The states of a trace's tasks after all records, and whether its parallel regions are nested.
-ghost use Rattle.std.specs.Prelude.{◌≡◌};
 ghost use Rattle.task_tree.specs.Paths.{IsTreeOf};
 
 use crate::lines::traces_of_input;
@@ -8,7 +7,7 @@ use ompt_events::Trace;
 use task_states::{StateFault, nested, run};
 use task_tree::{Tree, TreeFault};
 
-/// For each of the trace files that stand one after another on standard input: the state of each task.
+/// Prints the state of each task of the trace files that stand one after another on standard input.
 pub fn each(rt: &HostRuntime) -> Result<()> {
     for trace in traces_of_input(rt)?.iter() {
         of_trace(rt, trace)?;

@@ -1,5 +1,5 @@
 //! Threads that enter entries into one shared ledger.
-ghost use Rattle.std.specs.Prelude.{◌≡◌, ◌++◌, length, IfOk, All};
+ghost use Rattle.std.specs.Prelude.{◌≡◌, ◌<◌, ◌++◌, length, IfOk, All};
 ghost use Rattle.std.specs.Thread.{IsSync};
 
 use credit_ledger::{Entry, Ledger, LedgerFault, Seat, SharedLedger};
@@ -15,8 +15,8 @@ pub struct Turns {
     pub indices: Vec<u32>,
 }
 
-/// So many threads, whose entries are of the roots from `root` on, and how often each of them calls: a look comes after
-/// each of the first entries, and the other looks come last.
+/// So many threads, whose entries are of the roots from `root` on, and how often each of them calls: a look
+/// comes after each of the first entries, and the other looks come last.
 #[derive(Clone, Copy)]
 pub struct Plan {
     pub root: u64,
@@ -25,7 +25,27 @@ pub struct Plan {
     pub looks: u32,
 }
 
-/// The entry of a whole task of a root, in which one number is its path.
+impl Plan {
+    /// Returns the plan of half of the threads, and that of the others. Requires two threads or more.
+    fn halves(self) -> (Plan, Plan)
+        requires { 1 < self.threads }
+        ensures { (result.0.threads < self.threads) × (result.1.threads < self.threads) }
+    {
+        let half = self.threads / 2;
+        let first = Plan {
+            threads: half,
+            ..self
+        };
+        let rest = Plan {
+            threads: self.threads - half,
+            root: self.root.saturating_add(half),
+            ..self
+        };
+        (first, rest)
+    }
+}
+
+/// Returns the entry of a whole task of a root, in which one number is its path.
 pub fn entry_of(alloc: Global, root: u64, number: u32) -> Result<Entry, LedgerFault>
     ensures { IfOk result (λ entry. length entry.path ≡ 1) }
 {
@@ -43,27 +63,27 @@ pub fn entry_of(alloc: Global, root: u64, number: u32) -> Result<Entry, LedgerFa
     })
 }
 
-/// Enters such an entry, and tells its index.
-pub fn enter_one<R: Wait + AllocGlobal>(
+/// Enters an entry, and returns its index. Requires a seat of the ledger. Fails where the entry is refused.
+pub fn enter_one<R: Wait>(
     rt: &R,
     ledger: &SharedLedger,
     seat: &mut Seat,
-    root: u64,
-    number: u32,
+    entry: Entry,
 ) -> Result<u32, LedgerFault>
-    requires { seat.old.place.table_id ≡ ledger.now.board.shared.table_id }
+    requires seat { seat.old.place.table_id ≡ ledger.now.board.shared.table_id }
+    requires path { length entry.path ≡ 1 }
     ensures { seat.new.place.table_id ≡ seat.old.place.table_id }
 {
-    let entry = entry_of(rt.alloc(), root, number)?;
     match ledger.enter(rt, seat, entry) {
         Ok(receipt) => Ok(receipt.index),
         Err((_, fault)) => Err(fault),
     }
 }
 
-/// The calls of one thread.
-fn own_turns<R: Wait + AllocGlobal>(
+/// Makes the calls of one thread.
+fn own_turns<R: Wait>(
     rt: &R,
+    alloc: Global,
     ledger: &SharedLedger,
     seat: Seat,
     plan: Plan,
@@ -73,9 +93,10 @@ fn own_turns<R: Wait + AllocGlobal>(
         All (λ seat. seat.place.table_id ≡ ledger.now.board.shared.table_id) turns.seats.items) }
 {
     let mut seat = seat;
-    let mut indices = Vec::new(rt.alloc());
+    let mut indices = Vec::new(alloc);
     'entries: for number in 0..plan.entries {
-        let index = enter_one(rt, ledger, &mut seat, plan.root, number)?;
+        let entry = entry_of(alloc, plan.root, number)?;
+        let index = enter_one(rt, ledger, &mut seat, entry)?;
         let Ok(()) = indices.push(index) else {
             return Err(LedgerFault::Memory);
         };
@@ -86,16 +107,18 @@ fn own_turns<R: Wait + AllocGlobal>(
     'looks: for _ in plan.entries..plan.looks {
         ledger.look(rt, &mut seat);
     }
-    let mut seats = Vec::new(rt.alloc());
+    let mut seats = Vec::new(alloc);
     let Ok(()) = seats.push(seat) else {
         return Err(LedgerFault::Memory);
     };
     Ok(Turns { seats, indices })
 }
 
-/// The calls of all threads. Half of them are started by another thread.
-pub fn all_turns<R: Threads + Wait + Sync + AllocGlobal>(
+/// Makes the calls of all threads, half of which are started by another thread. Requires a seat of the
+/// ledger. Fails where an entry is refused.
+pub fn all_turns<R: Threads + Wait + Sync>(
     rt: &R,
+    alloc: Global,
     ledger: &SharedLedger,
     seat: Seat,
     plan: Plan,
@@ -105,37 +128,30 @@ pub fn all_turns<R: Threads + Wait + Sync + AllocGlobal>(
         All (λ seat. seat.place.table_id ≡ ledger.now.board.shared.table_id) turns.seats.items) }
 {
     if plan.threads <= 1 {
-        return own_turns(rt, ledger, seat, plan);
+        return own_turns(rt, alloc, ledger, seat, plan);
     }
     let mut seat = seat;
     let other = ledger.split(&mut seat);
-    let half = plan.threads / 2;
-    let first = Plan {
-        threads: half,
-        ..plan
-    };
-    let rest = Plan {
-        threads: plan.threads - half,
-        root: plan.root.saturating_add(half),
-        ..plan
-    };
+    let (first, rest) = plan.halves();
     let (low, high) = join(
         rt,
         || -> Result<Turns, LedgerFault>
             requires { IsSync R.row × (seat.place.table_id ≡ ledger.now.board.shared.table_id) }
-            ensures { IfOk result (λ turns.
-                All (λ seat. seat.place.table_id ≡ ledger.entry.now.board.shared.table_id) turns.seats.items) }
-        { all_turns(rt, ledger, seat, first) },
+            ensures { IfOk result (λ turns. All
+                (λ seat. seat.place.table_id ≡ ledger.entry.now.board.shared.table_id)
+                turns.seats.items) }
+        { all_turns(rt, alloc, ledger, seat, first) },
         || -> Result<Turns, LedgerFault>
             requires { IsSync R.row × (other.place.table_id ≡ ledger.now.board.shared.table_id) }
-            ensures { IfOk result (λ turns.
-                All (λ seat. seat.place.table_id ≡ ledger.entry.now.board.shared.table_id) turns.seats.items) }
-        { all_turns(rt, ledger, other, rest) },
+            ensures { IfOk result (λ turns. All
+                (λ seat. seat.place.table_id ≡ ledger.entry.now.board.shared.table_id)
+                turns.seats.items) }
+        { all_turns(rt, alloc, ledger, other, rest) },
     );
     both(low?, high?)
 }
 
-/// What both leave.
+/// Returns what both leave.
 fn both(low: Turns, high: Turns) -> Result<Turns, LedgerFault>
     ensures { IfOk result (λ turns. turns.seats.items ≡ low.seats.items ++ high.seats.items) }
 {
@@ -152,7 +168,7 @@ fn both(low: Turns, high: Turns) -> Result<Turns, LedgerFault>
     Ok(Turns { seats, indices })
 }
 
-/// Whether the entries of each thread's root have the numbers from 0 on.
+/// Returns whether the entries of each thread's root have the numbers from 0 on.
 pub fn are_in_order(alloc: Global, ledger: &Ledger, threads: usize) -> Result<bool, LedgerFault> {
     let Ok(mut next) = vec![in alloc; 0u32; threads] else {
         return Err(LedgerFault::Memory);
@@ -175,7 +191,7 @@ pub fn are_in_order(alloc: Global, ledger: &Ledger, threads: usize) -> Result<bo
     Ok(true)
 }
 
-/// Whether the indices are those below the length, each once.
+/// Returns whether the indices are those below the length, each once.
 pub fn are_each_once(alloc: Global, indices: &[u32], len: u32) -> Result<bool, LedgerFault> {
     let Ok(mut seen) = vec![in alloc; false; len as usize] else {
         return Err(LedgerFault::Memory);

@@ -13,7 +13,7 @@ pub fn of_input(rt: &HostRuntime) -> Result<()> {
     of_trace(rt, &trace_of_input(rt)?)
 }
 
-/// The tree of the trace; where memory is refused it is built again.
+/// Returns the tree of the trace, or why there is none; where memory is refused it is built again.
 pub fn built(rt: &HostRuntime, trace: &Trace) -> Result<Result<Tree, TreeFault>>
     ensures { IfOk result (λ built. IfOk built (IsTreeOf trace.now.records)) }
 {

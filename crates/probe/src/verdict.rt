@@ -1,6 +1,5 @@
-//! What the calls on a trace answer, the order of a yes among them, and the orders that leave a task incomplete.
-ghost use Rattle.std.specs.Prelude.{◌≡◌};
-
+//! What the calls on a trace answer, the order of a yes among them, and the orders that leave a task
+//! incomplete.
 use crate::again::again;
 use crate::lines::trace_of_input;
 use anyhow::Result;
@@ -65,7 +64,7 @@ fn counter_at(rt: &HostRuntime, trace: &Trace, at: usize, task: u64) -> Result<(
     Ok(())
 }
 
-/// The places in the order, the earliest first.
+/// Returns the places in the order, the earliest first.
 fn places_of(alloc: Global, order: &Order) -> Result<Vec<usize>, AllocError> {
     let mut places = Vec::with_capacity(alloc, order.len())?;
     for before in 0..order.len() {

@@ -13,8 +13,8 @@ use task_tree::Tree;
 use trace_ledger::ledger_of;
 use wait_coverage::{CoverFault, Coverage};
 
-/// For each of the trace files that stand one after another on standard input: each end of a wait, whether
-/// it waits for children or for descendants, its spans, and the task that is unfinished there.
+/// Prints for each of the trace files that stand one after another on standard input: each end of a wait,
+/// whether it waits for children or for descendants, its spans, and the task that is unfinished there.
 pub fn each(rt: &HostRuntime) -> Result<()> {
     for trace in traces_of_input(rt)?.iter() {
         of_trace(rt, trace)?;
@@ -35,7 +35,7 @@ fn of_tree(rt: &HostRuntime, trace: &Trace, tree: &Tree) -> Result<()>
     of_states(rt, trace, tree, &states_of(rt, trace, tree)?)
 }
 
-/// The states of the trace's tasks; where memory is refused they are found again.
+/// Returns the states of the trace's tasks; where memory is refused they are found again.
 fn states_of<'a>(rt: &HostRuntime, trace: &'a Trace, tree: &'a Tree) -> Result<States<'a>>
     requires tree { IsTreeOf trace.now.records tree.now }
     ensures { IfOk result (λ states. states.run.records ≡ trace.now.records) }

@@ -10,8 +10,8 @@ use std::time::Clock;
 /// The most bytes of a block.
 const LARGEST_BLOCK: usize = 1 << 24;
 
-/// Checks the trace of standard input by so many workers at the gate of this name. Prints the verdict, with the order of a
-/// yes, or the fault; and how often each worker came to the gate.
+/// Checks the trace of standard input by so many workers at the gate of this name. Prints the verdict, with
+/// the order of a yes, or the fault; and how often each worker came to the gate.
 pub fn decided<R: Threads + Sync + Clock + Input + Print + AllocGlobal>(
     rt: &R,
     workers: u32,
@@ -63,8 +63,8 @@ fn tell_order<P: Print>(rt: &P, order: &Order) -> Result<()> {
     Ok(())
 }
 
-/// Reads the trace file of standard input by so many workers and in blocks of so many bytes, and writes it; or prints why it
-/// cannot be read.
+/// Reads the trace file of standard input by so many workers and in blocks of so many bytes, and writes it;
+/// or prints why it cannot be read.
 pub fn rewritten<R: Threads + Sync + Input + Print + AllocGlobal>(
     rt: &R,
     workers: u32,

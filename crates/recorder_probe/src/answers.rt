@@ -16,7 +16,7 @@ struct RecorderAnswers {
 }
 
 impl RecorderAnswers {
-    /// What this recorder answers.
+    /// Returns what this recorder answers.
     fn of(recorder: &Recorder) -> RecorderAnswers {
         RecorderAnswers {
             thread: recorder.thread(),
@@ -48,7 +48,7 @@ pub struct Answers {
 }
 
 impl Answers {
-    /// What these answer.
+    /// Returns what these answer.
     pub fn of(
         alloc: Global,
         ledger_len: u32,
@@ -111,7 +111,7 @@ pub struct ClosedAnswers {
 }
 
 impl ClosedAnswers {
-    /// Those of these closed recorders.
+    /// Returns the answers of these closed recorders.
     pub fn of(alloc: Global, closed: &Closed) -> Result<ClosedAnswers> {
         let mut threads = Vec::new(alloc);
         for buffer in closed.buffers() {

@@ -9,7 +9,6 @@ use callbacks::{CallFault, Recorder, TaskData};
 use credit_ledger::SharedLedger;
 use ompt_events::Dep;
 use std::alloc::Global;
-use std::fmt::Display;
 use std::sync::Wait;
 
 /// What came of a call.
@@ -30,7 +29,7 @@ pub struct Command<'a> {
 }
 
 impl<'a> Command<'a> {
-    /// The command of these words.
+    /// Returns the command of these words.
     pub fn new(words: [&'a str; 8]) -> Command<'a> {
         Command { words, list: None }
     }
@@ -109,8 +108,8 @@ pub fn perform<R: Wait + Print + AllocGlobal>(
     }
 }
 
-/// Prints where the recorder stands: its current task, its innermost root, the task whose dependences it awaits, and the
-/// length that it knew last.
+/// Prints where the recorder stands: its current task, its innermost root, the task whose dependences it
+/// awaits, and the length that it knew last.
 fn stands<P: Print + AllocGlobal>(rt: &P, recorder: &Recorder) -> Result<Outcome> {
     println!(rt;
         "{:?} {:?} {:?} {}",

@@ -1,9 +1,12 @@
 //! Prints what calls of recorders answer, for `tests/`. Nothing is promised but safety.
-//! Without words it makes the calls that standard input lists. With `program TASKS THREADS SEED [hasty]` it runs a
-//! random program on threads with a recorder each, and prints the trace that is gathered.
-//! Begin at `session`, which says what the commands are; `calls` makes the calls of one recorder, `tasks` keeps the
-//! values of tasks, `answers` notes what recorders and tasks answer, since a call that is refused for memory must change
-//! none of that, and `words` reads words. `program` runs a random program, whose tasks lie in a `pool`.
+//!
+//! Without words it makes the calls that standard input lists. With `program TASKS THREADS SEED [hasty]` it runs
+//! a random program on threads with a recorder each, and prints the trace that is gathered.
+//!
+//! Begin at `session`, which says what the commands are; `calls` makes the calls of one recorder, `tasks` keeps
+//! the values of tasks, `answers` notes what recorders and tasks answer, since a call that is refused for memory
+//! must change none of that, and `words` reads words. `program` runs a random program, whose tasks lie in a
+//! `pool`.
 #![tactic(auto)]
 
 mod answers;

@@ -58,7 +58,7 @@ pub struct Pool<L: Room> {
 }
 
 impl<L: Room> Pool<L> {
-    /// A pool of no tasks; so many initial tasks have the numbers from 0 on.
+    /// Returns a pool of no tasks; so many initial tasks have the numbers from 0 on.
     pub fn new(alloc: Global, roots: usize, waits: bool) -> Result<Pool<L>> {
         Ok(Pool {
             jobs: Vec::new(alloc),
@@ -68,7 +68,7 @@ impl<L: Room> Pool<L> {
         })
     }
 
-    /// The number of a task that this one creates, unless there are so many already.
+    /// Returns the number of a task that this one creates; none where there are so many already.
     pub fn add(&mut self, parent: u64, most: usize) -> Result<Option<u64>> {
         let id = self.children.len();
         if id >= most {
@@ -82,7 +82,7 @@ impl<L: Room> Pool<L> {
         Ok(Some(id as u64))
     }
 
-    /// A child task of this one is complete.
+    /// Counts that a child task of this one is complete.
     pub fn end(&mut self, parent: u64) {
         self.unfinished = self.unfinished.saturating_sub(1);
         if let Some(count) = self.children.get_mut(parent as usize) {
@@ -90,7 +90,7 @@ impl<L: Room> Pool<L> {
         }
     }
 
-    /// Whether all tasks are complete.
+    /// Returns whether all tasks are complete.
     pub fn is_over(&self) -> bool {
         self.unfinished == 0
     }
@@ -101,7 +101,8 @@ impl<L: Room> Pool<L> {
         Ok(())
     }
 
-    /// One of the tasks that may go on; the number chooses which one.
+    /// Takes one of the tasks that may go on; the number chooses which one. Returns none where there is
+    /// none.
     pub fn take(&mut self, chosen: u32) -> Option<Job<L>> {
         let count = self.jobs.len();
         'jobs: for step in 0..count {
@@ -113,7 +114,7 @@ impl<L: Room> Pool<L> {
         None
     }
 
-    /// Whether the task at this place has no child task to wait for.
+    /// Returns whether the task at this place has no child task to wait for.
     fn may_go_on(&self, place: usize) -> bool {
         let Some(job) = self.jobs.get(place) else {
             return false;

@@ -1,5 +1,6 @@
-//! Random programs of tasks that threads run side by side, each with a recorder of its own. A task that was created,
-//! suspended or detached lies in a pool with a note until a thread takes it up, be it the same or another one.
+//! Random programs of tasks that threads run side by side, each with a recorder of its own. A task that was
+//! created, suspended or detached lies in a pool with a note until a thread takes it up, be it the same or
+//! another one.
 ghost use Rattle.std.specs.Prelude.{◌≡◌, ◌<◌, All, IfOk};
 ghost use Rattle.std.specs.Thread.{IsSync};
 ghost use Rattle.credit_ledger.specs.Places.{ledger_id, seat_id};
@@ -30,8 +31,8 @@ struct Plan {
     waits: bool,
 }
 
-/// Runs a random program of at most so many tasks on so many threads, and prints the trace that their recorders
-/// gather. Each taskwait waits, unless the program is hasty.
+/// Runs a random program of at most so many tasks on so many threads, and prints the trace that their
+/// recorders gather. Each taskwait waits, unless the program is hasty.
 pub fn run<R: Threads + Wait + Sync + Print + AllocGlobal>(
     rt: &R,
     tasks: usize,
@@ -139,8 +140,8 @@ struct Done<L: Room> {
     ghost of_the_room: { recorder.ledger ≡ L.ledger },
 }
 
-/// What a thread has to itself: its recorder, its initial task, which waits in a taskgroup for all that it creates, and
-/// the numbers by which it chooses.
+/// What a thread has to itself: its recorder, its initial task, which waits in a taskgroup for all that it
+/// creates, and the numbers by which it chooses.
 #[derive(Drop)]
 struct Worker<'a, L: Room> {
     shared: &'a Shared<'a, L>,

@@ -27,16 +27,16 @@ struct Session {
     ghost noted: { All (λ n. n.ledger ≡ ledger_id ledger) notes.items },
 }
 
-/// Does what each line of the text says, and prints what comes of it behind the line. The first word is the number
-/// of a recorder, counted from 0 in the order in which they were made, and the second a call of it (`calls`); or:
-/// `new THREAD` makes a recorder; `N note` keeps a note of a recorder, and `N meet M` lets it meet the note with the number
-/// M; `gather` closes all recorders and prints the trace that is gathered from them, and `gather N` leaves those from the
-/// number N on out. After either the next line begins anew.
+/// Does what each line of the text says, and prints what comes of it behind the line. The first word is the
+/// number of a recorder, counted from 0 in the order in which they were made, and the second a call of it
+/// (`calls`); or: `new THREAD` makes a recorder; `N note` keeps a note of a recorder, and `N meet M` lets it
+/// meet the note with the number M; `gather` closes all recorders and prints the trace that is gathered from
+/// them, and `gather N` leaves those from the number N on out. After either the next line begins anew.
 ///
-/// Where a call of the library is refused for memory, `memory, ` is printed in front of its answer; that of a new ledger
-/// stands in front of the next line. The call must have changed nothing that can be asked for, and the ledger must still
-/// answer; then it is made once more, with the values that came back. The program ends with an error where something has
-/// changed, and where it gets no memory for what it does itself.
+/// Where a call of the library is refused for memory, `memory, ` is printed in front of its answer; that of
+/// a new ledger stands in front of the next line. The call must have changed nothing that can be asked for,
+/// and the ledger must still answer; then it is made once more, with the values that came back. The program
+/// ends with an error where something has changed, and where it gets no memory for what it does itself.
 pub fn each<R: Wait + Print + AllocGlobal>(rt: &R, text: &str) -> Result<()> {
     let mut session = Session::new(rt)?;
     for line in text.lines() {

@@ -3,21 +3,22 @@ use anyhow::{Result, bail};
 use callbacks::TaskData;
 use std::alloc::Global;
 
-/// Values of tasks, each with its name. The place of a value that is taken stays, with its name, for the next value.
+/// Values of tasks, each with its name. The place of a value that is taken stays, with its name, for the
+/// next value.
 #[derive(Drop)]
 pub struct Tasks {
     places: Vec<(String, Option<TaskData>)>,
 }
 
 impl Tasks {
-    /// No value yet.
+    /// Returns no values.
     pub fn new(alloc: Global) -> Tasks {
         Tasks {
             places: Vec::new(alloc),
         }
     }
 
-    /// The value of this name, which is no longer kept.
+    /// Returns the value of this name, which is no longer kept. Fails where there is none.
     pub fn take(&mut self, name: &str) -> Result<TaskData> {
         if let Some(place) = self.place(name)
             && let Some((_, value)) = self.places.get_mut(place)
@@ -41,7 +42,7 @@ impl Tasks {
         Ok(())
     }
 
-    /// The values, each at its place; none where it is taken.
+    /// Returns the values, each at its place; none where it is taken.
     pub fn places(&self) -> &[(String, Option<TaskData>)] {
         self.places.as_slice()
     }

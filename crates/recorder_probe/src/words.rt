@@ -4,7 +4,7 @@ use bitflags::Flags;
 use ompt_events::{CancelFlags, Dep, DepKind, Status, SyncKind, TaskFlags, ThreadKind};
 use std::alloc::Global;
 
-/// The first eight words of a line; those that it lacks are empty.
+/// Returns the first eight words of a line; those that it lacks are empty.
 pub fn words_of(line: &str) -> [&str; 8] {
     let mut words = [""; 8];
     for (place, word) in line.split(' ').take(8).enumerate() {
@@ -15,7 +15,8 @@ pub fn words_of(line: &str) -> [&str; 8] {
     words
 }
 
-/// The flags of a task, with `+` between their names; `-` is none, and a number stands for its bits.
+/// Returns the flags of a task, with `+` between their names; `-` is none, and a number stands for its bits.
+/// Fails where a word is none of these.
 pub fn task_flags(word: &str) -> Result<TaskFlags> {
     let mut flags = TaskFlags::empty();
     for name in word.split('+').filter(|name| *name != "-") {
@@ -27,7 +28,7 @@ pub fn task_flags(word: &str) -> Result<TaskFlags> {
     Ok(flags)
 }
 
-/// The flags of a cancellation, in the same form.
+/// Returns the flags of a cancellation, in the same form.
 pub fn cancel_flags(word: &str) -> Result<CancelFlags> {
     let mut flags = CancelFlags::empty();
     for name in word.split('+').filter(|name| *name != "-") {
@@ -39,7 +40,8 @@ pub fn cancel_flags(word: &str) -> Result<CancelFlags> {
     Ok(flags)
 }
 
-/// The dependences, as `kind:location`, with commas between them; `-` is none.
+/// Returns the dependences, as `kind:location`, with commas between them; `-` is none. Fails where a word
+/// has another form.
 pub fn dependences(alloc: Global, word: &str) -> Result<Vec<Dep>> {
     let mut list = Vec::new(alloc);
     for item in word.split(',').filter(|item| *item != "-") {
@@ -57,7 +59,7 @@ pub fn dependences(alloc: Global, word: &str) -> Result<Vec<Dep>> {
     Ok(list)
 }
 
-/// The kind of a thread.
+/// Returns the kind of a thread. Fails where there is no such kind.
 pub fn thread_kind(word: &str) -> Result<ThreadKind> {
     let Some(value) = ThreadKind::from_name(word) else {
         bail!("no such kind of thread");
@@ -65,7 +67,7 @@ pub fn thread_kind(word: &str) -> Result<ThreadKind> {
     Ok(value)
 }
 
-/// The kind of a region.
+/// Returns the kind of a region. Fails where there is no such kind.
 pub fn sync_kind(word: &str) -> Result<SyncKind> {
     let Some(value) = SyncKind::from_name(word) else {
         bail!("no such kind of region");
@@ -73,7 +75,7 @@ pub fn sync_kind(word: &str) -> Result<SyncKind> {
     Ok(value)
 }
 
-/// The status of a schedule.
+/// Returns the status of a schedule. Fails where there is no such status.
 pub fn status(word: &str) -> Result<Status> {
     let Some(value) = Status::from_name(word) else {
         bail!("no such status");

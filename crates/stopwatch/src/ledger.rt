@@ -8,8 +8,8 @@ use std::io::Read;
 /// The greatest length of a path.
 const LONGEST_PATH: usize = 1_024;
 
-/// Does what each line of standard input says to one ledger, and prints the answer. A command is
-/// `enter ROOT PATH KEPT` or `holds UPTO ROOT PATH FROM TO COVER`; a path is its numbers with commas between them.
+/// Does what each line of standard input says to one ledger, and prints the answer. A command is `enter ROOT
+/// PATH KEPT` or `holds UPTO ROOT PATH FROM TO COVER`; a path is its numbers with commas between them.
 pub fn each(rt: &HostRuntime) -> Result<()> {
     let mut text = String::new(rt.alloc());
     rt.reader().read_to_string(&mut text)?;
@@ -89,7 +89,8 @@ fn entered(rt: &HostRuntime, ledger: &mut Ledger, entry: Entry) -> Result<()> {
     Ok(())
 }
 
-/// Prints whether so many entries hold the span. `bench/ledger_calls.py` counts it, so it is not put into its caller.
+/// Prints whether so many entries hold the span. `bench/ledger_calls.py` counts it, so it is not put into
+/// its caller.
 #[inline(never)]
 fn held(rt: &HostRuntime, ledger: &Ledger, upto: u32, span: &Span, cover: Cover) -> Result<()> {
     if span.path.as_slice().len() > LONGEST_PATH {

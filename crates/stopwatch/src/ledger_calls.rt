@@ -2,6 +2,7 @@
 ghost use Rattle.std.specs.Prelude.{◌≡◌, length, IfOk};
 ghost use Rattle.credit_ledger.specs.Places.{ledger_id, seat_id};
 
+use crate::threads::Plan;
 use anyhow::Result;
 use credit_ledger::{Entry, Ledger, Seat, SharedLedger};
 use ompt_events::{Part, Path};
@@ -26,19 +27,19 @@ fn entry_of(alloc: Global, root: u64, number: u32) -> Result<Entry, AllocError>
     })
 }
 
-/// Enters so many entries of a root. Requires a seat of the ledger. Fails where an entry is refused.
-pub fn enters<R: Wait + AllocGlobal>(
+/// Enters the entries of the plan. Requires a seat of the ledger. Fails where an entry is refused.
+pub fn enters<R: Wait>(
     rt: &R,
+    alloc: Global,
     ledger: &SharedLedger,
     seat: Seat,
-    root: u64,
-    count: u32,
+    plan: Plan,
 ) -> Result<()>
     requires { seat_id seat ≡ ledger_id ledger.now }
 {
     let mut seat = seat;
-    'entries: for number in 0..count {
-        let entry = entry_of(rt.alloc(), root, number)?;
+    'entries: for number in 0..plan.count {
+        let entry = entry_of(alloc, plan.root, number)?;
         if let Err((_, fault)) = ledger.enter(rt, &mut seat, entry) {
             return Err(fault.into());
         }
@@ -57,14 +58,9 @@ pub fn looks<R: Wait>(rt: &R, ledger: &SharedLedger, seat: Seat, count: u32)
 }
 
 /// Pushes the same entries onto a list. Fails where memory is refused.
-pub fn pushes<R: Wait + AllocGlobal>(
-    rt: &R,
-    list: &Mutex<Vec<Entry>>,
-    root: u64,
-    count: u32,
-) -> Result<()> {
-    for number in 0..count {
-        let entry = entry_of(rt.alloc(), root, number)?;
+pub fn pushes<R: Wait>(rt: &R, alloc: Global, list: &Mutex<Vec<Entry>>, plan: Plan) -> Result<()> {
+    for number in 0..plan.count {
+        let entry = entry_of(alloc, plan.root, number)?;
         list.lock(rt).push(entry)?;
     }
     Ok(())

@@ -1,7 +1,9 @@
 //! Runs one layer alone, or says how long calls take: `bench/` measures both. Nothing is promised but safety.
-//! One word runs a layer on standard input: `values`, `read` and `write` (`layers`), `rise` and `arrange` (`turns`),
-//! `coverage` and `unfinished` (`waits`), `ledger`. The words WORK COUNT THREADS have threads make calls side by side, and
-//! print the time (`threads`); the calls are those of `ledger_calls` and `recorder_calls`. Begin at `run`.
+//!
+//! One word runs a layer on standard input: `values`, `read` and `write` (`layers`), `rise` and `arrange`
+//! (`turns`), `coverage` and `unfinished` (`waits`), `ledger`. The words WORK COUNT THREADS have threads make calls
+//! side by side, and print the time (`threads`); the calls are those of `ledger_calls` and `recorder_calls`.
+//! Begin at `run`.
 #![tactic(auto)]
 
 mod layers;

@@ -1,26 +1,25 @@
 //! The calls of a recorder, beside a list of records behind a lock.
 ghost use Rattle.std.specs.Prelude.{◌≡◌};
-ghost use Rattle.credit_ledger.specs.Places.{ledger_id, seat_id};
+ghost use Rattle.credit_ledger.specs.Places.{ledger_id};
 
 use crate::threads::{Calls, Plan};
 use anyhow::Result;
 use callbacks::{CallFault, Recorder, TaskData};
-use credit_ledger::{Seat, SharedLedger};
+use credit_ledger::SharedLedger;
 use ompt_events::{Body, Record, Status, SyncKind, TaskFlags};
 use std::sync::{Mutex, Wait};
 
-/// Makes the calls so often as the plan says, by a recorder of the ledger. Requires a seat of the ledger. Fails where a
-/// call is refused.
-pub fn make<R: Wait + AllocGlobal>(
+/// Makes the calls so often as the plan says. Requires a recorder of the ledger. Fails where a call is refused.
+pub fn make<R: Wait>(
     rt: &R,
     ledger: &SharedLedger,
-    seat: Seat,
+    recorder: Recorder,
     calls: Calls,
     plan: Plan,
 ) -> Result<()>
-    requires { seat_id seat ≡ ledger_id ledger.now }
+    requires { recorder.ledger ≡ ledger_id ledger.now }
 {
-    let mut recorder = Recorder::new(rt.alloc(), 0, seat);
+    let mut recorder = recorder;
     let mut root = recorder.ompt_callback_implicit_task_begin(
         0,
         plan.root,

@@ -5,8 +5,10 @@ ghost use Rattle.credit_ledger.specs.Places.{ledger_id, seat_id};
 
 use crate::{ledger_calls, recorder_calls};
 use anyhow::{Result, bail};
+use callbacks::Recorder;
 use credit_ledger::{Entry, Seat, SharedLedger};
 use ompt_events::Record;
+use std::alloc::Global;
 use std::rt::Clock;
 use std::sync::{Mutex, Wait};
 use std::thread::{Threads, join};
@@ -69,8 +71,9 @@ impl Work {
     }
 }
 
-/// Prints how many nanoseconds the threads take, side by side, until each has done one piece of the work, on an average
-/// over so many pieces. The work `one-enter` is that of all threads, done by one in a ledger of its own.
+/// Prints how many nanoseconds the threads take, side by side, until each has done one piece of the work, on
+/// an average over so many pieces. The work `one-enter` is that of all threads, done by one in a ledger of
+/// its own.
 pub fn timed<R: Threads + Wait + Sync + Clock + Print + AllocGlobal>(
     rt: &R,
     name: &str,
@@ -103,10 +106,12 @@ fn side_by_side<R: Threads + Wait + Sync + Clock + AllocGlobal>(
     rt: &R,
     plan: Plan,
 ) -> Result<Duration> {
-    let (ledger, seat) = SharedLedger::new(rt.alloc())?;
-    let entries = Mutex::new(Vec::new(rt.alloc()));
-    let records = Mutex::new(Vec::new(rt.alloc()));
+    let alloc = rt.alloc();
+    let (ledger, seat) = SharedLedger::new(alloc)?;
+    let entries = Mutex::new(Vec::new(alloc));
+    let records = Mutex::new(Vec::new(alloc));
     let shared = Shared {
+        alloc,
         ledger: &ledger,
         entries: &entries,
         records: &records,
@@ -119,18 +124,14 @@ fn side_by_side<R: Threads + Wait + Sync + Clock + AllocGlobal>(
 /// What the threads share.
 #[derive(Clone, Copy)]
 struct Shared<'a> {
+    alloc: Global,
     ledger: &'a SharedLedger,
     entries: &'a Mutex<Vec<Entry>>,
     records: &'a Mutex<Vec<Record>>,
 }
 
 /// Does the work of all threads. Half of them are started by another thread.
-fn all<R: Threads + Wait + Sync + AllocGlobal>(
-    rt: &R,
-    shared: &Shared,
-    seat: Seat,
-    plan: Plan,
-) -> Result<()>
+fn all<R: Threads + Wait + Sync>(rt: &R, shared: &Shared, seat: Seat, plan: Plan) -> Result<()>
     requires { seat_id seat ≡ ledger_id shared.now.ledger.now }
 {
     if plan.threads <= 1 {
@@ -162,21 +163,24 @@ fn all<R: Threads + Wait + Sync + AllocGlobal>(
 }
 
 /// Does the work of one thread.
-fn own<R: Wait + AllocGlobal>(rt: &R, shared: &Shared, seat: Seat, plan: Plan) -> Result<()>
+fn own<R: Wait>(rt: &R, shared: &Shared, seat: Seat, plan: Plan) -> Result<()>
     requires { seat_id seat ≡ ledger_id shared.now.ledger.now }
 {
     match plan.work {
-        Work::Enter => ledger_calls::enters(rt, shared.ledger, seat, plan.root, plan.count),
+        Work::Enter => ledger_calls::enters(rt, shared.alloc, shared.ledger, seat, plan),
         Work::Look => {
             ledger_calls::looks(rt, shared.ledger, seat, plan.count);
             Ok(())
         }
-        Work::Push => ledger_calls::pushes(rt, shared.entries, plan.root, plan.count),
+        Work::Push => ledger_calls::pushes(rt, shared.alloc, shared.entries, plan),
         Work::Len => {
             ledger_calls::lengths(rt, shared.entries, plan.count);
             Ok(())
         }
         Work::List => recorder_calls::pushes(rt, shared.records, plan.count),
-        Work::Recorder(calls) => recorder_calls::make(rt, shared.ledger, seat, calls, plan),
+        Work::Recorder(calls) => {
+            let recorder = Recorder::new(shared.alloc, 0, seat);
+            recorder_calls::make(rt, shared.ledger, recorder, calls, plan)
+        }
     }
 }

@@ -24,7 +24,8 @@ fn told_rising(rt: &HostRuntime, trace: &Trace, family: &Family) -> Result<()>
     Ok(())
 }
 
-/// Reads the trace on standard input, searches for a turn gap and puts its records into the tasks' own order.
+/// Reads the trace on standard input, searches for a turn gap and puts its records into the tasks' own
+/// order.
 pub fn arranged(rt: &HostRuntime) -> Result<()> {
     let trace = trace_of_input(rt)?;
     let family = family_of(rt, &trace)?;
