@@ -240,7 +240,7 @@ impl Recorder {
         let body = Body::Cancel {
             flags,
             task: task.id(),
-            share: None,
+            claim: None,
         };
         self.record(may_cancel(flags), body)
     }
