@@ -31,10 +31,10 @@ use Rattle.task_tree.specs.Family.{FamilyView, IsFamilyOf}
 use Rattle.task_tree.proofs.OnceLemmas.{made_once}
 use Rattle.task_tree.proofs.RankedLemmas.{Every, every_get}
 use Rattle.task_tree.proofs.SuspendedLemmas.{no_misfit, runs_there, part_of, part_keeps, told_right}
+use Rattle.task_tree.proofs.SuspendedLemmas.{turn_here}
 use Rattle.task_tree.proofs.SuspendedLemmas.{begun_told, Suspended, suspended_parts, suspended_once}
 use Rattle.task_tree.proofs.SuspendedLemmas.{after_roots}
 use Rattle.task_tree.specs.Runs.{RunView}
-use Rattle.task_tree.proofs.RisingPassLemmas.{turn_here}
 use Rattle.checker.specs.Search.{IsSoundRun}
 use Rattle.checker.specs.Schedule.{IsEarlierOnThread, EachAwaitsOne}
 use Rattle.checker.proofs.ScheduleLemmas.{begun_root_or_explicit}

@@ -28,8 +28,8 @@ use Rattle.ompt_events.proofs.TurnLemmas.{begun_started, start_first, is_start_u
 use Rattle.ompt_events.proofs.ListLemmas.{all_get}
 use Rattle.task_tree.specs.Rising.{TurnsRise, AreTurnsInOrder}
 use Rattle.task_tree.proofs.BlindLemmas.{blind_running, blind_begun_root}
-use Rattle.task_tree.proofs.SuspendedLemmas.{part_of, part_keeps}
-use Rattle.task_tree.proofs.RisingPassLemmas.{turn_here, in_order_rise, explicit_not_root}
+use Rattle.task_tree.proofs.SuspendedLemmas.{part_of, part_keeps, explicit_not_root, turn_here}
+use Rattle.task_tree.proofs.RisingPassLemmas.{in_order_rise}
 use Rattle.task_states.proofs.OriginLemmas.{found_some, found_passes, root_home, explicit_home}
 use Rattle.task_states.proofs.HomeLemmas.{has_not_moved, on_thread}
 use Rattle.checker.proofs.BlindBodyLemmas.{blind_suspended}

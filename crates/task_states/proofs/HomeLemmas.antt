@@ -22,7 +22,7 @@ use Rattle.task_tree.specs.Family.{FamilyView, IsFamilyOf}
 use Rattle.task_tree.specs.Runs.{RunView, IsRun, IsIndexOf}
 use Rattle.task_tree.proofs.SubjectLemmas.{call_task}
 use Rattle.task_tree.proofs.LinkLemmas.{get_set_same, get_set_other}
-use Rattle.task_tree.proofs.RisingPassLemmas.{explicit_not_root}
+use Rattle.task_tree.proofs.SuspendedLemmas.{explicit_not_root}
 use Rattle.task_states.specs.declared.homes.Home.{Home}
 use Rattle.task_states.specs.declared.homes.Home.TheVariants.{Nowhere, On, Many}
 use Rattle.task_states.specs.Homes.{home_told, home_at, home_after, told_move, IsExplicitStart, AreRunOn}

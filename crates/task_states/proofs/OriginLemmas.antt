@@ -27,7 +27,7 @@ use Rattle.ompt_events.proofs.PlaceLemmas.{the_task}
 use Rattle.ompt_events.proofs.RecordLemmas.{begun_made, made_cases, begun_at_made}
 use Rattle.ompt_events.proofs.ListLemmas.{pushed_cases, contains_get}
 use Rattle.task_tree.proofs.OnceLemmas.{made_once}
-use Rattle.task_tree.proofs.RisingPassLemmas.{explicit_not_root}
+use Rattle.task_tree.proofs.SuspendedLemmas.{explicit_not_root}
 use Rattle.task_states.specs.declared.homes.Home.{Home}
 use Rattle.task_states.specs.declared.homes.Home.TheVariants.{Nowhere}
 use Rattle.task_states.specs.Homes.{home_at}

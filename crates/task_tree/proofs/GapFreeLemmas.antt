@@ -14,7 +14,7 @@ use Rattle.task_tree.specs.TurnTable.{TurnsBeginInOrder}
 use Rattle.task_tree.specs.TurnRows.{BeginsAnew}
 use Rattle.task_tree.specs.Gaps.{MayBeginThere, TellsRightly}
 use Rattle.task_tree.proofs.GapLemmas.{free_of_gap}
-use Rattle.task_tree.proofs.RisingPassLemmas.{explicit_not_root}
+use Rattle.task_tree.proofs.SuspendedLemmas.{explicit_not_root}
 
 -- ---- the turn that begins
 

@@ -18,17 +18,16 @@ use Rattle.ompt_events.specs.Records.{running, started, created, next_turn, told
 use Rattle.ompt_events.specs.Records.{begun_root}
 use Rattle.ompt_events.specs.Places.{at, thread_at}
 use Rattle.ompt_events.specs.Tree.{IsRoot, IsExplicit}
-use Rattle.ompt_events.specs.Turns.{TellsNoTurns, turn_after, turn_in, turn_of, turn_at}
+use Rattle.ompt_events.specs.Turns.{TellsNoTurns, turn_after, turn_in, turn_at}
 use Rattle.ompt_events.specs.Causes.{HasTurnGap, other_turn, begun_again, falling, of_root, missing}
 use Rattle.ompt_events.specs.Causes.{TellsStart, BeginsTurn, runs, turn_gap, IsFreeOf}
 use Rattle.ompt_events.proofs.PlaceLemmas.{read_get, at_within}
-use Rattle.ompt_events.proofs.RecordLemmas.{begun_at_made, created_at_made, made_cases, root_or_created}
+use Rattle.ompt_events.proofs.RecordLemmas.{made_cases}
 use Rattle.ompt_events.proofs.TurnLemmas.{begun_zero}
 use Rattle.ompt_events.proofs.ListLemmas.{get_contains}
 use Rattle.task_tree.specs.Numbering.{AreApart}
 use Rattle.task_tree.specs.Family.{FamilyView, IsFamilyOf}
 use Rattle.task_tree.proofs.LinkLemmas.{get_set_same, get_set_other}
-use Rattle.task_tree.proofs.OnceLemmas.{made_once}
 use Rattle.task_tree.specs.declared.rising.Latest.{Latest}
 use Rattle.task_tree.specs.declared.rising.Begin.{Begin as BeginAt}
 use Rattle.task_tree.specs.Rising.{TurnsRise, NoneLater, IsInOrder, AreTurnsInOrder, turn_now, IsOnTurn}
@@ -38,7 +37,7 @@ use Rattle.task_tree.specs.Rising.{IsStartOf}
 use Rattle.task_tree.specs.Rising.{IsTurnBegin, BeginsNone, MayBegin, may_untold, may_next, IsStepOn}
 use Rattle.task_tree.proofs.GapLemmas.{begins_cases, untold_none, no_start_none}
 use Rattle.task_tree.proofs.RisingLemmas.{own_running}
-use Rattle.task_tree.proofs.SuspendedLemmas.{part_of, part_keeps}
+use Rattle.task_tree.proofs.SuspendedLemmas.{part_of, part_keeps, explicit_not_root, turn_here}
 use Rattle.task_tree.proofs.TurnTableLemmas.{turn_own, turn_other}
 
 -- ---- the turn that a task is in
@@ -312,12 +311,6 @@ latest_start rs i index task next r tasks latest known within read apart are beg
 
 -- ---- the turn of the record
 
-pub turn_here : (rs : List Record) (i task : ℕ) (r : Record) → slice_get rs i ≡ Some r
-    → running r.body ≡ Some task → turn_at rs i ≡ turn_in task (part_of rs r.thread i)
-turn_here rs i task r stands own =
-    ap (λ (o : Option Record). option_map_or (λ (q : Record). turn_of rs q i) o 0) stands
-    ∙ ap (λ (o : Option ℕ). option_map_or (λ t. turn_in t (part_of rs r.thread i)) o 0) own
-
 pub own_body : (rs : List Record) (i task : ℕ) (r : Record) → slice_get rs i ≡ Some r
     → at running rs i ≡ Some task → running r.body ≡ Some task
 own_body rs i task r stands own = sym (ap (option_and_then (λ (q : Record). running q.body)) stands) ∙ own
@@ -410,20 +403,6 @@ keeps_gapless rs i turn r stands is right none = by (told_turns r.body) refl
     by (Some told) tells =
         no_start_none rs i r told stands tells (told_right (told_turns r.body) turn told right tells ∙ is)
         (sym (ap (option_and_then (λ (q : Record). begun_turn q.body)) stands) ∙ none)
-
-pub explicit_not_root : (rs : List Record) (task : ℕ) → IsFreeOf rs CreatedTwice → IsExplicit rs task
-    → IsRoot rs task → ⊥
-explicit_not_root rs task once explicit root =
-    by (slice_get rs explicit.0) explicit.1
-    (ap (at begun_root rs)
-    (made_once rs task explicit.0 root.0 once (created_at_made task rs explicit.0 explicit.1)
-    (begun_at_made task rs root.0 root.1))
-    ∙ root.1)
-  where
-    by : (o : Option Record) → option_and_then (λ (r : Record). created r.body) o ≡ Some task
-        → option_and_then (λ (r : Record). begun_root r.body) o ≡ Some task → ⊥
-    by None is begins = none-some task is
-    by (Some r) is begins = root_or_created task task r.body begins is
 
 starts_gapless : (rs : List Record) (i task next turn : ℕ) (r : Record) (known : Latest)
     → IsFreeOf rs CreatedTwice → slice_get rs i ≡ Some r → IsLatestTurn rs i task known → turn ≡ turn_at rs i

@@ -20,9 +20,10 @@ use Rattle.ompt_events.specs.declared.names.Status.TheVariants.{Yield, Switch}
 use Rattle.ompt_events.specs.declared.cause.Cause.TheVariants.{CreatedTwice, NotCurrent, TurnGap}
 use Rattle.ompt_events.specs.Names.{demands_next}
 use Rattle.ompt_events.specs.Records.{begun_root, running, started, stopped, suspended_turn, told_turns}
+use Rattle.ompt_events.specs.Records.{created}
 use Rattle.ompt_events.specs.Records.{next_turn, begun_turn}
 use Rattle.ompt_events.specs.Places.{at, thread_at}
-use Rattle.ompt_events.specs.Turns.{turn_after, turn_in, turn_at}
+use Rattle.ompt_events.specs.Turns.{turn_after, turn_in, turn_at, turn_of}
 use Rattle.ompt_events.specs.Tree.{IsRoot, IsExplicit}
 use Rattle.ompt_events.specs.Threads.{Walk, at_start, after_body, after_record, walk_of, MisfitsAt}
 use Rattle.ompt_events.specs.Threads.{not_running}
@@ -31,8 +32,9 @@ use Rattle.ompt_events.specs.Traces.{IsTraceOf, IsSound, HasItsNext, HasItsTurns
 use Rattle.ompt_events.specs.Causes.{IsFreeOf, not_current, turn_gap, other_turn, begun_again}
 use Rattle.ompt_events.proofs.TurnLemmas.{begun_started}
 use Rattle.ompt_events.proofs.ListLemmas.{all_get, take_past}
+use Rattle.ompt_events.proofs.RecordLemmas.{begun_at_made, created_at_made, root_or_created}
 use Rattle.task_tree.proofs.RankedLemmas.{Every, every_get}
-use Rattle.task_tree.proofs.RisingPassLemmas.{explicit_not_root, turn_here}
+use Rattle.task_tree.proofs.OnceLemmas.{made_once}
 
 -- ---- what no record has
 
@@ -430,3 +432,23 @@ awaited_once rs trace once current gap task a b i explicit starts one other =
     suspended_once rs trace once current gap one.task one.turn a b (subst (IsExplicit rs) (sym mine) explicit)
     one.suspends
     (other.suspends ∙ ap (λ t. Some (t, other.turn)) (sym parts.0) ∙ ap (λ t. Some (one.task, t)) (sym same))
+
+pub explicit_not_root : (rs : List Record) (task : ℕ) → IsFreeOf rs CreatedTwice → IsExplicit rs task
+    → IsRoot rs task → ⊥
+explicit_not_root rs task once explicit root =
+    by (slice_get rs explicit.0) explicit.1
+    (ap (at begun_root rs)
+    (made_once rs task explicit.0 root.0 once (created_at_made task rs explicit.0 explicit.1)
+    (begun_at_made task rs root.0 root.1))
+    ∙ root.1)
+  where
+    by : (o : Option Record) → option_and_then (λ (r : Record). created r.body) o ≡ Some task
+        → option_and_then (λ (r : Record). begun_root r.body) o ≡ Some task → ⊥
+    by None is begins = none-some task is
+    by (Some r) is begins = root_or_created task task r.body begins is
+
+pub turn_here : (rs : List Record) (i task : ℕ) (r : Record) → slice_get rs i ≡ Some r
+    → running r.body ≡ Some task → turn_at rs i ≡ turn_in task (part_of rs r.thread i)
+turn_here rs i task r stands own =
+    ap (λ (o : Option Record). option_map_or (λ (q : Record). turn_of rs q i) o 0) stands
+    ∙ ap (λ (o : Option ℕ). option_map_or (λ t. turn_in t (part_of rs r.thread i)) o 0) own

@@ -20,8 +20,8 @@ use Rattle.task_tree.specs.declared.turn_table.Walk.{Walk}
 use Rattle.task_tree.specs.TurnTable.{AreTurns, TurnsBeginInOrder, turn_on, AreTurnMarks, IsPlacePassed}
 use Rattle.task_tree.specs.TurnTable.{BeginsNoEarlier, IsTableAt}
 use Rattle.task_tree.proofs.ChainLemmas.{thread_within}
-use Rattle.task_tree.proofs.RisingPassLemmas.{silent, after_own, after_other, turn_here}
-use Rattle.task_tree.proofs.SuspendedLemmas.{part_of, part_own, part_other}
+use Rattle.task_tree.proofs.RisingPassLemmas.{silent, after_own, after_other}
+use Rattle.task_tree.proofs.SuspendedLemmas.{part_of, part_own, part_other, turn_here}
 use Rattle.task_tree.proofs.SortedLemmas.{map_range, same_by_index}
 
 -- ---- the marks
