@@ -6,6 +6,7 @@ use Rattle.std.proofs.lemmas.Bool.{leb-true, false≢true}
 use Rattle.std.proofs.lemmas.List.Elements.{Contains-append_left, Contains-append_right}
 use Rattle.std.proofs.lemmas.List.Elements.{Contains-append_cases}
 use Rattle.std.specs.Prelude.{◌↔◌, Contains, filter, not}
+use Rattle.std.specs.Cmp.{first_so, second_so}
 use Rattle.ompt_events.specs.declared.records.Record.{Record}
 use Rattle.ompt_events.specs.declared.cause.Cause.{Cause}
 use Rattle.ompt_events.specs.declared.fault.Fault.{Fault}
@@ -31,28 +32,20 @@ abbrev pub rises : ℕ → List Cause → Bool
 rises low [] = true
 rises low (c ∷ rest) = leb low (cause_number c) && rises (cause_number c) rest
 
-left : (a b : Bool) → (a && b) ≡ true → a ≡ true
-left true b h = refl
-left false b h = h
-
-right : (a b : Bool) → (a && b) ≡ true → b ≡ true
-right true b h = h
-right false b h = absurd (cc)
-
 rising_above : (low : ℕ) (xs : List Cause) (other : Cause) → rises low xs ≡ true → Contains xs other
     → low ≤ cause_number other
 rising_above low [] other rising (j, below, is) = absurd (omega arith)
 rising_above low (c ∷ rest) other rising (zero, below, is) =
     let P : Cause → Type 0 = λ x. low ≤ cause_number x in
     subst P is
-    (leb-true low (cause_number c) (left (leb low (cause_number c)) (rises (cause_number c) rest) rising))
+    (leb-true low (cause_number c) (first_so (leb low (cause_number c)) (rises (cause_number c) rest) rising))
 rising_above low (c ∷ rest) other rising (suc j, below, is) =
     let first =
     leb-true low (cause_number c)
-    (left (leb low (cause_number c)) (rises (cause_number c) rest) rising) in
+    (first_so (leb low (cause_number c)) (rises (cause_number c) rest) rising) in
     let above =
     rising_above (cause_number c) rest other
-    (right (leb low (cause_number c)) (rises (cause_number c) rest) rising) (j, omega arith, is) in
+    (second_so (leb low (cause_number c)) (rises (cause_number c) rest) rising) (j, omega arith, is) in
     omega (arith, first, above)
 
 -- a cause behind others has no smaller number than any of them
@@ -63,11 +56,11 @@ rising_behind low (c ∷ xs) rest cause other rising (zero, below, is) has =
     let P : Cause → Type 0 = λ x. cause_number x ≤ cause_number other in
     subst P is
     (rising_above (cause_number c) (xs ++ rest) other
-    (right (leb low (cause_number c)) (rises (cause_number c) (xs ++ rest)) rising)
+    (second_so (leb low (cause_number c)) (rises (cause_number c) (xs ++ rest)) rising)
     (Contains-append_right xs rest other has))
 rising_behind low (c ∷ xs) rest cause other rising (suc j, below, is) has =
     rising_behind (cause_number c) xs rest cause other
-    (right (leb low (cause_number c)) (rises (cause_number c) (xs ++ rest)) rising) (j, omega arith, is)
+    (second_so (leb low (cause_number c)) (rises (cause_number c) (xs ++ rest)) rising) (j, omega arith, is)
     has
 
 -- ---- causes that are read in the order of the file
@@ -96,13 +89,15 @@ among_file : (causes : List Cause) (cause : Cause) → are_of_file causes ≡ tr
     → is_own_cause cause ≡ false
 among_file [] cause all (k, below, is) = absurd (omega (arith, below))
 among_file (c ∷ rest) cause all (zero, below, is) =
-    ap is_own_cause (sym is) ∙ negated (is_own_cause c) (left (not (is_own_cause c)) (are_of_file rest) all)
+    ap is_own_cause (sym is)
+    ∙ negated (is_own_cause c) (first_so (not (is_own_cause c)) (are_of_file rest) all)
   where
     negated : (b : Bool) → not b ≡ true → b ≡ false
     negated false h = refl
     negated true h = absurd (false≢true h)
 among_file (c ∷ rest) cause all (suc k, below, is) =
-    among_file rest cause (right (not (is_own_cause c)) (are_of_file rest) all) (k, omega (arith, below), is)
+    among_file rest cause (second_so (not (is_own_cause c)) (are_of_file rest) all)
+    (k, omega (arith, below), is)
 
 -- so a fault of the file is what the trace shows
 pub fault_shown : (rs : List Record) (sought : List Cause) (fault : Fault) → are_of_file sought ≡ true

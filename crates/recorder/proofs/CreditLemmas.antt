@@ -1,11 +1,12 @@
 -- What a status that finishes a part of a task does to the task's credit.
 use Rattle.std.proofs.Common.{◌≡◌, ◌∙◌, ◌∷◌, [], ℕ, Bool, true, false, List, Option, Some, None, refl, sym}
 use Rattle.std.proofs.Common.{ap, subst}
-use Rattle.std.specs.Prelude.{◌&&◌, is_some, if◌then◌else◌}
+use Rattle.std.specs.Prelude.{is_some, if◌then◌else◌}
 use Rattle.std.specs.Option.{option_map_or}
 use Rattle.std.proofs.lemmas.Bool.{false≢true}
 use Rattle.std.proofs.lemmas.Option.{none-some, same_Some}
 use Rattle.std.proofs.lemmas.List.{append-nil}
+use Rattle.std.specs.Cmp.{first_so}
 use Rattle.ompt_events.specs.declared.records.Part.{Part}
 use Rattle.ompt_events.specs.declared.records.Part.TheVariants.{Whole, Body, Event}
 use Rattle.ompt_events.specs.declared.names.Status.{Status}
@@ -152,17 +153,13 @@ parts thread t status.Yield Event after is_part is = absurd (none-some Event is_
 parts thread t status.Switch Event after is_part is = absurd (none-some Event is_part)
 parts thread t status.EarlyFulfill Event after is_part is = absurd (none-some Event is_part)
 
-first : (a b : Bool) → (a && b) ≡ true → a ≡ true
-first true b is = refl
-first false b is = is
-
 -- a schedule that the tasks allow
 pub moves_credit : (r : RecorderView) (s : ScheduleView) (part : Part) → may_schedule r s ≡ true
     → status_part s.status ≡ Some part
     → MovesCredit part (credit_of s.prior) (entered_credit_of (entry_of_part r.thread part s.prior))
     (credit_of (after_stop s.prior s.status))
 moves_credit r s part allowed is_part =
-    let found = reached s.prior s.status (first _ _ (first _ _ (first _ _ allowed))) in
+    let found = reached s.prior s.status (first_so _ _ (first_so _ _ (first_so _ _ allowed))) in
     subst (λ t. MovesCredit part (credit_of s.prior)
     (entered_credit_of (entry_of_part r.thread part s.prior)) (credit_of t))
     (sym (ap (λ st. option_map_or (in_state s.prior) st s.prior) found.2))

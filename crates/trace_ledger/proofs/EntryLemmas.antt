@@ -18,7 +18,7 @@ use Rattle.credit.specs.declared.share.Half.{Half}
 use Rattle.credit_ledger.specs.declared.entry.Entry.{Entry}
 use Rattle.credit_ledger.specs.Entries.{tree_share, tree_shares, pool_share, parent_and_number, share_in_pool}
 use Rattle.credit_ledger.specs.Entries.{pool_shares, is_same_path}
-use Rattle.credit_ledger.proofs.CodeLemmas.{same_path-true, same_path-itself, cond_in as in_cond}
+use Rattle.credit_ledger.proofs.CodeLemmas.{same_path-true, same_path-itself, cond_in, in_cond}
 use Rattle.credit_ledger.proofs.OverLemmas.{HasEntry, has_later}
 use Rattle.credit_ledger.proofs.RegionLemmas.{IsShareIn, IsShareIn-append_left, IsShareIn-append_right}
 use Rattle.credit_ledger.proofs.RegionLemmas.{IsShareIn-append_cases}
@@ -148,10 +148,6 @@ entry_made rs i task part trace finishes = there (slice_get rs i) refl finishes
 
 -- ---- shares of the root's credit, and of a pool
 
-cond_in : (b : _) (s : List Half) → b ≡ true → IsShareIn s (cond b (s ∷ []) [])
-cond_in true s e = inl refl
-cond_in false s e = absurd (false≢true e)
-
 pub in_tree : (root : ℕ) (entries : List Entry) (e : Entry) → HasEntry entries e → e.root ≡ root
     → IsShareIn (tree_share e) (tree_shares root entries)
 in_tree root [] e (k, is) own = absurd (none-some e is)
@@ -159,7 +155,7 @@ in_tree root (f ∷ entries) e (zero, is) own =
     let P : Entry → Type 0 = λ x. IsShareIn (tree_share e) (cond (x.root == root) (tree_share x ∷ []) []) in
     IsShareIn-append_left (tree_share e) (cond (f.root == root) (tree_share f ∷ []) [])
     (tree_shares root entries)
-    (subst P (sym (same_Some f e is)) (cond_in (e.root == root) (tree_share e) (eq-eqb e.root root own)))
+    (subst P (sym (same_Some f e is)) (in_cond (e.root == root) (tree_share e) (eq-eqb e.root root own)))
 in_tree root (f ∷ entries) e (suc k, is) own =
     IsShareIn-append_right (tree_share e) (cond (f.root == root) (tree_share f ∷ []) [])
     (tree_shares root entries)
@@ -174,7 +170,7 @@ from_share : (parent : List ℕ) (child : Option (List ℕ × ℕ)) (part : Part
     → (number : ℕ) × (child ≡ Some (parent, number)) × (x ≡ pool_share number part)
 from_share parent None part x there = absurd there
 from_share parent (Some (up, number)) part x there =
-    let is = in_cond (is_same_path up parent) x (pool_share number part) there in
+    let is = cond_in (is_same_path up parent) x (pool_share number part) there in
     (number, ap (λ p. Some (p, number)) (same_path-true up parent is.0), is.1)
 
 under : (b : _) (x : List Half) (xs : List (List Half)) → IsShareIn x (cond b xs [])
@@ -211,7 +207,7 @@ own_share root number parent e own of =
     ap (λ b. cond b (share_in_pool parent (parent_and_number e.path) e.part) []) (eq-eqb e.root root own)
     ∙ ap (λ c. share_in_pool parent c e.part) of in
     subst P (sym shares)
-    (cond_in (is_same_path parent parent) (pool_share number e.part) (same_path-itself parent))
+    (in_cond (is_same_path parent parent) (pool_share number e.part) (same_path-itself parent))
 
 pub in_pool : (root number : ℕ) (parent : List ℕ) (entries : List Entry) (e : Entry) → HasEntry entries e
     → e.root ≡ root → IsOfChild parent e number
