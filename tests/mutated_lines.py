@@ -33,7 +33,7 @@ def with_a_space(line, source):
 
 
 def with_members_exchanged(line, source):
-    """The line with what stands between two commas moved elsewhere."""
+    """The line with the text between two commas moved elsewhere."""
     parts = line.strip(b'{}').split(b',"')
     source.shuffle(parts)
     return b'{"' + b',"'.join(part.lstrip(b'"') for part in parts) + b'}'

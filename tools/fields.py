@@ -12,7 +12,7 @@ def schema():
 
 
 def value_of(text):
-    """The value of a line; a number that is not written in digits alone is no int."""
+    """The value of a line; a number that is not written only in digits is no int."""
     return json.loads(text, parse_int=lambda digits: float(digits) if digits.startswith('-') else int(digits))
 
 
