@@ -1,7 +1,7 @@
-"""What the scripts of bench/ share: where the programs stand, and how a run is timed, counted and made.
+"""What the scripts of bench/ share: where the programs are, and how a run is timed, counted and made.
 
-Files are made by other processes where memory is measured, since a process that is started counts at first
-with the memory of the one that starts it.
+Files are made by other processes where memory is measured, since a started process first has the memory of
+the one that starts it.
 """
 
 import os
@@ -115,7 +115,7 @@ def peak(command, path):
 
 
 def instructions(command, path):
-    """The instructions of a command on a file, and the begin of what it prints."""
+    """The instructions of a command on a file, and the start of its output."""
     with open(path, "rb") as source, tempfile.TemporaryFile() as sink:
         run = subprocess.run(COUNTING + command, stdin=source, stdout=sink, stderr=subprocess.PIPE,
                              check=False)
@@ -128,7 +128,7 @@ def instructions(command, path):
 
 
 def instructions_of(command, path, lines, answer):
-    """The instructions of a command on a file of these lines, which must answer so."""
+    """The instructions of a command on a file of these lines, which must have this answer."""
     write_lines(path, lines)
     count, text = instructions(command, path)
     if answer not in text:

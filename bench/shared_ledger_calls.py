@@ -17,7 +17,7 @@ WORKS = (("enter", 1), ("one-enter", 1), ("look", 10), ("push", 1), ("len", 10))
 
 
 def least(work, calls, threads, runs):
-    """The nanoseconds a call of the quickest run. `stopwatch` tells them for a call of each thread."""
+    """The nanoseconds a call of the quickest run. `stopwatch` prints them for a call of each thread."""
     command = [STOPWATCH, work, str(calls // threads), str(threads)]
     return min(int(timed(command)[2]) for _ in range(runs)) / threads
 
