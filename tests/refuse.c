@@ -1,7 +1,7 @@
 /* A library for LD_PRELOAD that makes calls of the C library fail, one by one, as on a machine without memory or with a
    broken device. The environment says what it does; each number counts from 1, and K.. means each from the K-th on.
 
-     REFUSE_ALLOCATION=K or K..   the K-th malloc, calloc, realloc, posix_memalign or aligned_alloc finds no memory
+     REFUSE_ALLOCATION=K or K..   the K-th malloc, calloc, realloc, posix_memalign or aligned_alloc fails
      REFUSE_READ=K or K..         the K-th read of standard input is an input/output error
      REFUSE_WRITE=K or K..        the K-th write to standard output is one
      INTERRUPT_READ=N             the first N reads of standard input are interrupted
