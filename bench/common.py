@@ -59,12 +59,12 @@ def output_of(script, *words):
 
 
 def trace(size, *words):
-    """The lines of a run of so many records, by traces.py."""
+    """The lines of a run of this many records, by traces.py."""
     return output_of("traces.py", size, *words).splitlines()
 
 
 def write_long_trace(path, size, order):
-    """Writes a long run of so many records of eight threads in this order, by traces.py."""
+    """Writes a long run of this many records of eight threads in this order, by traces.py."""
     command = [sys.executable, os.path.join(HERE, "traces.py"), str(size), order, "8", "long"]
     with open(path, "wb") as sink:
         subprocess.run(command, stdout=sink, check=True)
@@ -96,7 +96,7 @@ def timed(command, path=os.devnull, output=None):
 
 
 def best(command, path, count=3):
-    """The quickest of so many runs; one alone where it is cut."""
+    """The quickest of this many runs; only one where it is cut."""
     runs = [timed(command, path)]
     while runs[-1][0] is not None and len(runs) < count:
         runs.append(timed(command, path))

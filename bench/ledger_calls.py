@@ -9,7 +9,7 @@ which Valgrind counts, for fewer entries.
 `stopwatch ledger` does what the lines of its input say. From the seconds and the memory, what reading and
 printing a line take is subtracted: lines with the same path that ask for an empty span. Each shape has two
 sizes, the second twice the first; growth is that of entering and of asking. The last shape is a chain of
-1,000 tasks, and so many children of the last of them.
+1,000 tasks, and this many children of the last of them.
 """
 
 import os
@@ -27,7 +27,7 @@ RUNS = 5
 
 
 def random_tree(size):
-    """The paths of so many tasks, each the child of a random task."""
+    """The paths of this many tasks, each the child of a random task."""
     paths, kept = [[]], [0]
     for _ in range(size):
         parent = random.randrange(len(paths))
@@ -38,7 +38,7 @@ def random_tree(size):
 
 
 def children(size):
-    """The paths of so many children of one task."""
+    """The paths of this many children of one task."""
     return [([number], 0) for number in range(size)]
 
 
@@ -48,7 +48,7 @@ def in_order(size):
 
 
 def chain(size):
-    """A chain of 1,000 tasks, and so many children of the last of them."""
+    """A chain of 1,000 tasks, and this many children of the last of them."""
     links = [([0] * depth, 1) for depth in range(1, 1000)] + [([0] * 1000, size)]
     return links + [([0] * 1000 + [number], 0) for number in range(size)]
 

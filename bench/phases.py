@@ -55,7 +55,7 @@ def with_a_device(lines):
 
 
 def phases(path, size, order):
-    """The instructions of each phase on the run of so many records in this order."""
+    """The instructions of each phase on the run of this many records in this order."""
     lines = trace(size, order)
     check = [PROGRAM, "check"]
     ends = [

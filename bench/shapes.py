@@ -1,4 +1,4 @@
-"""Makes traces whose shape could cost more than their size: each function gives the lines of about so many
+"""Makes traces whose shape could cost more than their size: each function gives the lines of about this many
 records.
 """
 

@@ -1,6 +1,6 @@
 #!/usr/bin/env python3
 """shared_ledger_calls.py [CALLS [RUNS]]: how many nanoseconds does a call of a ledger that threads share
-take, beside a list behind a mutex?
+take, compared with a list behind a mutex?
 
 The threads of `stopwatch` make CALLS calls (200,000), or ten times as many of `look` and `len`, split among
 1, 2, 4 or 8 threads; a row has the time of the whole over the number of calls. `alone` is what the same

@@ -142,7 +142,7 @@ def long_records(size, threads=THREADS):
 
 
 def trace(size, by_thread=False, threads=THREADS, kind=Run):
-    """The text of a trace of so many records, in the order of time or one thread after another."""
+    """The text of a trace of this many records, in the order of time or one thread after another."""
     records = records_of(kind(threads), size)
     if by_thread:
         records.sort(key=lambda record: record[0])

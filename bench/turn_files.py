@@ -1,4 +1,4 @@
-"""Makes traces of version 2, in which tasks have turns: each function gives the lines of about so many
+"""Makes traces of version 2, in which tasks have turns: each function gives the lines of about this many
 records.
 """
 

@@ -294,7 +294,7 @@ def tell(records, stay, turn):
 
 
 def some_stays(chance, records, most, test=lambda *stays: True):
-    """The stays of a task, and so many of them in file order of which the test holds; or None."""
+    """The stays of a task, and this many of them in file order of which the test holds; or None."""
     tasks = sorted({it['next'] for it in records if runs_next(it)})
     for task in chance.sample(tasks, len(tasks)):
         found = stays(records, task)

@@ -1,7 +1,6 @@
 #!/usr/bin/env python3
-"""model.py < FILE: the answer of docs/MODEL.md to a readable trace file, found by the definitions there alone.
-model.py order < FILE: the same, and after a yes or a no an order of all records, one line `T S` (thread, seq) a
-record.
+"""model.py < FILE: the answer of docs/MODEL.md to a readable trace file, found only by the definitions there.
+model.py order < FILE: the same, and after a yes or a no an order of all records, one line `T S` (thread, seq) each.
 
 It shares no code with the program and saves no time: what is a relation there is a set here, and what happens
 before what is a transitive closure. The first line of each function names the definition that it restates. What a
@@ -44,7 +43,7 @@ Walk = namedtuple('Walk', 'roots current')
 Yes = namedtuple('Yes', 'order')
 No = namedtuple('No', 'place why task order')
 Malformed = namedtuple('Malformed', 'place number name')
-# All orders are tried of a trace with at most so many records, if no other number is given.
+# All orders are tried of a trace with at most this many records, if no other number is given.
 MOST_TRIED = 8
 
 

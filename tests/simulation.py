@@ -220,8 +220,8 @@ class Run:
         return steps + self.chance.sample(discards, min(1, len(discards)))
 
     def endings_of_body(self, thread):
-        """The ways in which the current task may end, each with a task that runs next; that may be one which waited for
-        this one alone."""
+        """The ways in which the current task may end, each with a task that runs next; that may be one which waited
+        only for this one."""
         job = thread.current
         status = 'detach' if job.event == 'due' else 'complete'
         statuses = [status] if job.event else [status, status, 'cancel']
@@ -360,8 +360,8 @@ def long_run(chance, is_hasty, version=1):
 
 
 def short_run(chance, is_hasty, most, version=1):
-    """A run that ends once it has so many records. It begins with a task for which something soon may wait, and mostly
-    with a second thread, so that its records have several orders."""
+    """A run that ends once it has this many records. It begins with a task for which something soon may wait, and
+    mostly with a second thread, so that its records have several orders."""
     run = Run(chance, chance.randint(2, 3), version)
     first = run.threads[0]
     run.begin_initial(first)

@@ -22,9 +22,9 @@ Order = namedtuple('Order', 'sentence first left_out last')
 # A move of a task: its line and thread, and the turn that begins or ends by it, where one does.
 Move = namedtuple('Move', 'number thread turn move')
 
-# So many records of one kind are shown, and so many tasks named in a row.
+# The greatest number of records of one kind shown, and of tasks named in a row.
 MOST_SHOWN = 8
-# A path has at most so many numbers.
+# The greatest number of numbers in a path.
 MOST_NUMBERS = 1024
 # Arrays and objects of a line nest at most so deep.
 DEEPEST = 127

@@ -32,7 +32,7 @@ class Checker:
         return {**found, **part}
 
     def faults(self, part, value, where):
-        """Yields a sentence for each fault of the value, which stands at `where`."""
+        """Yields a sentence for each fault of the value, which is at `where`."""
         part = self.resolved(part)
         kind = part.get('type')
         if kind and (type(value) is not KINDS[kind]):

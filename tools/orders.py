@@ -6,7 +6,7 @@ from itertools import groupby
 
 # The limit of the search for a shortest cycle; past it the shortest one found so far is used.
 MOST_LOOKED_AT = 10**6
-# Of a segment of an order so many records are kept at its begin, and so many at its end.
+# The number of records kept at the begin and at the end of a segment of an order.
 MOST_KEPT = 10
 
 
