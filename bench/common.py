@@ -1,7 +1,7 @@
-"""What the scripts of bench/ share: where the programs stand, and how a run is timed, counted and made.
+"""What the scripts of bench/ share: where the programs are, and how a run is timed, counted and made.
 
-Files are made by other processes where memory is measured, since a process that is started counts at first
-with the memory of the one that starts it.
+Files are made by other processes where memory is measured, since a started process first has the memory of
+the one that starts it.
 """
 
 import os
@@ -59,12 +59,12 @@ def output_of(script, *words):
 
 
 def trace(size, *words):
-    """The lines of a run of so many records, by traces.py."""
+    """The lines of a run of this many records, by traces.py."""
     return output_of("traces.py", size, *words).splitlines()
 
 
 def write_long_trace(path, size, order):
-    """Writes a long run of so many records of eight threads in this order, by traces.py."""
+    """Writes a long run of this many records of eight threads in this order, by traces.py."""
     command = [sys.executable, os.path.join(HERE, "traces.py"), str(size), order, "8", "long"]
     with open(path, "wb") as sink:
         subprocess.run(command, stdout=sink, check=True)
@@ -96,7 +96,7 @@ def timed(command, path=os.devnull, output=None):
 
 
 def best(command, path, count=3):
-    """The quickest of so many runs; one alone where it is cut."""
+    """The quickest of this many runs; only one where it is cut."""
     runs = [timed(command, path)]
     while runs[-1][0] is not None and len(runs) < count:
         runs.append(timed(command, path))
@@ -115,7 +115,7 @@ def peak(command, path):
 
 
 def instructions(command, path):
-    """The instructions of a command on a file, and the begin of what it prints."""
+    """The instructions of a command on a file, and the start of its output."""
     with open(path, "rb") as source, tempfile.TemporaryFile() as sink:
         run = subprocess.run(COUNTING + command, stdin=source, stdout=sink, stderr=subprocess.PIPE,
                              check=False)
@@ -128,7 +128,7 @@ def instructions(command, path):
 
 
 def instructions_of(command, path, lines, answer):
-    """The instructions of a command on a file of these lines, which must answer so."""
+    """The instructions of a command on a file of these lines, which must have this answer."""
     write_lines(path, lines)
     count, text = instructions(command, path)
     if answer not in text:

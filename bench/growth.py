@@ -22,8 +22,8 @@ COMMANDS = [[PROGRAM, "check"], ["wc", "-l"], [STOPWATCH, "values"], [STOPWATCH,
 
 
 def least_of_rounds(paths):
-    """By power the least seconds of each command. Each round runs all sizes once, so that a machine that is
-    slower for a while is so for all of them."""
+    """By power the least seconds of each command. Each round runs all sizes once, so that a machine that
+    is slower for a while is slower for all of them."""
     least = {power: [LIMIT] * len(COMMANDS) for power in paths}
     for _ in range(ROUNDS):
         for power, path in paths.items():

@@ -2,14 +2,14 @@
 """ledger_calls.py [instructions]: what does it cost to enter a finished task into a ledger of one thread,
 and to ask whether its entries hold a task?
 
-Enters tasks, in a scrambled order but for one shape, and asks whether all entries hold the start of each.
+Enters tasks, in a scrambled order except for one shape, and asks whether all entries hold the start of each.
 Prints seconds of the processor and peak memory, the least of five runs; or the instructions of the calls,
 which Valgrind counts, for fewer entries.
 
 `stopwatch ledger` does what the lines of its input say. From the seconds and the memory, what reading and
 printing a line take is subtracted: lines with the same path that ask for an empty span. Each shape has two
 sizes, the second twice the first; growth is that of entering and of asking. The last shape is a chain of
-1,000 tasks, and so many children of the last of them.
+1,000 tasks, and this many children of the last of them.
 """
 
 import os
@@ -27,7 +27,7 @@ RUNS = 5
 
 
 def random_tree(size):
-    """The paths of so many tasks, each the child of a task that is chosen by chance."""
+    """The paths of this many tasks, each the child of a random task."""
     paths, kept = [[]], [0]
     for _ in range(size):
         parent = random.randrange(len(paths))
@@ -38,7 +38,7 @@ def random_tree(size):
 
 
 def children(size):
-    """The paths of so many children of one task."""
+    """The paths of this many children of one task."""
     return [([number], 0) for number in range(size)]
 
 
@@ -48,7 +48,7 @@ def in_order(size):
 
 
 def chain(size):
-    """A chain of 1,000 tasks, and so many children of the last of them."""
+    """A chain of 1,000 tasks, and this many children of the last of them."""
     links = [([0] * depth, 1) for depth in range(1, 1000)] + [([0] * 1000, size)]
     return links + [([0] * 1000 + [number], 0) for number in range(size)]
 
@@ -58,7 +58,7 @@ def joined(path):
 
 
 def write_lines(shape, size, folder):
-    """Writes lines that are read alone, that enter each task, and that ask for each besides."""
+    """Writes lines that are only read, that enter each task, and that also ask for each."""
     random.seed(1)
     tasks = shape(size)
     if shape is not in_order:
@@ -95,7 +95,8 @@ def seconds(folder):
 
 
 def counts_of(folder, name):
-    """What Valgrind counts for each function of a run on this file, the functions that it calls among it."""
+    """What Valgrind counts for each function of a run on this file, including the functions that it
+    calls."""
     counts = os.path.join(folder, "counts")
     with open(os.path.join(folder, name), "rb") as source:
         subprocess.run(["valgrind", "--tool=callgrind", f"--callgrind-out-file={counts}"] + COMMAND,
@@ -121,8 +122,8 @@ def instructions(folder):
 
 
 def figures(shape, size, measure):
-    """How many entries there are, and what entering and asking take. Another process writes the lines, since
-    what this one holds would count as the ledger's memory."""
+    """How many entries there are, and what entering and asking take. Another process writes the lines,
+    since the memory of this one would count as the ledger's."""
     with tempfile.TemporaryDirectory() as folder:
         writer = Process(target=write_lines, args=(shape, size, folder))
         writer.start()

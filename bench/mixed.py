@@ -1,8 +1,8 @@
 #!/usr/bin/env python3
 """mixed.py SIZE: a file of SIZE records of all callbacks, in the form in which they are written.
 
-The records are no account of a run: the file is for the reader and the writer. The same size gives the same
-bytes each time.
+No run has these records: the file is for the reader and the writer. The same size gives the same bytes each
+time.
 """
 
 import json

@@ -1,14 +1,14 @@
 #!/usr/bin/env python3
-"""moves.py [SIZE]: how many instructions more does a check take where tasks move?
+"""moves.py [SIZE]: how many more instructions does a check take where tasks move?
 
 Counts those of `taskaudit check` on files of SIZE records (65,536) and of twice as many, in which no task
-moves and in which each does, by the same records but for threads and turns; and the growth from the one size
-to the other. Valgrind counts, so the figures are the same on a busy machine.
+moves and in which each does, by the same records except for threads and turns; and the growth from the one
+size to the other. Valgrind counts, so the figures are the same on a busy machine.
 
-The files: tasks that are suspended and go on on the same thread (`stays`) or on another one (`moves`), where
-the thread on which they go on stands first in the file, so that their later turns do; and one task that goes
-on again and again, by turns on two threads (`one task`). Beside them a run of traces.py as version 1 and
-with the turns that its lines imply.
+The files: tasks that are suspended and resume on the same thread (`stays`) or on another one (`moves`),
+where the thread on which they resume comes first in the file, and so do their later turns; and one task that
+resumes repeatedly, on two threads by turns (`one task`). Also a run of traces.py as version 1 and with the
+turns that its lines imply.
 """
 
 import os

@@ -1,8 +1,8 @@
 #!/usr/bin/env python3
 """ompt_recorder.py [ROUNDS]: what does the recorder of ompt/ cost a program that it records?
 
-Runs programs with and without the recorder, in ROUNDS rounds (9), and takes the least seconds of each; tells
-the memory of a record, and how fast a file of nearly 2^22 records is written.
+Runs programs with and without the recorder, in ROUNDS rounds (9), and takes the least seconds of each;
+prints the memory of a record, and how fast a file of nearly 2^22 records is written.
 """
 import os
 import subprocess
@@ -28,7 +28,7 @@ def compile_all(folder):
 
 
 def run(folder, words, file=None):
-    """The seconds of the parallel region and of the whole process, and its peak of memory in bytes."""
+    """The seconds of the parallel region and of the whole process, and its peak memory in bytes."""
     told = {**os.environ, 'OMP_NUM_THREADS': str(THREADS)}
     if file:
         told |= {'TASKAUDIT_FILE': file, 'OMP_TOOL_LIBRARIES': os.path.join(OMPT, 'out/libtaskaudit_ompt.so')}
@@ -60,7 +60,7 @@ def show(folder, file, name, program, rounds):
 
 
 def writing(folder, file):
-    """The seconds that the process takes more with the recorder, beside those of the parallel region."""
+    """The additional seconds of the process with the recorder, without those of the parallel region."""
     before, after = run(folder, LARGEST), run(folder, LARGEST, file)
     return (after[1] - after[0]) - (before[1] - before[0])
 

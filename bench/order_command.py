@@ -1,10 +1,11 @@
 #!/usr/bin/env python3
-"""order_command.py [SIZE]: how many instructions does `taskaudit order` take beside `taskaudit check`?
+"""order_command.py [SIZE]: how many instructions does `taskaudit order` take compared with `taskaudit
+check`?
 
 Counts both on traces of SIZE records (65,536) and of twice as many.
 
 The files: a run in the order of time, the same one thread after another, and a run of 256 threads, one after
-another; each as it is, a yes, and with a wait at its end that names the whole ledger and ends before its
+another; each unchanged, a yes, and with a wait at its end that names the whole ledger and ends before its
 task ran, a no in the last record. Valgrind counts, so the figures are the same on a busy machine.
 """
 
@@ -41,7 +42,7 @@ def with_an_early_wait(lines):
 
 
 def show(name, answer, path, files):
-    """Prints a row for each file, which must be answered so."""
+    """Prints a row for each file, which must have this answer."""
     earlier = None
     for lines in files:
         check, order = (instructions_of([PROGRAM, word], path, lines, f"{answer}: ") for word in WORDS)

@@ -1,6 +1,6 @@
 #!/usr/bin/env python3
-"""phases.py [POWER..]: how many instructions do reading, the causes, the order and the waits take, each for
-itself?
+"""phases.py [POWER..]: how many instructions do reading, the causes, the order and the waits take, each
+alone?
 
 Counts them on runs of 2^POWER records (2^12 to 2^17). Valgrind counts, so the figures are the same on a busy
 machine.
@@ -55,7 +55,7 @@ def with_a_device(lines):
 
 
 def phases(path, size, order):
-    """The instructions of each phase on the run of so many records in this order."""
+    """The instructions of each phase on the run of this many records in this order."""
     lines = trace(size, order)
     check = [PROGRAM, "check"]
     ends = [

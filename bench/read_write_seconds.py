@@ -1,5 +1,5 @@
 #!/usr/bin/env python3
-"""read_write_seconds.py [SIZE]: how many seconds do reading and writing take, beside JSON alone?
+"""read_write_seconds.py [SIZE]: how many seconds do reading and writing take, compared with JSON alone?
 
 Takes SIZE mixed records (1,048,576) of `mixed.py`. The program `stopwatch` reads each line as a JSON value
 (`values`), reads the records (`read`), or reads and writes them (`write`), three times in turn. What writing

@@ -1,8 +1,8 @@
 #!/usr/bin/env python3
 """record_command.py [STEPS [RUNS]]: how many seconds does `taskaudit record` take, and microseconds a step?
 
-Runs scripts of STEPS steps (2^18) on 1, 4, 8 and 64 threads. Reading is what the program takes to find that
-a last line, more than the script has, is none of a script.
+Runs scripts of STEPS steps (2^18) on 1, 4, 8 and 64 threads. Reading is the time to find that an additional
+last line is not one of a script.
 
 `own`: each thread creates tasks, switches to each and back, and it is complete; no thread waits for another
 one. `passed`: the initial task of thread 0 creates the tasks, and each is run by one of the other threads.
@@ -87,7 +87,7 @@ def least(text, status, runs):
 def main():
     numbers = numbers_of(sys.argv[1:], __doc__, 2)
     steps, runs = numbers + [2**18, 5][len(numbers):]
-    table("Script", "Threads", "Seconds", "Of these reading", "Microseconds a step beside reading")
+    table("Script", "Threads", "Seconds", "Of these reading", "Microseconds a step without reading")
     for make in (own, passed, turns):
         for threads in (1, 4, 8, 64):
             lines = list(make(steps, threads))

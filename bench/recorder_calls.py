@@ -5,15 +5,15 @@ a record?
 Runs 1, 2, 4 and 8 threads that share a ledger. Each thread of `stopwatch` makes CALLS calls (200,000): it
 creates tasks; switches to a task and back; creates a task, switches to it, and the task is complete; begins
 and ends a taskwait. `list` puts the records of creations into one list behind a mutex, with no recorder. A
-complete task is what the three calls take more than a creation and a switch. The least of RUNS runs (5).
-Bytes are those that the process takes more at its peak for twice as many calls.
+complete task is the time of the three calls beyond a creation and a switch. The least of RUNS runs (5).
+Bytes are the additional peak memory of the process for twice as many calls.
 """
 
 import sys
 
 from common import STOPWATCH, numbers_of, row, table, timed
 
-# So many pieces of the work tell the bytes.
+# The number of pieces of work that measure the bytes.
 MANY = 2**19
 # How many records each piece of the work makes.
 RECORDS = {"create": 1, "switch": 2, "finish": 3, "region": 2, "list": 1}
@@ -31,8 +31,8 @@ def least(work, pieces, threads, runs):
 
 
 def bytes_of(work):
-    """The bytes a record: what twice as many records take more. Before it runs, a process has the size of
-    this one."""
+    """The bytes a record: the additional memory of twice as many records. Before it runs, a process has
+    the size of this one."""
     more = run(work, 2 * MANY, 1)[1] - run(work, MANY, 1)[1]
     return more / (RECORDS[work] * MANY)
 

@@ -1,7 +1,7 @@
 #!/usr/bin/env python3
 """shape_instructions.py [SIZE]: does a file of some shape cost more instructions than its size?
 
-Counts the instructions of `taskaudit check` beside reading, at SIZE records (65,536) of shapes that could
+Counts the instructions of `taskaudit check` without reading, at SIZE records (65,536) of shapes that could
 cost more, and at twice as many. Valgrind counts, so the figures are the same on a busy machine.
 """
 
@@ -12,7 +12,7 @@ import tempfile
 import shapes
 from common import PROGRAM, STOPWATCH, instructions_of, numbers_of, row, table
 
-# Each shape, and how the answer to it begins.
+# Each shape, and the start of its answer.
 SHAPES = [
     ("all ten callbacks, in a team of 8", shapes.all_callbacks, "yes: "),
     ("waits of one task, all children before each", shapes.waits, "yes: "),
@@ -27,14 +27,14 @@ SHAPES = [
 
 
 def counted(lines, path, answer):
-    """The instructions of a check of these lines beside reading."""
+    """The instructions of a check of these lines without reading."""
     reading = instructions_of([STOPWATCH, "read"], path, lines, f"{len(lines) - 1} records")
     return instructions_of([PROGRAM, "check"], path, lines, answer) - reading
 
 
 def main():
     size = (numbers_of(sys.argv[1:], __doc__) or [2**16])[0]
-    table("Shape", "Records", "A check beside reading, millions", "A record", "Growth")
+    table("Shape", "Records", "A check without reading, millions", "A record", "Growth")
     with tempfile.TemporaryDirectory() as folder:
         path = os.path.join(folder, "trace")
         for name, shape, answer in SHAPES:

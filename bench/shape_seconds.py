@@ -60,7 +60,7 @@ def groups():
 
 
 def scattered(size):
-    """An ordinary run whose ids stand all over 64 bits."""
+    """An ordinary run whose ids are spread over 64 bits."""
     def spread(number):
         return number * 0x9E3779B97F4A7C15 % 2**64 or 1
 

@@ -1,4 +1,4 @@
-"""Makes traces whose shape could cost more than their size: each function gives the lines of about so many
+"""Makes traces whose shape could cost more than their size: each function gives the lines of about this many
 records.
 """
 
@@ -101,7 +101,7 @@ def unfinished_waits(size):
 
 
 def siblings(size, items):
-    """Siblings one after another, the list of each as told."""
+    """Siblings one after another, each with the given list."""
     thread = Thread()
     for number in range(size // 4):
         child = number + 2

@@ -1,6 +1,6 @@
 #!/usr/bin/env python3
 """shared_ledger_calls.py [CALLS [RUNS]]: how many nanoseconds does a call of a ledger that threads share
-take, beside a list behind a mutex?
+take, compared with a list behind a mutex?
 
 The threads of `stopwatch` make CALLS calls (200,000), or ten times as many of `look` and `len`, split among
 1, 2, 4 or 8 threads; a row has the time of the whole over the number of calls. `alone` is what the same
@@ -17,7 +17,7 @@ WORKS = (("enter", 1), ("one-enter", 1), ("look", 10), ("push", 1), ("len", 10))
 
 
 def least(work, calls, threads, runs):
-    """The nanoseconds a call of the quickest run. `stopwatch` tells them for a call of each thread."""
+    """The nanoseconds a call of the quickest run. `stopwatch` prints them for a call of each thread."""
     command = [STOPWATCH, work, str(calls // threads), str(threads)]
     return min(int(timed(command)[2]) for _ in range(runs)) / threads
 

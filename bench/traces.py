@@ -43,8 +43,8 @@ class Run:
         return task
 
     def write(self, thread, seen, before_seen, after_seq):
-        """Records a line, whose other members stand before or after `seen` and `seq`, in the order of their
-        names."""
+        """Records a line, whose other members come before or after `seen` and `seq`, in the order of
+        their names."""
         seq = self.seqs[thread]
         self.seqs[thread] += 1
         self.known[thread] = max(self.known[thread], seen)
@@ -100,7 +100,7 @@ class Run:
         return None
 
     def step(self, thread):
-        """What the thread does next; nothing, where its task waits for tasks that other threads run."""
+        """The next step of the thread; nothing, where its task waits for tasks that other threads run."""
         task = self.stacks[thread][-1]
         if self.waiting[task]:
             if self.running[task] == 0:
@@ -142,7 +142,7 @@ def long_records(size, threads=THREADS):
 
 
 def trace(size, by_thread=False, threads=THREADS, kind=Run):
-    """The text of a trace of so many records, in the order of time or one thread after another."""
+    """The text of a trace of this many records, in the order of time or one thread after another."""
     records = records_of(kind(threads), size)
     if by_thread:
         records.sort(key=lambda record: record[0])

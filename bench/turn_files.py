@@ -1,4 +1,4 @@
-"""Makes traces of version 2, in which tasks have turns: each function gives the lines of about so many
+"""Makes traces of version 2, in which tasks have turns: each function gives the lines of about this many
 records.
 """
 
@@ -63,7 +63,7 @@ class Lines:
 
 
 def moving(size):
-    """Tasks that begin on thread 1 and go on on thread 0, whose lines stand first."""
+    """Tasks that begin on thread 1 and resume on thread 0, whose lines come first."""
     made = Lines()
     for number in range((size - 2) // 5):
         task = number + 2
@@ -76,7 +76,7 @@ def moving(size):
 
 
 def staying(size):
-    """The same tasks, but each goes on where it began."""
+    """The same tasks, but each resumes where it began."""
     made = Lines()
     for number in range((size - 2) // 5):
         task = number + 2
@@ -89,7 +89,7 @@ def staying(size):
 
 
 def one_task(size):
-    """A task that goes on on one thread and on the other by turns, and is complete in the end."""
+    """A task that resumes on two threads by turns, and is complete in the end."""
     made = Lines()
     made.create(2)
     resumed = {0: 0, 1: 0}

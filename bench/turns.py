@@ -5,9 +5,9 @@ Counts on traces of version 2 of SIZE records (1,048,576) the instructions a rec
 rise, of the turn of each record, of the search for a gap and of the tasks' own order, and the peak memory.
 
 The files: a run of traces.py, where no task moves, with the turns that its lines imply, in the order of time
-and one thread after another; and tasks that begin on one thread and go on on another, whose later turns
-stand first. Callgrind counts what each call takes with all that it calls, so the figures are the same on a
-busy machine; the test has no symbol of its own, and is what `told_rising` of stopwatch takes.
+and one thread after another; and tasks that begin on one thread and resume on another, whose later turns
+come first. Callgrind counts each call with all that it calls, so the figures are the same on a busy machine;
+the test has no symbol of its own, and is the time of `told_rising` of stopwatch.
 """
 
 import os
@@ -23,7 +23,8 @@ CALLS = ("turn_table::turns_of", "gaps::find_gap", "own_order::arrange")
 
 
 def counted(word, function, path):
-    """The instructions of the function while stopwatch does what the word says, and of all that it calls."""
+    """The instructions of the function, with all that it calls, in the work of stopwatch that the word
+    names."""
     command = ["valgrind", "--tool=callgrind", "--callgrind-out-file=/dev/null",
                f"--toggle-collect=*{function}*", STOPWATCH, word]
     with open(path, "rb") as source:

@@ -2,11 +2,11 @@
 """unfinished_tasks.py [SIZE]: how many instructions does it take to ask a ledger for the unfinished task of
 every end of a wait?
 
-Counts them on runs of SIZE records (65,536), beside those of the same question in `check`. Asking is
+Counts them on runs of SIZE records (65,536), compared with those of the same question in `check`. Asking is
 `Coverage::first_unfinished_all` of all ends: what `stopwatch unfinished` takes beyond `stopwatch coverage`, which ends
 when the coverage and the ledger are made. In `check` it is the phase of the waits: teams, `find_known`,
-`find_unfinished` and the search for late starts (`phases.py`). Valgrind counts, so the figures are the same on a
-busy machine.
+`find_unfinished` and the search for late starts (`phases.py`). Valgrind counts, so the figures are the same on a busy
+machine.
 """
 
 import os

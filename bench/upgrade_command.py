@@ -4,7 +4,7 @@ upgrade_command.py instructions [SIZE]: and how many instructions?
 
 Runs it on runs of 2^POWER records (2^20 and 2^22), in the order of time and one thread after another: the
 least seconds of nine rounds, and peak memory; or counts instructions, by Valgrind, on files of SIZE records
-(65,536) and of twice as many. Beside it stand `stopwatch read`, which reads the same file; `taskaudit
+(65,536) and of twice as many. It is compared with `stopwatch read`, which reads the same file; `taskaudit
 check`; and `upgrade` of the upgraded file, which reads and writes a trace of version 2 and upgrades nothing.
 What is written goes to /dev/null. Each file is upgraded first, and its answer must stay the same.
 """

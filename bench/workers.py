@@ -1,10 +1,10 @@
 #!/usr/bin/env python3
 """workers.py [POWER..]: how many seconds do workers save?
 
-Takes the seconds of `taskaudit check` beside those of `check --workers` with 1, 2 and 4 workers, on runs of
+Takes the seconds of `taskaudit check` and those of `check --workers` with 1, 2 and 4 workers, on runs of
 2^POWER records (2^20 and 2^22) in the order of time. The commands take turns, all sizes in each round, and
-the least of five rounds counts, since a machine that others use is slower at times. The load of the machine
-before and after is told. All answers must be the same.
+the least of five rounds counts, since a shared machine is sometimes slower. The load of the machine before
+and after is printed. All answers must be the same.
 """
 
 import os

@@ -1,6 +1,6 @@
-/* A library that breaks LLVM's OpenMP runtime on purpose, to see that the audit notices: preloaded, it makes taskwaits,
-   the ends of taskgroups or dependences wait for nothing, by the words of TASKAUDIT_BREAK. The tool of the run, which
-   it loads itself, is told just what the right runtime would tell it. */
+/* A library that breaks LLVM's OpenMP runtime on purpose, to see that the audit notices: preloaded, it makes
+   taskwaits, the ends of taskgroups or dependences wait for nothing, by the words of TASKAUDIT_BREAK. The tool of the
+   run, which it loads itself, gets exactly the callbacks of the right runtime. */
 #define _GNU_SOURCE
 #include <dlfcn.h>
 #include <omp-tools.h>
@@ -93,7 +93,7 @@ int __kmpc_omp_task_with_deps(void *location, int thread, void *task, int count,
     return call(location, thread, task, 0, NULL, 0, NULL);
 }
 
-/* The tool, between which and the runtime this library stands */
+/* The tool; this library is between it and the runtime */
 
 static ompt_set_result_t set_callback(ompt_callbacks_t event, ompt_callback_t call) {
     if (event == ompt_callback_sync_region) tool_sync_region = (ompt_callback_sync_region_t)call;

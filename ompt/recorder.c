@@ -12,7 +12,7 @@
 #include <time.h>
 #include <unistd.h>
 
-/* So much memory is taken at once for a thread: first little, since it may have few records, then two of the processor's
+/* The memory that a thread allocates at once: first little, since it may have few records, then two of the processor's
    large pages. */
 enum { FIRST_PIECE = 256 << 10, PIECE = 4 << 20 };
 /* Values that older headers lack, and the last of those that a file can name. */
@@ -25,7 +25,7 @@ _Atomic uint32_t region_count;
 _Atomic uint64_t notes[NOTES];
 const void *_Atomic first_code[NOTES];
 
-/* The ledger of finished tasks, of which a recorder needs the length alone. It has a cache line of its own. */
+/* The ledger of finished tasks, of which a recorder needs only the length. It has a cache line of its own. */
 static _Alignas(64) _Atomic uint32_t ledger;
 /* Whether recording is over: a limit is reached, or the file is being written. */
 static _Alignas(64) _Atomic bool is_over;
@@ -261,7 +261,7 @@ static uint32_t copy_list(struct dependence *list, const ompt_dependence_t *item
     return kept;
 }
 
-/* Dependences count right behind the creation of their task, which then says that they follow. */
+/* Dependences count only directly after the creation of their task, which then says that they follow. */
 static void on_dependences(ompt_data_t *data, const ompt_dependence_t *items, int count) {
     struct thread *thread = this_thread();
     struct task *task = task_of(data);
@@ -290,9 +290,9 @@ static bool is_finishing(int status) {
     return status != ompt_task_yield && status != ompt_task_early_fulfill && status != ompt_task_switch;
 }
 
-/* Says that the task runs from here on, and returns which of its turns begins. A task starts in turn 0, a root where it
-   begins; each time that it runs on it is in one more. The turn stays with the task, which no thread runs while it is
-   suspended. Notes where the task runs on another thread than at first. */
+/* Says that the task runs from here on, and returns which of its turns begins. A task starts in turn 0, a root where
+   it begins; each time that it resumes, its turn is one greater. The turn stays with the task, which no thread runs
+   while it is suspended. Notes where the task runs on another thread than its first one. */
 static uint32_t run_next(struct thread *thread, struct task *next) {
     thread->current = next;
     if (next->thread < 0) {
@@ -315,7 +315,7 @@ static void on_task_schedule(ompt_data_t *prior_data, ompt_task_status_t status,
         note(UNKNOWN, NULL);
         return;
     }
-    if (prior->is_discarded && prior != thread->current) { /* the runtime tells once more that it was */
+    if (prior->is_discarded && prior != thread->current) { /* the runtime reports it once more */
         note(DISCARDED_TWICE, NULL);
         return;
     }

@@ -11,7 +11,7 @@
 /* The limits of a trace file (docs/FORMAT.md). */
 enum { MAX_RECORDS = 1 << 22, MAX_TASKS = 1 << 20, MAX_THREADS = 256, MAX_DEPENDENCES = 64, MAX_DEPTH = 1024 };
 
-/* The versions of a trace file. The first cannot say that a task goes on on another thread. TASKAUDIT_VERSION in the
+/* The versions of a trace file. The first cannot say that a task resumes on another thread. TASKAUDIT_VERSION in the
    environment chooses one; without it the file is of the default version. */
 enum { FIRST_VERSION = 1, LAST_VERSION = 2, DEFAULT_VERSION = LAST_VERSION };
 
@@ -32,7 +32,7 @@ struct task {
     uint32_t children;     /* how many it has created */
     uint32_t depth;        /* how many steps it is below its root */
     int32_t thread;        /* the thread on which it first ran, or -1 */
-    uint32_t turn;         /* how often it has run on since it started, on whichever thread */
+    uint32_t turn;         /* how often it has resumed since it started, on any thread */
     bool is_initial, is_discarded;
     bool has_list;         /* its dependences are recorded */
     bool has_started;      /* for the writer: its start was counted */
@@ -71,7 +71,7 @@ struct block {
     struct record records[RECORDS_OF_BLOCK];
 };
 
-/* A thread of the run. It alone writes here, but for `count`, which the writer reads too. */
+/* A thread of the run. Only this thread writes here, except `count`, which the writer reads too. */
 struct thread {
     int number;
     uint32_t known;            /* the ledger length that it knows */
@@ -102,7 +102,7 @@ extern const void *_Atomic first_code[NOTES];
 /* Writes the trace file, once; `ending` says what ended the run. Calls nothing that a signal handler may not. */
 void write_trace(const char *ending);
 
-/* Finds out which code stands where. Not for signal handlers. */
+/* Finds out which code is where. Not for signal handlers. */
 void find_modules(void);
 
 /* Takes the name of the file and its version from the environment; returns whether there is a name, the version is one

@@ -79,7 +79,7 @@ static void put_number(uint64_t number) {
     length += sizeof digits - at;
 }
 
-/* Puts a member of a number behind the one before. */
+/* Puts a member of a number after the one before. */
 static void put_member(const char *name, uint64_t number) {
     put(name);
     put_number(number);
@@ -99,7 +99,7 @@ static void put_flags(const struct flag *table, uint32_t bits) {
     put("]");
 }
 
-/* Where code stands */
+/* Where code is */
 
 static struct module {
     uintptr_t begin, end, base;
@@ -137,7 +137,7 @@ void find_modules(void) {
     dl_iterate_phdr(add_module, NULL);
 }
 
-/* Puts where the code of a record stands: an address in the program, or in a library behind its name. */
+/* Puts where the code of a record is: an address in the program, or in a library after its name. */
 static void put_code(const void *code) {
     uintptr_t address = (uintptr_t)code;
     for (int i = 0; i < module_count; i++) {
@@ -186,7 +186,7 @@ static const struct record *next(struct cursor *cursor) {
 }
 
 /* Whether the parallel region that begins just before the cursor is one of one thread inside another region, in which
-   nothing is created; it may be left out then. The cursor moves behind its end. */
+   nothing is created; it may be left out then. The cursor moves to after its end. */
 static bool passes_inner_region(struct cursor *cursor, const struct record *begin) {
     struct cursor ahead = *cursor;
     for (const struct record *record; (record = next(&ahead));) {
@@ -221,7 +221,7 @@ static bool is_finishing(const struct record *record) {
            record->kind != ompt_task_early_fulfill;
 }
 
-/* The next task, and which of its turns begins where the file tells turns. */
+/* The next task, and which of its turns begins where the file has turns. */
 static void put_next(const struct record *record) {
     put(",\"next\":");
     if (!record->other) {
@@ -396,9 +396,9 @@ static void look_at(const struct thread *thread) {
     }
 }
 
-/* Code that gcc compiled tells its barriers as `barrier_implementation`, or as that on the primary thread and as
-   `barrier` on others. All are written as `barrier`, since each of them waits for tasks. Other code tells no `barrier`, and
-   a `barrier_implementation` in reductions alone. */
+/* Code that gcc compiled reports its barriers as `barrier_implementation`, or as that on the primary thread and as
+   `barrier` on others. All are written as `barrier`, since each of them waits for tasks. Other code has no
+   `barrier`, and a `barrier_implementation` only in reductions. */
 static void look_at_barriers(void) {
     uint64_t found = regions_of_kind[ompt_sync_region_barrier_implementation];
     renames_barriers = found && (is_gcc || regions_of_kind[ompt_sync_region_barrier]);

@@ -121,7 +121,7 @@ def records_exchanged(chance, records):
 
 
 def record_elsewhere(chance, records):
-    """A line that stands elsewhere in the file, as another one of its thread or of another one."""
+    """A line is moved elsewhere in the file, as a line of its own thread or of another one."""
     if not records:
         return None
     it = records.pop(chance.randrange(len(records)))
@@ -137,7 +137,7 @@ def known_before(records, thread, at):
 
 
 def created_late(chance, records):
-    """A task is created later in its creator, it may be behind its start."""
+    """A task is created later by its creator, perhaps after its start."""
     made = one_of(chance, records, lambda it: it.get('deps') is False)
     at = made and records.index(made)
     later = made and [i for i in those(records, lambda it: it['thread'] == made['thread'] and made['task'] in (
@@ -164,7 +164,7 @@ def run_too_soon(chance, records):
 
 
 def run_elsewhere(chance, records):
-    """An explicit task that runs on a thread does so on another one too, behind a record that says what runs there."""
+    """An explicit task that runs on a thread does so on another one too, after a record that shows what runs there."""
     created = {it['child'] for it in records if it['cb'] == 'task_create'}
     start = one_of(chance, records, lambda it: it.get('next') in created)
     told = start and those(records, lambda it: it['thread'] != start['thread'] and (
@@ -272,8 +272,8 @@ def runs_next(it):
 
 
 def stays(records, task):
-    """The stays of the task on a thread: of each, in file order, the place at which the task runs next, and those at
-    which it stops there behind it."""
+    """The stays of the task on a thread: of each, in file order, the place at which the task runs next, and those
+    at which it then stops there."""
     found = []
     for i, it in enumerate(records):
         if runs_next(it) and it['next'] == task:
@@ -286,7 +286,7 @@ def stays(records, task):
 
 
 def tell(records, stay, turn):
-    """Tells this turn of a task, at its begin and at its ends."""
+    """Records this turn of a task, at its begin and at its ends."""
     begin, ends = stay
     records[begin]['next_turn'] = turn
     for i in ends:
@@ -294,7 +294,7 @@ def tell(records, stay, turn):
 
 
 def some_stays(chance, records, most, test=lambda *stays: True):
-    """The stays of a task, and so many of them in file order of which the test holds; or None."""
+    """The stays of a task, and this many of them in file order of which the test holds; or None."""
     tasks = sorted({it['next'] for it in records if runs_next(it)})
     for task in chance.sample(tasks, len(tasks)):
         found = stays(records, task)
@@ -310,7 +310,7 @@ def share_thread(records):
 
 
 def turn_other(chance, records):
-    """A record tells another turn of the task that stops, or of the one that runs next."""
+    """A record gives another turn of the task that stops, or of the one that runs next."""
     it = one_of(chance, records, runs_next)
     if it:
         name = chance.choice(['prior_turn', 'next_turn'])
@@ -369,8 +369,8 @@ def turns_moved(records, found, least, change):
 
 
 def counted_turns(records):
-    """The records, where turns are counted anew: the begins of a task by the turn that they told, and then in file
-    order. One that told none has the turn that its thread told last."""
+    """The records, where turns are counted anew: the begins of a task by the recorded turn, and then in file order.
+    A begin without a turn has the last recorded turn of its thread."""
     roots = {it['task'] for it in records if it['cb'] == 'implicit_task' and it['endpoint'] == 'begin'}
     begins, last, counts = [], {}, {}
     for i, it in enumerate(records):
@@ -385,7 +385,7 @@ def counted_turns(records):
 
 
 def implied_turns(records):
-    """The records, where turns are those that the order of the file implies, whatever they told."""
+    """The records, where turns are those that the order of the file implies, whatever was recorded."""
     return counted_turns([{name: value for name, value in it.items() if name != 'next_turn'} for it in records])
 
 
@@ -415,7 +415,7 @@ def changed(chance, records, changes=CHANGES):
 
 
 def changed_with_turns(chance, records):
-    """The same of a trace of version 2. A third of the changes are of turns; behind most of the others the turns are
+    """The same of a trace of version 2. A third of the changes are of turns; after most of the others the turns are
     counted anew."""
     if chance.random() < 0.33:
         return changed(chance, records, TURN_CHANGES)

@@ -1,4 +1,4 @@
-/* Prints 2^14 task ids that meet in the kit's hash maps, whose seed is fixed: they lie in one group of slots under
+/* Prints 2^14 task ids that collide in the kit's hash maps, whose seed is fixed: they lie in one group of slots under
    one tag, so that a map would look through all of them. tests/verdicts/colliding_ids.txt is what this prints:
 
        cc -O2 -o colliding_ids colliding_ids.c && ./colliding_ids > verdicts/colliding_ids.txt */

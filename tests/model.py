@@ -1,11 +1,11 @@
 #!/usr/bin/env python3
-"""model.py < FILE: the answer of docs/MODEL.md to a readable trace file, found by the definitions there alone.
-model.py order < FILE: the same, and behind a yes or a no an order of all records, one line `T S` (thread, seq) a record.
+"""model.py < FILE: the answer of docs/MODEL.md to a readable trace file, found only by the definitions there.
+model.py order < FILE: the same, and after a yes or a no an order of all records, one line `T S` (thread, seq) each.
 
-It shares no code with the program and saves no time: what is a relation there is a set here, and what happens before
-what is a transitive closure. The first line of each function names the definition that it restates. What a record
-says stands in its attributes, which have the names of the module Records. `records` are in file order, and i, k, a
-and b are places among them."""
+It shares no code with the program and saves no time: what is a relation there is a set here, and what happens
+before what is a transitive closure. The first line of each function names the definition that it restates. What a
+record says is in its attributes, which have the names of the module Records. `records` are in file order, and i, k,
+a and b are places among them."""
 import json
 import sys
 from collections import namedtuple
@@ -43,7 +43,7 @@ Walk = namedtuple('Walk', 'roots current')
 Yes = namedtuple('Yes', 'order')
 No = namedtuple('No', 'place why task order')
 Malformed = namedtuple('Malformed', 'place number name')
-# All orders are tried of a trace with at most so many records, if no other number is given.
+# All orders are tried of a trace with at most this many records, if no other number is given.
 MOST_TRIED = 8
 
 
@@ -92,7 +92,7 @@ def said_by(line, tells_turns):
 
 
 def said_by_schedule(line, tells_turns):
-    """The module Records, of a task_schedule. Turns are told in version 2, there where a task runs next."""
+    """The module Records, of a task_schedule. Turns are recorded in version 2, where a task runs next."""
     status, prior = line['status'], line['prior']
     says = {'schedule': (status, prior), 'named': {prior}}
     if status in DEMANDS_NEXT:
@@ -183,7 +183,7 @@ def parent_of(records, task):
 
 
 def path_of(records, task):
-    """HasPath: the root that the task stands below, and its path there."""
+    """HasPath: the root of the task, and its path below it."""
     path = []
     while not is_root(records, task):
         parent = parent_of(records, task)
@@ -216,7 +216,7 @@ def in_own_order(records):
 
 
 def own_place(records):
-    """own_place, for all places: where the record at a place stands in that order."""
+    """own_place, for all places: the position of the record at a place in that order."""
     return {i: at for at, i in enumerate(own_places(records))}
 
 
@@ -242,7 +242,7 @@ def innermost(walk):
 
 
 def after_body(walk, record):
-    """after_body: where the thread stands after the record."""
+    """after_body: the state of the thread after the record."""
     if record.begun_root is not None:
         return Walk([record.begun_root, *walk.roots], record.begun_root)
     if record.ended_root is not None:
@@ -252,7 +252,7 @@ def after_body(walk, record):
 
 
 def walks(records):
-    """walk_of, for each place: where the thread of the record there stands before it."""
+    """walk_of, for each place: the walk of the record's thread before it."""
     before, stands = [], {}
     for record in records:
         before.append(stands.get(record.thread, Walk([], None)))
@@ -336,7 +336,7 @@ def moves_of(records, task):
 
 
 def has_moved(records, task):
-    """has_moved: the task runs next on another thread than its home, at a record that tells turns."""
+    """has_moved: the task runs next on another thread than its home, at a record with turns."""
     home = home_of(records, task)
     return any(record.started == task and record.told_turns and record.thread != home for record in records)
 
@@ -364,7 +364,7 @@ def nature_of(records, task):
 
 
 def may(nature, what, status):
-    """may: a root yields, switches and runs next alone; taskwait_complete is for taskwaits, which take no other."""
+    """may: a root only yields, switches and runs next; taskwait_complete is for taskwaits, which allow no other."""
     if nature == 'root':
         return what == 'Started' or status in ('yield', 'switch')
     return (nature == 'taskwait') == (status == 'taskwait_complete')
@@ -415,8 +415,8 @@ def happens_before(records):
 
 
 def greedy(before, may, standing):
-    """IsGreedyAfter: behind the places that stand, repeatedly takes the first other one of `may` for which all that happens
-    before it stands, as long as there is one."""
+    """IsGreedyAfter: after the placed records, repeatedly takes the first other place of `may` before which all
+    that happens is placed, as long as there is one."""
     order = []
     while True:
         there = {*standing, *order}
@@ -433,12 +433,12 @@ def earliest_order(before, i):
 
 
 def is_linearization(before, order):
-    """IsLinearization: the order has each place once, and what happens before a place stands earlier than it."""
+    """IsLinearization: the order has each place once, and what happens before a place comes earlier than it."""
     return sorted(order) == [*places(before)] and all(before[i] <= {*order[:at]} for at, i in enumerate(order))
 
 
 def linearizations(before, standing=()):
-    """IsLinearization: yields each order that is one and begins with those that stand."""
+    """IsLinearization: yields each linearization that begins with the placed records."""
     missing = [i for i in places(before) if i not in standing]
     if not missing:
         yield standing
@@ -560,7 +560,7 @@ def rootless(records):
 
 
 def not_current(records):
-    """IsNotCurrent: it is the first record of its thread that speaks for a task which the thread does not run."""
+    """IsNotCurrent: it is the first record of its thread that does not fit the task that the thread runs."""
     first = {}
     for i, walk in enumerate(walks(records)):
         if misfits(records, walk, records[i]):
@@ -569,14 +569,15 @@ def not_current(records):
 
 
 def moved(records):
-    """IsMoved: an explicit task runs next that ran next earlier in the file on another thread; no turns are told."""
+    """IsMoved: an explicit task runs next that ran next earlier in the file on another thread; no turns are
+    recorded."""
     return {b for b in places(records) if not records[b].told_turns and is_explicit(records, records[b].started)
             for a in places(records)[:b]
             if records[a].started == records[b].started and records[a].thread != records[b].thread}
 
 
 def turn_gap(records):
-    """HasTurnGap: the turns that it tells are not those of its tasks."""
+    """HasTurnGap: the turns that it gives are not those of its tasks."""
     return {i for i in places(records) if gap_rules(records, i)}
 
 
@@ -595,7 +596,7 @@ def gap_rules(records, i):
 
 
 def status_order(records):
-    """HasNoState: of a task's moves it makes the first that the task's state does not allow."""
+    """HasNoState: it makes the first move of a task that the task's state does not allow."""
     found = set()
     for task in said('made', records):
         nature = nature_of(records, task)
@@ -671,12 +672,12 @@ def entry_twice(records):
 
 
 def entries_in(records):
-    """entries_in: how long the ledger gets, the number of finishing records."""
+    """entries_in: the final length of the ledger, the number of finishing records."""
     return len([record for record in records if record.finish])
 
 
 def length_ahead(records):
-    """IsAhead: it names more of the ledger than there ever is, as an entry or as a length."""
+    """IsAhead: it names an entry or a length that the ledger never has."""
     return {i for i in places(records) if known_after(records[i]) > entries_in(records)}
 
 
@@ -709,8 +710,8 @@ IN_OWN_ORDER = {'RegionOrder', 'TeamShort', 'ShareWrong'}
 
 
 def shows(records, name):
-    """Shows: the places at which the trace shows the cause. Three causes are read in own order, all others as they
-    stand."""
+    """Shows: the places at which the trace shows the cause. Three causes are read in own order, all others in file
+    order."""
     _, places_with = ALL_CAUSES[name]
     if name not in IN_OWN_ORDER:
         return places_with(records)
@@ -741,9 +742,9 @@ def verdict(records, most_tried=MOST_TRIED):
 
 
 def check_earliest(records, required, before, left):
-    """Checks that in a trace without a cause the tasks which are unfinished by what a record has seen are those that some
-    order leaves incomplete there. In each order all that happens before i stands before i, and in its earliest order
-    nothing else."""
+    """Checks that in a trace without a cause the tasks which are unfinished by what a record has seen are those
+    that some order leaves incomplete there. In each order all that happens before i comes before i, and in its
+    earliest order nothing else."""
     earliest = [incomplete(records, required, i, before[i]) for i in places(records)]
     assert left == earliest, 'what the records have seen disagrees with the orders in which they are earliest'
 
@@ -791,7 +792,8 @@ def report(records, found):
 
 
 def order_lines(records, found):
-    """What `order` prints behind the report: thread and seq of each record, in the order that goes with a yes or a no."""
+    """What `order` prints after the report: thread and seq of each record, in the order that goes with a yes or a
+    no."""
     order = [] if isinstance(found, Malformed) else found.order
     return [f'{records[i].thread} {records[i].seq}' for i in order]
 

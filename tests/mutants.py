@@ -2,8 +2,8 @@
 five random changes.
 
 A change takes a source of chance, the files, and the bytes of one; it gives other bytes, or None where it does not
-apply. Some change bytes, some the lines behind the header, some the members of one line, and some all records of a file
-that can be read. Most mutants have only changes behind which a file can often be read still (GENTLE)."""
+apply. Some change bytes, some the lines after the header, some the members of one line, and some all records of a
+file that can be read. Most mutants have only changes after which a file is often still readable (GENTLE)."""
 import functools
 import json
 import os
@@ -33,7 +33,7 @@ Mutant = namedtuple('Mutant', 'data changes')
 # What is read of a file: the version of a trace or SCRIPT, and its records.
 Parsed = namedtuple('Parsed', 'version records')
 SCRIPT = 'script'
-# Changes behind which a trace may well have a cause that is told seldom.
+# Changes after which a trace may have a cause that is rarely reported.
 SELDOM = flags_other, entries_exchanged, entry_twice, created_late, run_too_soon
 # Members that are tasks or regions, and those of a trace that a script does not know.
 IDS = (*TASKS, 'parallel')
@@ -134,7 +134,7 @@ def spliced(chance, files, data):
 
 
 def text_changed(chance, files, data):
-    """One line with a change that knows JSON's signs."""
+    """One line with a change that knows JSON's punctuation."""
     lines = data.split(b'\n')
     at = chance.randrange(len(lines))
     lines[at] = mutated_lines.changed(lines[at], chance)
@@ -144,7 +144,7 @@ def text_changed(chance, files, data):
 # Changes of lines
 
 def renumbered(data):
-    """The bytes, where `seq` counts the lines of each thread, if both members stand there in plain form."""
+    """The bytes, where `seq` counts the lines of each thread, if both members are there in plain form."""
     counts = Counter()
 
     def counted(line):
@@ -158,7 +158,7 @@ def renumbered(data):
 
 
 def of_lines(change):
-    """A change of the lines behind the header, as one of the bytes. `seq` is mostly counted anew."""
+    """A change of the lines after the header, as one of the bytes. `seq` is mostly counted anew."""
     @functools.wraps(change)
     def changed_bytes(chance, files, data):
         header, *lines = data.split(b'\n')
@@ -260,7 +260,7 @@ def of_members(change):
 
 
 def number_at_its_end(chance, name):
-    """A number that a member may just have, or one more."""
+    """The greatest number that a member may have, or one more."""
     return str(ENDS.get(name, ID_END) - chance.choice([1, 1, 0]))
 
 
@@ -271,7 +271,7 @@ def member_removed(chance, members):
 
 @of_members
 def member_doubled(chance, members):
-    """A member stands there twice, with another value; the last one counts."""
+    """A member occurs twice, with another value; the last one counts."""
     name, value = chance.choice(members)
     other = chance.choice([value, chance.choice(VALUES), number_at_its_end(chance, json.loads(name))])
     members.insert(chance.choice([0, 0, len(members)]), [name, other])
@@ -501,7 +501,7 @@ def version_other(chance, files, parsed):
 
 @of_records
 def another_beside(chance, files, parsed):
-    """Another trace stands behind it, or between its lines, with threads, tasks, regions and entries of its own."""
+    """Another trace comes after it, or between its lines, with threads, tasks, regions and entries of its own."""
     other = parsed_of(chance.choice(files.traces))
     if parsed.version == SCRIPT or len(parsed.records) + len(other.records) > MOST_RECORDS:
         return None

@@ -1,5 +1,5 @@
 #!/usr/bin/env python3
-"""mutated_lines.py [COUNT]: so many (10,000) lines, each one of lines/as_written.jsonl with one to three random changes.
+"""mutated_lines.py [COUNT]: COUNT (10,000) lines, each one of lines/as_written.jsonl with one to three random changes.
 
 They are for comparing two builds of the reader: `tests/mutated_lines.py | probe lines` must print the same for both.
 The same count gives the same lines each time."""
@@ -33,7 +33,7 @@ def with_a_space(line, source):
 
 
 def with_members_exchanged(line, source):
-    """The line with what stands between two commas moved elsewhere."""
+    """The line with the text between two commas moved elsewhere."""
     parts = line.strip(b'{}').split(b',"')
     source.shuffle(parts)
     return b'{"' + b',"'.join(part.lstrip(b'"') for part in parts) + b'}'

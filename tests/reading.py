@@ -1,6 +1,6 @@
-"""What comes of reading a trace file, by docs/FORMAT.md: the first faulty line and its cause, or the version and the
-records. `script_files` has the model of what a JSON text is, and of the members of each callback. How many records and
-tasks there may be is left out: a file that is over these limits is too long for a mutant."""
+"""The result of reading a trace file, by docs/FORMAT.md: the first faulty line and its cause, or the version and
+the records. `script_files` has the model of what a JSON text is, and of the members of each callback. The limits of
+records and tasks are left out: a file over these limits is too long for a mutant."""
 from model import DEMANDS_NEXT
 from scripts import script
 from upgrade_model import finishes
@@ -18,7 +18,7 @@ SCRIPTS = script('script_files')
 
 
 def version_of(value):
-    """The version that a header tells, or None where the value is no header."""
+    """The version that a header gives, or None where the value is no header."""
     members = value if type(value) is dict else {}
     version = members.get('version')
     is_known = members.get('format') == 'task-credit-audit' and type(version) is int and version in (1, 2)
@@ -51,7 +51,7 @@ def is_within(record, version):
 
 
 def value_of(number, line, is_ended, version):
-    """The value of a line, or a Fault; behind the header, that of a record."""
+    """The value of a line, or a Fault; after the header, that of a record."""
     if len(line) > LONGEST:
         raise Fault(number, '4 LineTooLong')
     if line and not is_ended:

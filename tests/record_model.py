@@ -1,9 +1,9 @@
-"""What `record` must answer to a script, by docs/FORMAT.md, docs/RECORDER.md and docs/MODEL.md.
+"""What `record` must return for a script, by docs/FORMAT.md, docs/RECORDER.md and docs/MODEL.md.
 
-Whether a call is refused depends on its tasks and on its thread's earlier calls alone, and a step waits for
-earlier lines alone. So the calls are made one by one in file order: the first that is refused is the one that
-must be told; and where none is, each record is known but for its `seen`. These lengths may be any of which
-there is a run, and `wrong_lengths` says whether there is one."""
+Whether a call is refused depends only on its tasks and on its thread's earlier calls, and a step waits only for
+earlier lines. So the calls are made one by one in file order: the first that is refused must be reported; and where
+none is, each record is known except for its `seen`. These lengths may be any that a run can give, and
+`wrong_lengths` says whether there is one."""
 import json
 from collections import defaultdict
 
@@ -36,7 +36,7 @@ class Task:
 
 
 class Thread:
-    """Where a thread stands: its open roots, the innermost last; the task that it runs; the one whose list is
+    """The state of a thread: its open roots, the innermost last; the task that it runs; the one whose list is
     awaited; and how many records it has."""
 
     def __init__(self):
@@ -120,7 +120,7 @@ def refusal(thread, step, tasks):
 
 
 def record_of(number, thread, step, tasks, scripts):
-    """The record of a call, without its `seen`. Its thread and its tasks are then as they stand behind it."""
+    """The record of a call, without its `seen`. Its thread and its tasks are then in the state after it."""
     cb = step['cb']
     record = {name: step.get(name) for name in scripts.MEMBERS[cb]}
     record.update(cb=cb, thread=number, seq=thread.count)
@@ -149,7 +149,7 @@ def record_of(number, thread, step, tasks, scripts):
 
 
 def pass_root(thread, record, tasks):
-    """A root begins or ends; its end tells how it began."""
+    """A root begins or ends; its end repeats its begin."""
     if record['endpoint'] == 'begin':
         root = Task(record['task'], record['flags'], None, record['actual'], record['index'])
         tasks[record['task']] = root
@@ -198,8 +198,8 @@ class Line:
 
 
 def answer_of(data, scripts):
-    """What must come back: the exit status, the line on standard error, why a call was refused, and the lines
-    of a script that is run. `scripts` is the module script_files, which says whether a script can be read."""
+    """The expected result: the exit status, the line on standard error, why a call was refused, and the lines of a
+    script that is run. `scripts` is the module script_files, which says whether a script can be read."""
     said, cause = scripts.answer_of(data)
     if cause != 'steps':
         return 3, f'unreadable: {said[-1]}', None, None
@@ -273,9 +273,9 @@ def meeting(at):
 
 
 def edges_of(lines, makers, lengths):
-    """What is before what in a run: lines that are waited for; the entries in their order; and a look behind
-    the entries below its length, and before all others. The last note that comes to a line is met behind all
-    lines from which notes come, and between the line and the one before it."""
+    """What is before what in a run: lines that are waited for; the entries in their order; and a look after the
+    entries below its length, and before all others. The last note that comes to a line is met after all lines from
+    which notes come, and between the line and the one before it."""
     edges = [(other, at) for at, line in enumerate(lines) for other in line.waits]
     own = {}
     for at, line in enumerate(lines):

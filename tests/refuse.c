@@ -1,8 +1,7 @@
-/* A library for LD_PRELOAD that lets calls of the C library fail, one by one, as a machine does that has no more memory or
-   a device that breaks. What it does stands in the environment; each number counts from 1, and K.. means each from the
-   K-th on.
+/* A library for LD_PRELOAD that makes calls of the C library fail, one by one, as on a machine without memory or with a
+   broken device. The environment says what it does; each number counts from 1, and K.. means each from the K-th on.
 
-     REFUSE_ALLOCATION=K or K..   the K-th malloc, calloc, realloc, posix_memalign or aligned_alloc finds no memory
+     REFUSE_ALLOCATION=K or K..   the K-th malloc, calloc, realloc, posix_memalign or aligned_alloc fails
      REFUSE_READ=K or K..         the K-th read of standard input is an input/output error
      REFUSE_WRITE=K or K..        the K-th write to standard output is one
      INTERRUPT_READ=N             the first N reads of standard input are interrupted
@@ -39,7 +38,7 @@ struct range {
     long first, last;
 };
 
-/* How many places a line tells, and how many words of the stack are searched for them. */
+/* How many places a line has, and how many words of the stack are searched for them. */
 enum { MOST_PLACES = 48, MOST_WORDS = 16384 };
 
 static struct range allocations, reads, writes;
@@ -91,13 +90,13 @@ __attribute__((constructor)) static void begin(void) {
     is_counting = 1;
 }
 
-/* The end of this thread's stack: of another thread than the first one, what stands behind its frames. */
+/* The end of this thread's stack: for another thread than the first one, the end of its frames. */
 static uintptr_t *stack_end(void) {
     return (uintptr_t *)(getpid() == gettid() ? __libc_stack_end : (void *)pthread_self());
 }
 
-/* Tells the first refusal. No frame pointers lead from call to call, so each word of the stack counts that points into
-   the program's code: it may also be left from an earlier call. */
+/* Reports the first refusal. No frame pointers lead from call to call, so each word of the stack counts that points
+   into the program's code: it may also be left from an earlier call. */
 static void tell(const char *kind, long number, size_t amount) {
     char line[MOST_PLACES * 20 + 96];
     if (told_to < 0 || atomic_flag_test_and_set(&is_told))

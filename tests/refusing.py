@@ -1,4 +1,4 @@
-"""Runs of a program some of whose calls of the C library fail, by the library that refuse.c makes."""
+"""Runs of a program in which some calls of the C library fail, by the library that refuse.c makes."""
 import bisect
 import contextlib
 import os

@@ -1,8 +1,8 @@
 """Random runs of OpenMP programs as a right tool records them, and the same with one thing changed; for tests/compare.
 
-A run keeps what its tasks and threads do, and takes random steps that a runtime may take. A hasty one takes one step
-too early: a wait ends, or a dependent task starts, before it may. In a run of version 2 untied tasks go on on any
-thread, and the turns of all tasks are counted. The recorder is that of examples/recorder.py."""
+A run keeps what its tasks and threads do, and takes random steps that a runtime may take. A hasty one takes one
+step too early: a wait ends, or a dependent task starts, before it may. In a run of version 2 untied tasks resume on
+any thread, and the turns of all tasks are counted. The recorder is that of examples/recorder.py."""
 import itertools
 import os
 import sys
@@ -20,7 +20,7 @@ MOST_TASKS = 12
 
 
 class Job(Task):
-    """A task of the run: what a tool keeps of it, and how far it is."""
+    """A task of the run: what a tool keeps of it, and its progress."""
 
     def __init__(self, parent=None):
         super().__init__(parent)
@@ -46,7 +46,7 @@ class Job(Task):
         return all(it.is_done or it is ending for it in self.predecessors())
 
     def awaits(self):
-        """The taskwait with dependences at which the task stands, if any."""
+        """The taskwait with dependences at which the task waits, if any."""
         return next((it for it in self.children if it.is_taskwait and not it.is_done), None)
 
 
@@ -126,7 +126,7 @@ class Thread(Recorder):
 
 
 class Run:
-    """A run, and its records in the order of time. `haste` is there while a hasty step may be taken."""
+    """A run, and its records in the order of time. `haste` is set while a hasty step may be taken."""
 
     def __init__(self, chance, threads, version):
         Task.ids = itertools.count(1)
@@ -137,8 +137,8 @@ class Run:
         self.threads = [Thread(it, self) for it in range(threads)]
 
     def step(self, thread):
-        """One random step of a thread, as often as not one that ends something; less often in version 2, where tasks
-        are to be suspended and go on."""
+        """One random step of a thread, as often as not one that ends something; less often in version 2, where
+        tasks are suspended and resume."""
         ends, others = self.ends(thread), self.others(thread)
         steps = ends if ends and self.chance.random() < (0.2 if self.tells_turns else 0.5) else ends + others
         hasty = [(action, is_due) for action, is_due in steps if not is_due]
@@ -161,8 +161,8 @@ class Run:
                 [*pair, lambda thread: thread.run_next('switch', self.jobs[0])])
 
     def moving_beginnings(self):
-        """What a short run of version 2 may begin with besides: a task runs, is suspended and goes on elsewhere. It
-        may create a child or begin a region before, create a child or end behind, and another may depend on it."""
+        """What a short run of version 2 may begin with besides: a task runs, is suspended and resumes elsewhere. It
+        may create a child or begin a region before, create a child or end after it, and another may depend on it."""
         plain, start = partial(self.create, is_untied=True, with_items=False), self.start_first
         pair = [partial(self.create, is_untied=True, with_items=True)] * 2
         moves = [self.suspend_first, self.resume_elsewhere]
@@ -177,7 +177,7 @@ class Run:
         thread.run_next(self.chance.choice(['switch', 'yield']), thread.roots[-1])
 
     def resume_elsewhere(self, thread):
-        """The first task goes on on the second thread, which may have to begin."""
+        """The first task resumes on the second thread, which may have to begin."""
         other = self.threads[1]
         if not other.roots:
             self.begin_initial(other)
@@ -220,8 +220,8 @@ class Run:
         return steps + self.chance.sample(discards, min(1, len(discards)))
 
     def endings_of_body(self, thread):
-        """The ways in which the current task may end, each with a task that runs next; that may be one which waited for
-        this one alone."""
+        """The ways in which the current task may end, each with a task that runs next; that may be one which waited
+        only for this one."""
         job = thread.current
         status = 'detach' if job.event == 'due' else 'complete'
         statuses = [status] if job.event else [status, status, 'cancel']
@@ -259,7 +259,7 @@ class Run:
             or it.stands == 'created' and it.is_ready(ending))]
 
     def movable(self, thread):
-        """The tasks that another thread suspended, and that may go on on this one."""
+        """The tasks that another thread suspended, and that may resume on this one."""
         return [it for it in self.jobs if it.stands == 'suspended' and it.is_untied and it.thread is not thread]
 
     def waiting(self, ending=None):
@@ -360,8 +360,8 @@ def long_run(chance, is_hasty, version=1):
 
 
 def short_run(chance, is_hasty, most, version=1):
-    """A run that ends once it has so many records. It begins with a task for which something soon may wait, and mostly
-    with a second thread, so that its records have several orders."""
+    """A run that ends once it has this many records. It begins with a task for which something soon may wait, and
+    mostly with a second thread, so that its records have several orders."""
     run = Run(chance, chance.randint(2, 3), version)
     first = run.threads[0]
     run.begin_initial(first)

@@ -2,10 +2,11 @@
 """upgrade_model.py < FILE: what `taskaudit upgrade` must print of a trace file that can be read, by docs/FORMAT.md and
 docs/MODEL.md, "Turns".
 
-Turns are counted along the file: a task that runs next begins the turn whose number is how often it ran next on earlier
-lines, and one more for a task that some line of the file begins as an initial or implicit task, whose turn 0 begins
-there. The task that stops ends the turn that it began last on the thread. This tells a task's own order only while the
-task stays on one thread, so a task that runs next on another one is told instead, on the first such line."""
+Turns are counted along the file: a task that runs next begins the turn whose number is how often it ran next on
+earlier lines, and one more for a task that some line of the file begins as an initial or implicit task, whose turn
+0 begins there. The task that stops ends the turn that it began last on the thread. This gives a task's own order
+only while the task stays on one thread, so a task that runs next on another one is reported instead, on the first
+such line."""
 import json
 import sys
 
@@ -82,7 +83,7 @@ def text_of(values):
 
 
 def answer(data):
-    """What comes of a file that can be read: standard output, standard error and the exit status."""
+    """The result for a readable file: standard output, standard error and the exit status."""
     header, *records = [json.loads(line) for line in data.split(b'\n')[:-1]]
     if header['version'] == 2:
         turns = {i: (it['prior_turn'], it['next_turn']) for i, it in enumerate(records) if runs_next(it)}

@@ -1,4 +1,4 @@
-"""What stands behind an answer of `taskaudit check`: the records that it is about, and what was expected of them. The
+"""The reasons of an answer of `taskaudit check`: the records that it is about, and what was expected of them. The
 words are those of docs/MODEL.md; `model` restates its definitions."""
 import json
 import re
@@ -22,17 +22,17 @@ Order = namedtuple('Order', 'sentence first left_out last')
 # A move of a task: its line and thread, and the turn that begins or ends by it, where one does.
 Move = namedtuple('Move', 'number thread turn move')
 
-# So many records of one kind are shown, and so many tasks named in a row.
+# The greatest number of records of one kind shown, and of tasks named in a row.
 MOST_SHOWN = 8
-# A path has at most so many numbers.
+# The greatest number of numbers in a path.
 MOST_NUMBERS = 1024
 # Arrays and objects of a line nest at most so deep.
 DEEPEST = 127
 
 
 class Explanation:
-    """An answer, sentences about it, and the lines of the file that it is about, each with the part that it has; of a no
-    also an order in which the named task is not complete."""
+    """An answer, sentences about it, and the lines of the file that it is about, each with its part; for a no also
+    an order in which the named task is not complete."""
 
     def __init__(self, answer):
         self.answer, self.sentences, self.shown = answer.rstrip(), [], []
@@ -48,7 +48,7 @@ class Explanation:
 
 
 def explain(path, answer, order):
-    """Explains the answer on the file. `order` yields thread and seq of each record in the order that goes with a no."""
+    """Explains the answer on the file. `order` yields thread and seq of each record in the order of a no."""
     told, trace, found = ANSWER.fullmatch(answer), Trace(path), Explanation(answer)
     if told is None or told['other'] is not None:
         found.say('The file was not judged.')
@@ -86,7 +86,7 @@ def few(words, between):
 # A no
 
 def explain_no(found, trace, record):
-    """Who finishes the task, and what the record had seen of it."""
+    """Which record finishes the task, and what the record had seen of it."""
     if record.region:
         explain_wait(found, trace, record)
     else:
@@ -95,7 +95,7 @@ def explain_no(found, trace, record):
 
 
 def explain_wait(found, trace, record):
-    """Which region ends there, and how the task comes under it."""
+    """Which region ends there, and why it covers the task."""
     task, kind, endpoint = record.region
     if endpoint == 'end':
         begin = open_region(trace, record)
@@ -145,7 +145,7 @@ def show_life(found, trace, record):
 
 
 def turn_begun(record):
-    """The turn in which the next task runs on from the record."""
+    """The turn in which the next task resumes at the record."""
     return record.begun_turn[1]
 
 
@@ -160,7 +160,7 @@ def say_when_finished(found, record, parts, starts):
 
 
 def explain_order(found, trace, record, order):
-    """The segment of the order from what the task last did to the named record."""
+    """The segment of the order from the last record of the task to the named record."""
     own = {(it.thread, it.seq) for it in trace.of_task(found.task)}
     named = (record.thread, record.seq)
     segment = orders.segment_up_to(order, named, own)
@@ -196,7 +196,7 @@ def lines_of_order(order, place_of=lambda code: None):
     return [*lines_of(order.first, place_of), *between, *lines_of(order.last, place_of)]
 
 
-# What several causes ask
+# What several causes need
 
 def open_region(trace, record):
     """The begin of the innermost region that the record's task has open before it, in the task's own order, or None."""
@@ -212,7 +212,7 @@ def open_region(trace, record):
 
 
 def walk_before(trace, record):
-    """Where the record's thread stands before it, and the record that began each of its open roots."""
+    """The state of the record's thread before it, and the record that began each of its open roots."""
     walk, begins = Walk([], None), {}
     for it in trace.of_thread(record.thread, last=record.number - 1):
         walk = after_body(walk, it)

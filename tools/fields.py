@@ -12,7 +12,7 @@ def schema():
 
 
 def value_of(text):
-    """The value of a line; a number that is not written in digits alone is no int."""
+    """The value of a line; a number that is not written only in digits is no int."""
     return json.loads(text, parse_int=lambda digits: float(digits) if digits.startswith('-') else int(digits))
 
 
@@ -32,7 +32,7 @@ class Checker:
         return {**found, **part}
 
     def faults(self, part, value, where):
-        """Yields a sentence for each fault of the value, which stands at `where`."""
+        """Yields a sentence for each fault of the value, which is at `where`."""
         part = self.resolved(part)
         kind = part.get('type')
         if kind and (type(value) is not KINDS[kind]):

@@ -1,4 +1,4 @@
-"""What the tools share: where things stand, and how they speak and fail."""
+"""What the tools share: where files are, and how they print and fail."""
 import os
 import shutil
 import subprocess

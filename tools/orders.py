@@ -1,12 +1,12 @@
-"""Orders of records: what has to come before what, a circle of that where there is no order, one order where there is,
-and segments of an order."""
+"""Orders of records: what has to come before what, a cycle of that where there is no order, one order where there
+is, and segments of an order."""
 from collections import defaultdict, deque, namedtuple
 from heapq import heapify, heappop, heappush
 from itertools import groupby
 
-# So much is looked at in the search for a shortest circle; past that the shortest one found until then serves.
+# The limit of the search for a shortest cycle; past it the shortest one found so far is used.
 MOST_LOOKED_AT = 10**6
-# Of a segment of an order so many records are kept at its begin, and so many at its end.
+# The number of records kept at the begin and at the end of a segment of an order.
 MOST_KEPT = 10
 
 
@@ -16,8 +16,8 @@ def needs(record):
 
 
 def stopped(record):
-    """The task that goes on in its next turn where the record begins a later turn than 0, and the turn that was before;
-    or None. The record that suspended the task in that turn comes before this one, unless it is this one."""
+    """The task that resumes in its next turn where the record begins a later turn than 0, and the turn that was
+    before; or None. The record that suspended the task in that turn comes before this one, unless it is this one."""
     if not record.begun_turn or record.begun_turn[1] == 0:
         return None
     task, turn = record.begun_turn
@@ -34,7 +34,7 @@ def reason(one, other):
     return f'in thread {one.thread}'
 
 
-# What a record is in the search for circles: small, since a file may have millions.
+# What a record is in the search for cycles: small, since a file may have millions.
 Event = namedtuple('Event', 'number thread seq created needs begun_turn suspended_turn')
 
 
@@ -57,15 +57,15 @@ class Steps:
                 self.events.append(it)
 
     def awaited(self, record):
-        """The creations and suspensions that the record must come behind."""
+        """The creations and suspensions that the record must come after."""
         started = record.begun_turn[0] if record.begun_turn else None
         created = [self.creations[task] for task in record.needs if task in self.creations
                    and (task != started or self.starts.get(task) == record.number)]
         return created + self.suspensions.get(stopped(record), [])
 
     def stuck(self):
-        """The records left of each thread, in its order, when all that can be put in an order is taken away: each first
-        one awaits a record that is left too."""
+        """The records left of each thread, in its order, without all that can be put in an order: each first one
+        awaits a record that is left too."""
         lanes = defaultdict(deque)
         for it in self.events:
             lanes[it.thread].append(it)
@@ -84,8 +84,8 @@ class Steps:
 
 
 def shortest_circle(trace):
-    """The records of a shortest circle, or of a short one where very many records stand in circles: each creation or
-    suspension, the record that must come behind it, and in the thread of that the next creation or suspension."""
+    """The records of a shortest cycle, or of a short one where very many records are in cycles: each creation or
+    suspension, the record that must come after it, and in the thread of that the next creation or suspension."""
     steps = Steps(trace)
     lanes = steps.stuck()
     left = {it.number for lane in lanes.values() for it in lane}
@@ -109,7 +109,7 @@ def shortest_circle(trace):
 
 
 def circle_of_heads(steps, lanes, left):
-    """A circle by the first stuck record of each thread: it awaits another record, which stands behind the first stuck
+    """A cycle by the first stuck record of each thread: it awaits another record, which comes after the first stuck
     record of its own thread, or is that."""
     seen, head = {}, next(iter(lanes.values()))[0]
     found = []
@@ -122,9 +122,9 @@ def circle_of_heads(steps, lanes, left):
 
 
 def circle_from(pairs, by_thread, start):
-    """The pairs of a shortest circle through this one, or None. A pair leads to those whose first record stands behind its
-    second one in the thread, or is that: the last ones of the thread's list, which are taken from it, so each is met
-    once."""
+    """The pairs of a shortest cycle through this one, or None. A pair leads to those whose first record comes after
+    its second one in the thread, or is that: the last ones of the thread's list, which are taken from it, so each
+    is met once."""
     left = {thread: [*found] for thread, found in by_thread.items()}
     came, queue, made = {start: None}, deque([start]), pairs[start][0]
     while queue:
@@ -146,7 +146,7 @@ def circle_from(pairs, by_thread, start):
 
 
 def in_order(records):
-    """The records in an order that they allow, if there is one. A record that names a ledger length comes behind the
+    """The records in an order that they allow, if there is one. A record that names a ledger length comes after the
     entries below it, so these lengths sort all but those that name the same one."""
     def length(it):
         return it.seen, it.finish is not None
@@ -155,8 +155,8 @@ def in_order(records):
 
 
 def merged(records):
-    """Records that name one length: each behind the creations and suspensions that it needs, and in the order of its
-    thread. Those that stand in a circle come at the end."""
+    """Records that name one length: each after the creations and suspensions that it needs, and in the order of its
+    thread. Those in a cycle come at the end."""
     lanes, waiting, found = defaultdict(deque), defaultdict(list), []
     for it in records:
         lanes[it.thread].append(it)
@@ -193,8 +193,8 @@ class Segment:
 
 
 def segment_up_to(order, named, own):
-    """The segment of the order from the last of a task's own records before the named one to that one; where none of them
-    stands before it, from the named one to the first of them. None where the named one is not in the order."""
+    """The segment of the order from the last of a task's own records before the named one to that one; where none
+    of them comes before it, from the named one to the first of them. None where the named one is not in the order."""
     found, order = Segment(), iter(order)
     for it in order:
         if it in own and it != named:

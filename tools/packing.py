@@ -20,7 +20,7 @@ DESCRIPTION = """Auditor of recorded OpenMP tasks
  answers whether each taskwait, taskgroup and barrier ended, and each task with
  dependences started, only when it was allowed to. What it answers about the
  bytes that it reads is proved by machine."""
-# What the help and the errors send a reader to.
+# The documents named in the help and the errors.
 DOCUMENTS = ('CAUSES.md', 'FORMAT.md', 'RECORDING.md', 'trace.schema.json')
 COMPLETIONS = {'bash': 'usr/share/bash-completion/completions/taskaudit',
                'zsh': 'usr/share/zsh/vendor-completions/_taskaudit',
@@ -60,7 +60,7 @@ def sum_of(data):
 
 
 class Kit:
-    """The kit that built the program: where it stands, and how it links."""
+    """The kit that built the program: its folder, and how it links."""
 
     def __init__(self):
         first_page = called(['rt', 'doc'], 'rt doc').decode().strip()

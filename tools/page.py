@@ -1,6 +1,6 @@
-"""A page that shows a trace around the record of an answer: one lane for each thread, tasks as bars over the order of the
-records, waits below them, dependences as arrows. It needs no network and no script but the one that scrolls to the
-record."""
+"""A page that shows a trace around the record of an answer: one lane for each thread, tasks as bars along the order
+of the records, waits below them, dependences as arrows. It needs no network and no script but the one that scrolls
+to the record."""
 from html import escape
 
 from model import Walk, WAITS_FOR_TASKS, after_body, conflict
@@ -8,7 +8,7 @@ from explanations import lines_of, lines_of_order
 from orders import in_order
 from traces import Trace
 
-# So many records are shown at most, and so many lines of a larger file are read around the named one.
+# The greatest number of records shown, and of lines of a larger file read around the named one.
 MOST_SHOWN, WHOLE = 1500, 20000
 STEP, LANE, LEFT, TOP = 16, 64, 90, 40
 
@@ -88,7 +88,7 @@ class Sheet:
             self.bars([it for it in self.records if it.thread == thread])
 
     def bars(self, own):
-        """What the thread runs, from each record on to the one where that changes."""
+        """What the thread runs, from each record to the one where it changes."""
         walk, begin = Walk([], None), None
         for it in own:
             after = after_body(walk, it)

@@ -78,7 +78,7 @@ class Trace:
         return next((text for at, text in self.lines() if at == number), b'')
 
     def matches(self, pattern):
-        """Yields number and text of each line in which the pattern stands, and of each with a backslash, which may spell
+        """Yields number and text of each line that has the pattern, and of each with a backslash, which may spell
         its names in another way."""
         pattern, data = rf'(?:{pattern})|\\' if self.has_escapes else pattern, self.mapped()
         search = re.compile(pattern.encode()).search
@@ -91,7 +91,7 @@ class Trace:
             number += 1
 
     def records(self, pattern, last=None):
-        """Yields the records of the lines in which the pattern stands, up to the line `last`."""
+        """Yields the records of the lines that have the pattern, up to the line `last`."""
         for number, text in self.matches(pattern):
             if last is not None and number > last:
                 return

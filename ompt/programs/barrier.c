@@ -1,4 +1,4 @@
-/* Barriers of a team of four: each member's tasks are done behind them. */
+/* Barriers of a team of four: each member's tasks are done after them. */
 #include "unfinished.h"
 
 #include <omp.h>

@@ -1,4 +1,4 @@
-/* An untied task that creates tasks, yields and waits: its parts are told one by one. On one thread it cannot move. */
+/* An untied task that creates tasks, yields and waits: each part is reported. On one thread it cannot move. */
 int main(void) {
     int done = 0;
 #pragma omp parallel num_threads(1)
