@@ -1,5 +1,5 @@
 //! Threads that enter entries into one shared ledger.
-ghost use Rattle.std.specs.Prelude.{◌≡◌, ◌<◌, ◌++◌, length, IfOk, All};
+ghost use Rattle.std.specs.Prelude.{◌≡◌, ◌++◌, length, IfOk, All};
 ghost use Rattle.std.specs.Thread.{IsSync};
 
 use credit_ledger::{Entry, Ledger, LedgerFault, Seat, SharedLedger};
@@ -23,26 +23,6 @@ pub struct Plan {
     pub threads: u64,
     pub entries: u32,
     pub looks: u32,
-}
-
-impl Plan {
-    /// Returns the plan of half of the threads, and that of the others. Requires two threads or more.
-    fn halves(self) -> (Plan, Plan)
-        requires { 1 < self.threads }
-        ensures { (result.0.threads < self.threads) × (result.1.threads < self.threads) }
-    {
-        let half = self.threads / 2;
-        let first = Plan {
-            threads: half,
-            ..self
-        };
-        let rest = Plan {
-            threads: self.threads - half,
-            root: self.root.saturating_add(half),
-            ..self
-        };
-        (first, rest)
-    }
 }
 
 /// Returns the entry of a whole task of a root, in which one number is its path.
@@ -132,21 +112,34 @@ pub fn all_turns<R: Threads + Wait + Sync>(
     }
     let mut seat = seat;
     let other = ledger.split(&mut seat);
-    let (first, rest) = plan.halves();
+    let half = plan.threads / 2;
+    let rest = plan.threads - half;
     let (low, high) = join(
         rt,
         || -> Result<Turns, LedgerFault>
             requires { IsSync R.row × (seat.place.table_id ≡ ledger.now.board.shared.table_id) }
-            ensures { IfOk result (λ turns. All
-                (λ seat. seat.place.table_id ≡ ledger.entry.now.board.shared.table_id)
-                turns.seats.items) }
-        { all_turns(rt, alloc, ledger, seat, first) },
+            ensures { IfOk result (λ turns.
+                All (λ seat. seat.place.table_id ≡ ledger.entry.now.board.shared.table_id) turns.seats.items) }
+        {
+            let first = Plan {
+                threads: half,
+                ..plan
+            };
+            all_turns(rt, alloc, ledger, seat, first)
+        },
         || -> Result<Turns, LedgerFault>
             requires { IsSync R.row × (other.place.table_id ≡ ledger.now.board.shared.table_id) }
-            ensures { IfOk result (λ turns. All
-                (λ seat. seat.place.table_id ≡ ledger.entry.now.board.shared.table_id)
-                turns.seats.items) }
-        { all_turns(rt, alloc, ledger, other, rest) },
+            ensures { IfOk result (λ turns.
+                All (λ seat. seat.place.table_id ≡ ledger.entry.now.board.shared.table_id) turns.seats.items) }
+        {
+            let root = plan.root.saturating_add(half);
+            let others = Plan {
+                threads: rest,
+                root,
+                ..plan
+            };
+            all_turns(rt, alloc, ledger, other, others)
+        },
     );
     both(low?, high?)
 }
