@@ -202,6 +202,26 @@ record LastStart (rs : List Record) (thread n task turn : ℕ) : Type 0 where
   begins_turn : at begun_turn rs place ≡ Some (task, turn)
   quiet : (k : ℕ) → place < k → k < n → thread_at rs k ≡ Some thread → at stopped rs k ≡ None
 
+pub explicit_not_root : (rs : List Record) (task : ℕ) → IsFreeOf rs CreatedTwice → IsExplicit rs task
+    → IsRoot rs task → ⊥
+explicit_not_root rs task once explicit root =
+    by (slice_get rs explicit.0) explicit.1
+    (ap (at begun_root rs)
+    (made_once rs task explicit.0 root.0 once (created_at_made task rs explicit.0 explicit.1)
+    (begun_at_made task rs root.0 root.1))
+    ∙ root.1)
+  where
+    by : (o : Option Record) → option_and_then (λ (r : Record). created r.body) o ≡ Some task
+        → option_and_then (λ (r : Record). begun_root r.body) o ≡ Some task → ⊥
+    by None is begins = none-some task is
+    by (Some r) is begins = root_or_created task task r.body begins is
+
+pub turn_here : (rs : List Record) (i task : ℕ) (r : Record) → slice_get rs i ≡ Some r
+    → running r.body ≡ Some task → turn_at rs i ≡ turn_in task (part_of rs r.thread i)
+turn_here rs i task r stands own =
+    ap (λ (o : Option Record). option_map_or (λ (q : Record). turn_of rs q i) o 0) stands
+    ∙ ap (λ (o : Option ℕ). option_map_or (λ t. turn_in t (part_of rs r.thread i)) o 0) own
+
 last_start : (rs : List Record) (thread : ℕ) → All (λ r. IsSound r.body) rs → IsFreeOf rs CreatedTwice
     → (n task : ℕ) → IsExplicit rs task → (walk_of thread (take n rs)).current ≡ Some task
     → LastStart rs thread n task (turn_in task (part_of rs thread n))
@@ -432,23 +452,3 @@ awaited_once rs trace once current gap task a b i explicit starts one other =
     suspended_once rs trace once current gap one.task one.turn a b (subst (IsExplicit rs) (sym mine) explicit)
     one.suspends
     (other.suspends ∙ ap (λ t. Some (t, other.turn)) (sym parts.0) ∙ ap (λ t. Some (one.task, t)) (sym same))
-
-pub explicit_not_root : (rs : List Record) (task : ℕ) → IsFreeOf rs CreatedTwice → IsExplicit rs task
-    → IsRoot rs task → ⊥
-explicit_not_root rs task once explicit root =
-    by (slice_get rs explicit.0) explicit.1
-    (ap (at begun_root rs)
-    (made_once rs task explicit.0 root.0 once (created_at_made task rs explicit.0 explicit.1)
-    (begun_at_made task rs root.0 root.1))
-    ∙ root.1)
-  where
-    by : (o : Option Record) → option_and_then (λ (r : Record). created r.body) o ≡ Some task
-        → option_and_then (λ (r : Record). begun_root r.body) o ≡ Some task → ⊥
-    by None is begins = none-some task is
-    by (Some r) is begins = root_or_created task task r.body begins is
-
-pub turn_here : (rs : List Record) (i task : ℕ) (r : Record) → slice_get rs i ≡ Some r
-    → running r.body ≡ Some task → turn_at rs i ≡ turn_in task (part_of rs r.thread i)
-turn_here rs i task r stands own =
-    ap (λ (o : Option Record). option_map_or (λ (q : Record). turn_of rs q i) o 0) stands
-    ∙ ap (λ (o : Option ℕ). option_map_or (λ t. turn_in t (part_of rs r.thread i)) o 0) own
