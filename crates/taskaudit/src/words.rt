@@ -1,8 +1,8 @@
 //! The command line.
-ghost use Rattle.std.specs.Prelude.{◌≡◌, ◌∷◌, [], true, false, codes, map, IfOk, IfErr, IsErrAnd, Some, is_some, option_and_then};
-ghost use Rattle.clap.specs.Words.{app_of, rule_of, rows_of, found_of, one_of, shape_of, new_app, fault_of, kind_of, takes, subcommand_rows_of, FailsBy, HasKind};
+ghost use Rattle.std.specs.Prelude.{◌≡◌, true, false, codes, map, IfOk, IfErr, Some, is_some, option_and_then};
+ghost use Rattle.clap.specs.Words.{app_of, rule_of, rows_of, found_of, one_of, shape_of, new_app, fault_of, kind_of, takes, subcommand_rows_of, FailsBy};
 ghost use Rattle.clap.specs.declared.builder.command.Command.TheViews.{out-Command};
-ghost use Rattle.taskaudit.specs.Commands.{command_line, check_app, workers_rule, check_by, job_named, AsksFor, AsksVersion, HasFewWorkers};
+ghost use Rattle.taskaudit.specs.Commands.{command_line, check_app, workers_rule, check_by, job_named, AsksFor, HasFewWorkers};
 
 use crate::version::VERSION_TEXT;
 use crate::work::Job;
@@ -157,10 +157,6 @@ pub fn job<'a, S: AsStr>(alloc: Global, words: &'a [S]) -> Result<Job, Error>
     ensures passes { IfErr result (λ e. takes command_line (map S.text words.entry.now) ≡ true
         → kind_of e ≡ ErrorKind.OutOfMemory) }
     ensures kinds { FailsBy (fault_of command_line (map S.text words.entry.now)) result }
-
-    // Words that ask for the version alone are answered so, and not as wrong.
-    ensures version { AsksVersion (map S.text words.entry.now)
-        → IsErrAnd result (HasKind (ErrorKind.DisplayVersion ∷ [])) }
 {
     match command(alloc)?.try_get_matches_from(words) {
         // One subcommand is required, so one was met.

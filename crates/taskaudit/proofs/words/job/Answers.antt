@@ -1,9 +1,8 @@
 -- What clap says of its own command, over `command_line`, which that command is.
 use Rattle.std.proofs.Common.{◌≡◌, ◌∙◌, ap, sym, subst, true, map}
-use Rattle.clap.specs.Words.{App, fault_of, HasKind, Kinds}
+use Rattle.clap.specs.Words.{App, fault_of, HasKind}
 use Rattle.clap.specs.Matches.{has_subcommand}
 use Rattle.taskaudit.proofs.CommandLemmas.{few_asked, is_free_line, meets_one, names_job, asks_for}
-use Rattle.taskaudit.proofs.CommandLemmas.{shows_version}
 use Rattle.taskaudit.proofs.words.job.Goals as goal
 
 pub job_met-requires : goal.job_met-requires
@@ -33,18 +32,3 @@ returns-in-Err-clause-kinds g c =
     subst (λ (a : App). HasKind (fault_of a (map g.S.AsStr.text c.args.words.now)) c.in-Err.error)
     c.in_ok-command.ensures.app
     (c.in-Err.ensures.kinds (is_free_line _ c.in_ok-command.ensures.app))
-
-pub returns-in-Ok-clause-version : goal.returns-in-Ok-clause-version
-returns-in-Ok-clause-version g c asks =
-    let passed =
-    sym (ap (λ (a : App). fault_of a (map g.S.AsStr.text c.args.words.now)) c.in_ok-command.ensures.app)
-    ∙ c.in-Ok.ensures.kinds (is_free_line _ c.in_ok-command.ensures.app) in
-    let never = sym (shows_version _ asks) ∙ passed in
-    cc
-
-pub returns-in-Err-clause-version : goal.returns-in-Err-clause-version
-returns-in-Err-clause-version g c asks =
-    subst (λ (kinds : Kinds). HasKind kinds c.in-Err.error) (shows_version _ asks)
-    (subst (λ (a : App). HasKind (fault_of a (map g.S.AsStr.text c.args.words.now)) c.in-Err.error)
-    c.in_ok-command.ensures.app
-    (c.in-Err.ensures.kinds (is_free_line _ c.in_ok-command.ensures.app)))
