@@ -56,6 +56,27 @@ mutual
       ap (option_and_then (λ e. of_members (members_outline ms) (put k e found))) (of_json-outline d n h.1)
       ∙ of_members-outline ms (put k d found) n h.2
 
+-- plain JSON may nest deeper
+mutual
+  pub IsPlain-deeper : (d : Data) (n : ℕ) → IsPlain d n → IsPlain d (suc n)
+  IsPlain-deeper null n h = tt
+  IsPlain-deeper (boolean b) n h = tt
+  IsPlain-deeper (number m) n h = h
+  IsPlain-deeper (string s) n h = h
+  IsPlain-deeper (array ds) zero h = absurd h
+  IsPlain-deeper (array ds) (suc n) h = ArePlain-deeper ds n h
+  IsPlain-deeper (object ms) zero h = absurd h
+  IsPlain-deeper (object ms) (suc n) h = (h.0, MembersArePlain-deeper ms n h.1)
+
+  ArePlain-deeper : (ds : Items) (n : ℕ) → ArePlain ds n → ArePlain ds (suc n)
+  ArePlain-deeper no_items n h = tt
+  ArePlain-deeper (item d ds) n h = (IsPlain-deeper d n h.0, ArePlain-deeper ds n h.1)
+
+  MembersArePlain-deeper : (ms : Members) (n : ℕ) → MembersArePlain ms n → MembersArePlain ms (suc n)
+  MembersArePlain-deeper no_members n h = tt
+  MembersArePlain-deeper (member k d ms) n h =
+      (h.0, IsPlain-deeper d n h.1, MembersArePlain-deeper ms n h.2)
+
 mutual
   shallow : (d : Data) (n : ℕ) → IsPlain d n → tree.depth (outline d) ≤ n
   shallow null n h = omega arith

@@ -10,7 +10,7 @@ mod MemberLemmas
 mod MeaningLemmas
 mod NumberLemmas
 mod RecordLemmas
-mod StepLemmas
+mod LooseLemmas
 mod FileLemmas
 mod CountLemmas
 mod SoundLemmas
@@ -29,6 +29,6 @@ mod FlagLemmas
 mod TextLemmas
 mod SaysLemmas
 mod LineLemmas
-mod UnorderedLemmas
+mod WrittenLemmas
 mod TaskTurnLemmas
 mod UpgradeLemmas

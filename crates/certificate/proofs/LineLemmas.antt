@@ -40,8 +40,9 @@ use Rattle.ompt_events.specs.Traces.{TraceView, IsTraceOf, IsSound, IsSoundIn, C
 use Rattle.ompt_events.specs.Traces.{BodyInRange, IsInRange}
 use Rattle.certificate.specs.declared.faults.ReadCause.TheVariants.{Header, Limit}
 use Rattle.certificate.specs.Limits.{max_line}
-use Rattle.certificate.specs.RecordLines.{bounded, is_short, claim_fits, turns_fit, body_fits, record_fits}
+use Rattle.certificate.specs.RecordLines.{bounded, is_short, claim_fits, turns_if_fit, body_fits, record_fits}
 use Rattle.certificate.specs.RecordLines.{line_says, header_says, version_in, said_of}
+use Rattle.certificate.specs.RecordLines.{format_name}
 use Rattle.certificate.specs.Texts.{with_member, whole_number, data_of, number_or_null, flag_names, dep_data}
 use Rattle.certificate.specs.Texts.{claim_members, turn_members, body_members, record_members, line_of}
 use Rattle.certificate.specs.Texts.{header_members, header_data, header_line, trace_text}
@@ -126,8 +127,8 @@ plain-thread_kind Worker = refl
 plain-thread_kind Other = refl
 plain-thread_kind Unknown = refl
 
-plain-claim : (share : Option Claim) → IfSome share ClaimInRange
-    → AllByRecursion (IsPlainMember 2) (claim_members share)
+plain-claim : (claim : Option Claim) → IfSome claim ClaimInRange
+    → AllByRecursion (IsPlainMember 2) (claim_members claim)
 plain-claim None h = tt
 plain-claim (Some c) h = (
   (refl, omega (arith, h.0)),
@@ -143,13 +144,13 @@ plain-claim (Some c) h = (
   ),
 )
 
-plain-turns : (turns : Option Turns) (share : Option Claim) → IfSome turns TurnsInRange
-    → AllByRecursion (IsPlainMember 2) (claim_members share)
-    → AllByRecursion (IsPlainMember 2) (turn_members turns ++ claim_members share)
-plain-turns None share h rest = rest
-plain-turns (Some t) share h rest = ((refl, omega (arith, h.0)), ((refl, omega (arith, h.1)), rest))
+plain-turns : (turns : Option Turns) (claim : Option Claim) → IfSome turns TurnsInRange
+    → AllByRecursion (IsPlainMember 2) (claim_members claim)
+    → AllByRecursion (IsPlainMember 2) (turn_members turns ++ claim_members claim)
+plain-turns None claim h rest = rest
+plain-turns (Some t) claim h rest = ((refl, omega (arith, h.0)), ((refl, omega (arith, h.1)), rest))
 
-plain-dep : (d : Dep) → d.var < 2 ^ 64 → IsPlain (dep_data d) 1
+pub plain-dep : (d : Dep) → d.var < 2 ^ 64 → IsPlain (dep_data d) 1
 plain-dep d h =
     IsPlain-object_of ((member.type, string (dep_kind_name d.kind)) ∷ (member.var, whole_number d.var) ∷ []) 0
     ((refl, plain-dep_kind d.kind), ((refl, h), tt))
@@ -181,7 +182,7 @@ plain-body (ImplicitTask endpoint actual index flags parallel task) h = (
 plain-body (TaskCreate deps flags task child) h =
     ((refl, refl), ((refl, tt), ((refl, plain-task_flags flags.0 1), ((refl, h.0), ((refl, h.1), tt)))))
 plain-body (Dependences task list) h = ((refl, refl), ((refl, h.0), ((refl, plain-deps list h.1), tt)))
-plain-body (TaskSchedule status turns prior next share) h = (
+plain-body (TaskSchedule status turns prior next claim) h = (
   (refl, refl),
   (
     (refl, plain-status status),
@@ -189,7 +190,7 @@ plain-body (TaskSchedule status turns prior next share) h = (
       (refl, h.1),
       (
         (refl, plain-number_or_null next 2 h.2),
-        plain-turns turns share h.0 (plain-claim share h.3),
+        plain-turns turns claim h.0 (plain-claim claim h.3),
       ),
     ),
   ),
@@ -204,8 +205,8 @@ plain-body (SyncRegion kind endpoint parallel task) h = (
     ),
   ),
 )
-plain-body (body.Cancel flags task share) h =
-    ((refl, refl), ((refl, plain-cancel_flags flags.0 1), ((refl, h.0), plain-claim share h.1)))
+plain-body (body.Cancel flags task claim) h =
+    ((refl, refl), ((refl, plain-cancel_flags flags.0 1), ((refl, h.0), plain-claim claim h.1)))
 
 pub plain-data_of : (r : Record) → IsInRange r → IsPlain (data_of r) 3
 plain-data_of r h =
@@ -282,15 +283,15 @@ size-number_or_null : (o : Option ℕ) → size (number_or_null o) ≤ 20
 size-number_or_null None = omega arith
 size-number_or_null (Some n) = omega arith
 
-size-claim : (share : Option Claim) → IfSome share (λ c. length c.path ≤ max_depth)
-    → added_size (claim_members share) ≤ 22000
+size-claim : (claim : Option Claim) → IfSome claim (λ c. length c.path ≤ max_depth)
+    → added_size (claim_members claim) ≤ 22000
 size-claim None h = omega arith
 size-claim (Some c) h = omega (arith, items_size-wholes c.path)
 
-size-turns : (turns : Option Turns) (share : Option Claim) → added_size (claim_members share) ≤ 22000
-    → added_size (turn_members turns ++ claim_members share) ≤ 22200
-size-turns None share h = omega arith
-size-turns (Some t) share h = omega arith
+size-turns : (turns : Option Turns) (claim : Option Claim) → added_size (claim_members claim) ≤ 22000
+    → added_size (turn_members turns ++ claim_members claim) ≤ 22200
+size-turns None claim h = omega arith
+size-turns (Some t) claim h = omega arith
 
 size-dep : (d : Dep) → size (dep_data d) ≤ 80
 size-dep d =
@@ -318,17 +319,17 @@ size-body (ImplicitTask endpoint actual index flags parallel task) sound =
     omega (arith, size-endpoint endpoint, size-task_flags flags.0)
 size-body (TaskCreate deps flags task child) sound = omega (arith, size-task_flags flags.0)
 size-body (Dependences task list) sound = omega (arith, size-deps list sound.few_dependences)
-size-body (TaskSchedule status turns prior next share) sound =
+size-body (TaskSchedule status turns prior next claim) sound =
     omega (
       arith,
       size-status status,
       size-number_or_null next,
-      size-turns turns share (size-claim share sound.short_path),
+      size-turns turns claim (size-claim claim sound.short_path),
     )
 size-body (SyncRegion kind endpoint parallel task) sound =
     omega (arith, size-sync_kind kind, size-endpoint endpoint, size-number_or_null parallel)
-size-body (body.Cancel flags task share) sound =
-    omega (arith, size-cancel_flags flags.0, size-claim share sound.short_path)
+size-body (body.Cancel flags task claim) sound =
+    omega (arith, size-cancel_flags flags.0, size-claim claim sound.short_path)
 
 pub size-data_of : (r : Record) → IsSound r.body → size (data_of r) ≤ max_line
 size-data_of r sound = omega (arith, size-object_of (record_members r), size-body r.body sound)
@@ -343,7 +344,7 @@ header_says-header_line : (newest version : ℕ) → 1 ≤ version → version �
     → header_says newest (header_line version) ≡ Ok version
 unfolding with_member
 header_says-header_line newest version low few known =
-    ap (λ (o : Option Data). ok_or (option_and_then (version_in newest) o) Header)
+    ap (λ (o : Option Data). ok_or (option_and_then (version_in format_name newest) o) Header)
     (value_of-compact_text (header_data version) 1 (header_plain version few) (omega arith))
     ∙ rw (le-leb 1 version low, le-leb version newest known) refl
 
@@ -370,14 +371,14 @@ fits-path : (ns : List ℕ) → AllByRecursion (λ n. n < 2 ^ 32) ns → list_al
 fits-path [] each = refl
 fits-path (n ∷ ns) each = rw (short n each.0) (fits-path ns each.1)
 
-fits-claim : (share : Option Claim) → IfSome share ClaimInRange
-    → IfSome share (λ c. length c.path ≤ max_depth) → option_map_or claim_fits share true ≡ true
+fits-claim : (claim : Option Claim) → IfSome claim ClaimInRange
+    → IfSome claim (λ c. length c.path ≤ max_depth) → option_map_or claim_fits claim true ≡ true
 fits-claim None range few = refl
 fits-claim (Some c) range few =
     rw (le-leb (length c.path) max_depth few, fits-path c.path (AllByRecursion-from _ c.path range.2))
     (short c.kept range.0)
 
-fits-turns : (turns : Option Turns) → IfSome turns TurnsInRange → turns_fit turns ≡ true
+fits-turns : (turns : Option Turns) → IfSome turns TurnsInRange → turns_if_fit turns ≡ true
 fits-turns None range = refl
 fits-turns (Some t) range = rw (short t.prior range.0) (short t.next range.1)
 
@@ -390,10 +391,10 @@ fits-body (ImplicitTask endpoint actual index flags parallel task) range sound =
     rw (short actual range.0) (short index range.1)
 fits-body (TaskCreate deps flags task child) range sound = refl
 fits-body (Dependences task list) range sound = le-leb (length list) max_dependences sound.few_dependences
-fits-body (TaskSchedule status turns prior next share) range sound =
-    rw (fits-claim share range.3 sound.short_path) (fits-turns turns range.0)
+fits-body (TaskSchedule status turns prior next claim) range sound =
+    rw (fits-claim claim range.3 sound.short_path) (fits-turns turns range.0)
 fits-body (SyncRegion kind endpoint parallel task) range sound = refl
-fits-body (body.Cancel flags task share) range sound = fits-claim share range.1 sound.short_path
+fits-body (body.Cancel flags task claim) range sound = fits-claim claim range.1 sound.short_path
 
 pub fits : (r : Record) → IsInRange r → IsSound r.body → record_fits r ≡ true
 fits r range sound =

@@ -3,7 +3,7 @@ use Rattle.std.proofs.Common.{◌≡◌, ◌<◌, map, drop, get_or, ℕ, ◌+�
 use Rattle.std.proofs.Common.{◌++◌, length, Option, Some, None, Result, Ok, Err, option_map, option_and_then}
 use Rattle.std.proofs.Common.{cond, arith, refl, sym, ap, ◌∙◌, subst, append-nil, append_assoc, length-append}
 use Rattle.std.proofs.Common.{add-one, drop-cons}
-use Rattle.std.specs.Prelude.{IsSome, IfSome, ok_or, is_some, IsUtf8}
+use Rattle.std.specs.Prelude.{IsSome, IfSome, is_some, IsUtf8}
 use Rattle.std.specs.Str.{bytes_eq}
 use Rattle.std.proofs.Math.ListN.{drop_of_length-le}
 use Rattle.std.proofs.lemmas.Slice.Eq.{bytes_eq-Decides}
@@ -26,7 +26,7 @@ use Rattle.certificate.specs.Members.{whole_of, nullable, each, flag_of, flags_f
 use Rattle.std.specs.Int.RustNames.{bit_or}
 use Rattle.serde_json.proofs.Views.{get_member-put, get_member-put_other}
 use Rattle.certificate.specs.declared.faults.ReadCause.{ReadCause}
-use Rattle.certificate.specs.declared.faults.ReadCause.TheVariants.{NotJson, Field}
+use Rattle.certificate.specs.declared.faults.ReadCause.TheVariants.{NotJson}
 use Rattle.certificate.specs.RecordLines.{value_or_cause}
 use Rattle.certificate.proofs.MemberLemmas.{value_or_cause-json, value_or_cause-none}
 use Rattle.certificate.specs.Meanings.{number_or_odd, meant, items_meant, members_meant, meant_read, meant_at}
@@ -458,10 +458,6 @@ flags-none table all found left rest j ts read is begins said =
 pub flags-all : (table : List (List ℕ × ℕ)) (all : Option ℕ) (found : ℕ) (left : json.Items)
     → all ≡ flags_from table found (items_meant left) → left ≡ json.no_items → all ≡ Some found
 flags-all table all found left read is = read ∙ ap (λ js. flags_from table found (items_meant js)) is
-
-pub ok_or-none : {X : Type 0} (o : Option X) (e : ReadCause) → Err e ≡ ok_or o Field → o ≡ None
-ok_or-none None e h = refl
-ok_or-none {X} (Some x) e h = absurd (let no : ◌≡◌ {A = Result X ReadCause} (Err e) (Ok x) = h in cc)
 
 -- ---- a line
 

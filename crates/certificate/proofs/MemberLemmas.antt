@@ -9,21 +9,21 @@ use Rattle.std.proofs.lemmas.Slice.Eq.{bytes_eq-Decides}
 use Rattle.serde_json.specs.Data.{Data}
 use Rattle.serde_json.specs.Read.{read}
 use Rattle.certificate.specs.declared.faults.ReadCause.TheVariants.{NotJson, Field}
-use Rattle.certificate.specs.Members.{named}
+use Rattle.certificate.specs.Members.{value_named}
 use Rattle.certificate.specs.RecordLines.{value_or_cause}
 
 -- a search by name among all the values
 pub named-is : {X : Type 0} (name_of : X → List ℕ) (xs : List X) (name : List ℕ) (r : Option X)
     → ((x : X) → (r ≡ Some x) ↔ (name_of x ≡ name)) → (AllByRecursion (λ x. name_of x ≢ name) xs → r ≡ None)
-    → r ≡ named name_of xs name
-unfolding named
+    → r ≡ value_named name_of xs name
+unfolding value_named
 named-is name_of [] name r found rest = rest tt
 named-is {X} name_of (x ∷ xs) name r found rest =
     let decides = bytes_eq-Decides (name_of x) name in
     elim (bytes_eq (name_of x) name) as
     (λ b.
     (b ≡ true → name_of x ≡ name) → (name_of x ≡ name → b ≡ true)
-    → r ≡ cond b (Some x) (named name_of xs name)) [
+    → r ≡ cond b (Some x) (value_named name_of xs name)) [
       | true ↦ λ is _. (found x).1 (is refl)
       | false ↦
           λ _ is.
@@ -41,17 +41,23 @@ ok_or-some None x e = cc
 ok_or-some (Some y) x e = cc
 
 -- a name's value, from a look-up that finds each name of the list, where the list has every value
+pub and_then-named : {X : Type 0} (name_of : X → List ℕ) (xs : List X)
+    → ((P : X → Type 0) → AllByRecursion P xs → (x : X) → P x)
+    → (o : Option (List ℕ)) (name : List ℕ) (r : Option X) → o ≡ Some name
+    → ((x : X) → (r ≡ Some x) ↔ (name_of x ≡ name))
+    → r ≡ option_and_then (value_named name_of xs) o
+and_then-named {X} name_of xs every o name r is found =
+    let Other : X → Type 0 = λ x. name_of x ≢ name in
+    rw is
+    (named-is name_of xs name r found (λ others. none_named name_of name r found (every Other others)))
+
 pub ok_or-named : {X : Type 0} (name_of : X → List ℕ) (xs : List X)
     → ((P : X → Type 0) → AllByRecursion P xs → (x : X) → P x)
     → (o : Option (List ℕ)) (name : List ℕ) (r : Option X) → Ok name ≡ ok_or o Field
     → ((x : X) → (r ≡ Some x) ↔ (name_of x ≡ name))
-    → ok_or r Field ≡ ok_or (option_and_then (named name_of xs) o) Field
-ok_or-named {X} name_of xs every o name r is found =
-    let Other : X → Type 0 = λ x. name_of x ≢ name in
-    rw (ok_or-some o name is)
-    (ap (λ q. ok_or q Field)
-    (named-is name_of xs name r found
-    (λ others. none_named name_of name r found (every Other others))))
+    → ok_or r Field ≡ ok_or (option_and_then (value_named name_of xs) o) Field
+ok_or-named name_of xs every o name r is found =
+    ap (λ q. ok_or q Field) (and_then-named name_of xs every o name r (ok_or-some o name is) found)
 
 -- the value of a line
 pub value_or_cause-json : (line : List ℕ) (d : Data) → IsUtf8 line → read line ≡ Some d

@@ -35,10 +35,11 @@ use Rattle.ompt_events.specs.Flags.{has_flag}
 use Rattle.ompt_events.specs.Flags as table
 use Rattle.ompt_events.specs.Traces.{AreNamed, IsSoundIn}
 use Rattle.serde_json.specs.View.{items_of}
-use Rattle.certificate.specs.Members.{named, nullable, not_both, no_id, each, dep_of}
+use Rattle.certificate.specs.Members.{value_named, nullable, not_both, no_id, each, dep_of}
 use Rattle.certificate.specs.RecordLines.{unbounded, body_named, thread_begin, thread_end, parallel_begin}
-use Rattle.certificate.specs.RecordLines.{parallel_end, implicit_task, task_create, dependences, claim, share}
-use Rattle.certificate.specs.RecordLines.{turns, both_turns, tells_turns, task_schedule, sync_region, cancel}
+use Rattle.certificate.specs.RecordLines.{parallel_end, implicit_task, task_create, dependences, claim_in}
+use Rattle.certificate.specs.RecordLines.{claim_if, turns_if, turns_in, tells_turns, task_schedule}
+use Rattle.certificate.specs.RecordLines.{sync_region, cancel}
 use Rattle.certificate.specs.Texts.{with_member, data_of, dep_data, number_or_null}
 use Rattle.certificate.proofs.FlagLemmas.{task_flags-read, cancel_flags-read}
 use Rattle.certificate.proofs.SoundLemmas.{is_some-map, is_some-cond, tells-turns}
@@ -47,11 +48,11 @@ use Rattle.certificate.proofs.TextLemmas.{each-items_of, wholes-items_of}
 -- ---- names are read back
 
 pub named-status : (s : Status)
-    → named status_name
+    → value_named status_name
     (Complete ∷ Yield ∷ Cancel ∷ Detach ∷ EarlyFulfill ∷ LateFulfill ∷ Switch ∷ TaskwaitComplete ∷ [])
     (status_name s)
     ≡ Some s
-unfolding named
+unfolding value_named
 named-status Complete = refl
 named-status Yield = refl
 named-status Cancel = refl
@@ -62,19 +63,19 @@ named-status Switch = refl
 named-status TaskwaitComplete = refl
 
 pub named-endpoint : (e : Endpoint)
-    → named endpoint_name (Begin ∷ End ∷ BeginEnd ∷ []) (endpoint_name e) ≡ Some e
-unfolding named
+    → value_named endpoint_name (Begin ∷ End ∷ BeginEnd ∷ []) (endpoint_name e) ≡ Some e
+unfolding value_named
 named-endpoint Begin = refl
 named-endpoint End = refl
 named-endpoint BeginEnd = refl
 
 pub named-sync_kind : (k : SyncKind)
-    → named sync_kind_name
+    → value_named sync_kind_name
     (Barrier ∷ BarrierImplicit ∷ BarrierExplicit ∷ BarrierImplementation ∷ Taskwait ∷ Taskgroup
     ∷ Reduction ∷ BarrierImplicitWorkshare ∷ BarrierImplicitParallel ∷ BarrierTeams ∷ [])
     (sync_kind_name k)
     ≡ Some k
-unfolding named
+unfolding value_named
 named-sync_kind Barrier = refl
 named-sync_kind BarrierImplicit = refl
 named-sync_kind BarrierExplicit = refl
@@ -87,8 +88,8 @@ named-sync_kind BarrierImplicitParallel = refl
 named-sync_kind BarrierTeams = refl
 
 named-dep_kind : (k : DepKind)
-    → named dep_kind_name (In ∷ Out ∷ Inout ∷ Mutexinoutset ∷ Inoutset ∷ []) (dep_kind_name k) ≡ Some k
-unfolding named
+    → value_named dep_kind_name (In ∷ Out ∷ Inout ∷ Mutexinoutset ∷ Inoutset ∷ []) (dep_kind_name k) ≡ Some k
+unfolding value_named
 named-dep_kind In = refl
 named-dep_kind Out = refl
 named-dep_kind Inout = refl
@@ -96,8 +97,8 @@ named-dep_kind Mutexinoutset = refl
 named-dep_kind Inoutset = refl
 
 named-thread_kind : (k : ThreadKind)
-    → named thread_kind_name (Initial ∷ Worker ∷ Other ∷ Unknown ∷ []) (thread_kind_name k) ≡ Some k
-unfolding named
+    → value_named thread_kind_name (Initial ∷ Worker ∷ Other ∷ Unknown ∷ []) (thread_kind_name k) ≡ Some k
+unfolding value_named
 named-thread_kind Initial = refl
 named-thread_kind Worker = refl
 named-thread_kind Other = refl
@@ -116,7 +117,7 @@ next-read true (Some n) is = refl
 next-read false None is = refl
 next-read false (Some n) is = absurd (let h : true ≡ false = is in cc)
 
-dep-read : (d : Dep) → dep_of (dep_data d) ≡ Some d
+pub dep-read : (d : Dep) → dep_of (dep_data d) ≡ Some d
 unfolding with_member
 dep-read d = rw (named-dep_kind d.kind) refl
 
@@ -175,7 +176,7 @@ says-finishing : (version thread seq seen : ℕ) (status : Status) (told : Optio
     → is_some next ≡ demands_next status → tells_turns version status ≡ is_some told
     → is_some (status_part status) ≡ true
     → Says version (of_body thread seq seen (TaskSchedule status told prior next (Some c)))
-unfolding with_member unbounded body_named task_schedule share claim turns both_turns
+unfolding with_member unbounded body_named task_schedule claim_if claim_in turns_if turns_in
 says-finishing version thread seq seen status None prior next c follows tells finishes =
     rw (
       named-status status,
@@ -202,7 +203,7 @@ says-switching : (version thread seq seen : ℕ) (status : Status) (told : Optio
     → is_some next ≡ demands_next status → tells_turns version status ≡ is_some told
     → is_some (status_part status) ≡ false
     → Says version (of_body thread seq seen (TaskSchedule status told prior next None))
-unfolding with_member unbounded body_named task_schedule share turns both_turns
+unfolding with_member unbounded body_named task_schedule claim_if turns_if turns_in
 says-switching version thread seq seen status None prior next follows tells goes_on =
     rw (
       named-status status,
@@ -232,14 +233,14 @@ says-sync_region version thread seq seen kind endpoint parallel task =
 says-discard : (version thread seq seen : ℕ) (flags : CancelFlags) (task : ℕ) (c : Claim)
     → AreNamed table.cancel_flags flags.0 → has_flag flags.0 table.discarded_task ≡ true
     → Says version (of_body thread seq seen (body.Cancel flags task (Some c)))
-unfolding with_member unbounded body_named cancel share claim
+unfolding with_member unbounded body_named cancel claim_if claim_in
 says-discard version thread seq seen flags task c named discards =
     rw (cancel_flags-read flags.0 named, discards, wholes-items_of c.path) refl
 
 says-cancel : (version thread seq seen : ℕ) (flags : CancelFlags) (task : ℕ)
     → AreNamed table.cancel_flags flags.0 → has_flag flags.0 table.discarded_task ≡ false
     → Says version (of_body thread seq seen (body.Cancel flags task None))
-unfolding with_member unbounded body_named cancel share
+unfolding with_member unbounded body_named cancel claim_if
 says-cancel version thread seq seen flags task named others =
     rw (cancel_flags-read flags.0 named, others) refl
 

@@ -16,7 +16,8 @@ use Rattle.certificate.specs.declared.step_lines.SaidStep.{SaidStep}
 use Rattle.certificate.specs.RecordLines.{value_of}
 use Rattle.certificate.specs.StepLines.{step, step_said}
 use Rattle.certificate.specs.Reading.{Grows, IsTextCause, HasTextCauses}
-use Rattle.certificate.specs.ScriptFiles.{scripts, script_adds, script_header_says, script_version, no_steps}
+use Rattle.certificate.specs.ScriptFiles.{scripts, script_adds, script_header_says, script_name, no_steps}
+use Rattle.certificate.specs.RecordLines.{version_in}
 use Rattle.certificate.specs.ScriptFiles.{with_step, is_within, cause_of}
 use Rattle.certificate.proofs.RecordLemmas.{ok_not_err}
 use Rattle.certificate.proofs.TraceLemmas.{same_cause}
@@ -53,7 +54,7 @@ scripts-text_causes n before line e h =
     (λ b.
     Err e ≡ cond b (no_steps (script_header_says line)) (with_step before (step_said (value_of line)))
     → IsTextCause e) [
-      | true ↦ λ first. no_steps-cause (option_and_then script_version (value_of line)) e first
+      | true ↦ λ first. no_steps-cause (option_and_then (version_in script_name 1) (value_of line)) e first
       | false ↦ λ later. with_step-cause before (value_of line) e later
     ] h
 

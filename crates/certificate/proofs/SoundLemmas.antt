@@ -33,13 +33,14 @@ use Rattle.std.specs.Str.{bytes_eq}
 use Rattle.certificate.specs.declared.faults.ReadCause.TheVariants.{NotJson}
 use Rattle.certificate.proofs.RecordLemmas.{bounded-ok, ok_not_err, both-first}
 use Rattle.certificate.specs.Members.{whole, text, whole_or_null, list, truth, status, endpoint, not_both}
-use Rattle.certificate.specs.Members.{begin_or_end, sync_kind, thread_kind, flag_of, flags_from, task_flags}
-use Rattle.certificate.specs.Members.{cancel_flags, no_id, next, deps}
+use Rattle.certificate.specs.Members.{begin_or_end, sync_kind, thread_kind, flag_of, flags_from}
+use Rattle.certificate.specs.Members.{task_flags_in}
+use Rattle.certificate.specs.Members.{cancel_flags_in, no_id, next, deps}
 use Rattle.certificate.specs.RecordLines.{thread_begin, thread_end, parallel_begin, parallel_end}
-use Rattle.certificate.specs.RecordLines.{implicit_task, task_create, dependences, sync_region, turns}
-use Rattle.certificate.specs.RecordLines.{both_turns, tells_turns, task_schedule, cancel, share, claim}
+use Rattle.certificate.specs.RecordLines.{implicit_task, task_create, dependences, sync_region, turns_if}
+use Rattle.certificate.specs.RecordLines.{turns_in, tells_turns, task_schedule, cancel, claim_if, claim_in}
 use Rattle.certificate.specs.RecordLines.{body_named, body, unbounded, value_of, said_of, line_says}
-use Rattle.certificate.specs.RecordLines.{share_fits, body_fits, record_fits}
+use Rattle.certificate.specs.RecordLines.{claim_if_fits, body_fits, record_fits}
 use Rattle.certificate.specs.MemberNames as member
 use Rattle.certificate.specs.CallbackNames as callback
 
@@ -99,7 +100,7 @@ task_rows : RowsNamed table.task_flags
 unfolding known_from RowsNamed
 task_rows = (refl, (refl, (refl, (refl, (refl, (refl, (refl, (refl, (refl, (refl, tt))))))))))
 
-task_flags-named : (name : List ℕ) (d : Data) (bits : ℕ) → task_flags name d ≡ Some bits
+task_flags-named : (name : List ℕ) (d : Data) (bits : ℕ) → task_flags_in name d ≡ Some bits
     → AreNamed table.task_flags bits
 unfolding known_from
 task_flags-named name d bits e =
@@ -110,7 +111,7 @@ cancel_rows : RowsNamed table.cancel_flags
 unfolding known_from RowsNamed
 cancel_rows = (refl, (refl, (refl, (refl, (refl, (refl, (refl, tt)))))))
 
-cancel_flags-named : (name : List ℕ) (d : Data) (bits : ℕ) → cancel_flags name d ≡ Some bits
+cancel_flags-named : (name : List ℕ) (d : Data) (bits : ℕ) → cancel_flags_in name d ≡ Some bits
     → AreNamed table.cancel_flags bits
 unfolding known_from
 cancel_flags-named name d bits e =
@@ -154,20 +155,20 @@ next-sound st name d nx e =
     by_demand false (Some n) h = absurd (let f : None ≡ Some nx = h in cc)
 
 -- there is a claim exactly where a task is finished
-share-sound : (finishes : Bool) (d : Data) (sh : Option Claim) → share finishes d ≡ Some sh
+claim_if-sound : (finishes : Bool) (d : Data) (sh : Option Claim) → claim_if finishes d ≡ Some sh
     → is_some sh ≡ finishes
-unfolding share
-share-sound true d sh e = by_claim (claim d) e
+unfolding claim_if
+claim_if-sound true d sh e = by_claim (claim_in d) e
   where
     by_claim : (o : Option Claim) → option_map Some o ≡ Some sh → is_some sh ≡ true
     by_claim None h = absurd (let f : None ≡ Some sh = h in cc)
     by_claim (Some c) h = let is : Some c ≡ sh = cc in ap is_some (sym is)
-share-sound false d sh e = let is : None ≡ sh = cc in ap is_some (sym is)
+claim_if-sound false d sh e = let is : None ≡ sh = cc in ap is_some (sym is)
 
-share-short : (sh : Option Claim) → share_fits sh ≡ true
+claim_if-short : (sh : Option Claim) → claim_if_fits sh ≡ true
     → IfSome sh (λ (c : Claim). length c.path ≤ max_depth)
-share-short None fits = tt
-share-short (Some c) fits = leb-true _ _ (both-first _ _ (both-first _ _ fits))
+claim_if-short None fits = tt
+claim_if-short (Some c) fits = leb-true _ _ (both-first _ _ (both-first _ _ fits))
 
 pub is_some-map : {A B : Type 0} (f : A → B) (o : Option A) → is_some (option_map f o) ≡ is_some o
 is_some-map f None = refl
@@ -179,27 +180,28 @@ is_some-cond false a = refl
 
 -- a task is discarded, or the cancellation says nothing of it
 discard-sound : (bits task : ℕ) (sh : Option Claim) → is_some sh ≡ has_flag bits table.discarded_task
-    → AreNamed table.cancel_flags bits → share_fits sh ≡ true → IsSound (Cancel (record { 0 = bits }) task sh)
+    → AreNamed table.cancel_flags bits → claim_if_fits sh ≡ true
+    → IsSound (Cancel (record { 0 = bits }) task sh)
 discard-sound bits task sh claimed named fits = record {
   named_flags = tt;
   named_cancellation = named;
   begins_or_ends = tt;
   claimed = claimed ∙ sym (is_some-cond (has_flag bits table.discarded_task) (task, Whole));
-  short_path = share-short sh fits;
+  short_path = claim_if-short sh fits;
   few_dependences = tt;
   next = tt;
 }
 
 -- turns are told exactly where they are read
-turns-sound : (tells : Bool) (d : Data) (told : Option Turns) → turns tells d ≡ Some told
+turns_if-sound : (tells : Bool) (d : Data) (told : Option Turns) → turns_if tells d ≡ Some told
     → is_some told ≡ tells
-unfolding turns
-turns-sound true d told e = by_turns (both_turns d) e
+unfolding turns_if
+turns_if-sound true d told e = by_turns (turns_in d) e
   where
     by_turns : (o : Option Turns) → option_map Some o ≡ Some told → is_some told ≡ true
     by_turns None h = absurd (let f : None ≡ Some told = h in cc)
     by_turns (Some t) h = let is : Some t ≡ told = cc in ap is_some (sym is)
-turns-sound false d told e = let is : None ≡ told = cc in ap is_some (sym is)
+turns_if-sound false d told e = let is : None ≡ told = cc in ap is_some (sym is)
 
 -- a record tells turns exactly where they are read
 pub tells-turns : (version : ℕ) (st : Status) (told : Option Turns) (nx : Option ℕ)
@@ -298,7 +300,7 @@ implicit_task-sound version d b e =
     λ at one e1.
     option_and_then_some _ (whole member.actual d) b e1 (
     λ actual _ e2. option_and_then_some _ (whole member.index d) b e2 (λ index _ e3.
-    option_and_then_some _ (task_flags member.flags d) b e3 (
+    option_and_then_some _ (task_flags_in member.flags d) b e3 (
     λ bits named e4.
     option_and_then_some _ (whole member.parallel d) b e4 (
     λ parallel _ e5. option_and_then_some _ (whole member.task d) b e5 (λ task _ same.
@@ -328,7 +330,7 @@ task_create-sound : (version : ℕ) (d : Data) (b : Body) → task_create d ≡ 
 unfolding task_create
 task_create-sound version d b e =
     option_and_then_some _ (truth member.deps d) b e (
-    λ deps _ e1. option_and_then_some _ (task_flags member.flags d) b e1 (λ bits named e2.
+    λ deps _ e1. option_and_then_some _ (task_flags_in member.flags d) b e1 (λ bits named e2.
     option_and_then_some _ (whole member.task d) b e2 (
     λ task _ e3. option_and_then_some _ (whole member.child d) b e3 (λ child _ same.
     let is : TaskCreate deps (record { 0 = bits }) task child ≡ b = cc in
@@ -373,25 +375,25 @@ task_schedule-sound version d b e fits =
     option_and_then_some _ (status member.status d) b e (
     λ st _ e1. option_and_then_some _ (whole member.prior d) b e1 (λ prior _ e2.
     option_and_then_some _ (next st member.next d) b e2 (
-    λ nx follows e3. option_and_then_some _ (turns (tells_turns version st) d) b e3 (λ told tells e4.
-    option_and_then_some _ (share (is_some (status_part st)) d) b e4 (λ sh shared same.
+    λ nx follows e3. option_and_then_some _ (turns_if (tells_turns version st) d) b e3 (λ told tells e4.
+    option_and_then_some _ (claim_if (is_some (status_part st)) d) b e4 (λ sh shared same.
     let is : TaskSchedule st told prior nx sh ≡ b = cc in
     let claimed =
-    share-sound (is_some (status_part st)) d sh shared
+    claim_if-sound (is_some (status_part st)) d sh shared
     ∙ sym (is_some-map (λ (part : Part). (prior, part)) (status_part st)) in
     let demanded = next-sound st member.next d nx follows in
-    let bounds : share_fits sh ≡ true = both-first _ _ (ap body_fits is ∙ fits) in
+    let bounds : claim_if_fits sh ≡ true = both-first _ _ (ap body_fits is ∙ fits) in
     subst (λ (x : Body). IsSoundIn version x) is (
       record {
         named_flags = tt;
         named_cancellation = tt;
         begins_or_ends = tt;
         claimed = claimed;
-        short_path = share-short sh bounds;
+        short_path = claim_if-short sh bounds;
         few_dependences = tt;
         next = demanded;
       },
-      turns-sound (tells_turns version st) d told tells ∙ ap (λ b. (version == 2) && b) (sym demanded),
+      turns_if-sound (tells_turns version st) d told tells ∙ ap (λ b. (version == 2) && b) (sym demanded),
     ))))))
 
 sync_region-sound : (version : ℕ) (d : Data) (b : Body) → sync_region d ≡ Some b → IsSoundIn version b
@@ -419,15 +421,15 @@ cancel-sound : (version : ℕ) (d : Data) (b : Body) → cancel d ≡ Some b →
     → IsSoundIn version b
 unfolding cancel
 cancel-sound version d b e fits =
-    option_and_then_some _ (cancel_flags member.flags d) b e (
+    option_and_then_some _ (cancel_flags_in member.flags d) b e (
     λ bits named e1.
     option_and_then_some _ (whole member.task d) b e1 (
     λ task _ e2.
-    option_and_then_some _ (share (has_flag bits table.discarded_task) d) b e2 (
+    option_and_then_some _ (claim_if (has_flag bits table.discarded_task) d) b e2 (
     λ sh shared same.
     let is : Cancel (record { 0 = bits }) task sh ≡ b = cc in
     subst (λ (x : Body). IsSoundIn version x) is (
-      discard-sound bits task sh (share-sound (has_flag bits table.discarded_task) d sh shared)
+      discard-sound bits task sh (claim_if-sound (has_flag bits table.discarded_task) d sh shared)
           (cancel_flags-named member.flags d bits named) (ap body_fits is ∙ fits),
       none_told version,
     ))))

@@ -132,9 +132,9 @@ digits-few n d len few short low =
     pow-le-pow_right {n = 10} (omega arith) {i = len} {j = 18} (omega arith) in
     (rw tens more, omega (arith, more, most))
 
-pub Takes-digits : (rest : List ℕ) (len n : ℕ) → take len rest ≡ decimal n
-    → Takes rest (decimal n) (take (length rest - len) (drop len rest))
-Takes-digits rest len n taken =
+pub Takes-taken : (rest text : List ℕ) (len : ℕ) → take len rest ≡ text
+    → Takes rest text (take (length rest - len) (drop len rest))
+Takes-taken rest text len taken =
     rw take_rest (record {
       is = sym (take-append-drop len rest) ∙ ap (λ front. front ++ drop len rest) taken;
     })

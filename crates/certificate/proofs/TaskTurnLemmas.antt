@@ -316,8 +316,8 @@ told_begins table r = by r.body refl
         (turns_told table r.thread body) r).body
         ≡ option_map (λ next. (next, (noted table next).next)) (started body)
         ⊎ (started body ≡ None)
-    by (TaskSchedule status before prior (Some next) share) is = inl refl
-    by (TaskSchedule status before prior None share) is = inr refl
+    by (TaskSchedule status before prior (Some next) claim) is = inl refl
+    by (TaskSchedule status before prior None claim) is = inr refl
     by _ is = inr refl
 
 told_not : (table : BTreeMap ℕ TaskTurns) (r : Record) → started r.body ≡ None
@@ -335,8 +335,8 @@ told_not table r still = by r.body refl still
         })
         (turns_told table r.thread body) r).body
         ≡ None
-    by (TaskSchedule status before prior (Some next) share) is nothing = absurd (none-some next (sym nothing))
-    by (TaskSchedule status before prior None share) is nothing = ap begun_turn is
+    by (TaskSchedule status before prior (Some next) claim) is nothing = absurd (none-some next (sym nothing))
+    by (TaskSchedule status before prior None claim) is nothing = ap begun_turn is
     by _ is nothing = ap begun_turn is
 
 end_at : (t : TaskTurns) (thread home : ℕ) → t.home ≡ Some home

@@ -13,6 +13,7 @@ use Rattle.certificate.specs.declared.faults.ReadCause.TheVariants.{NotJson, Fie
 use Rattle.certificate.specs.declared.faults.ReadCause.TheVariants.{TurnsSpent}
 use Rattle.certificate.specs.declared.faults.ReadFault.{ReadFault}
 use Rattle.certificate.specs.RecordLines.{line_says, header_says, said_of, value_of, names_format}
+use Rattle.certificate.specs.RecordLines.{format_name}
 use Rattle.certificate.specs.RecordLines.{version_read, version_in, bounded, record_fits, unbounded}
 use Rattle.certificate.specs.Files.{file_says_to, text_adds, traces, with_record, with_header, has_room}
 use Rattle.std.proofs.lemmas.Bool.{ltb-true, leb-true, cases_lt}
@@ -65,7 +66,9 @@ traces-text_causes newest n before line e h =
     ≡ cond b (with_header (header_says newest line))
     (with_record before (line_says before.version line))
     → IsTextCause e) [
-      | true ↦ λ first. with_header-cause (option_and_then (version_in newest) (value_of line)) e first
+      | true ↦
+          λ first.
+          with_header-cause (option_and_then (version_in format_name newest) (value_of line)) e first
       | false ↦ λ later. with_record-cause before.version before (value_of line) e later
     ] h
 
@@ -176,9 +179,10 @@ header_says-range newest line version says = by_value (value_of line) says
           | false ↦ λ _ other. absurd (none-some version other)
         ] refl e
 
-    by_object : (d : Data) → version_in newest d ≡ Some version → (1 ≤ version) × (version ≤ newest)
+    by_object : (d : Data) → version_in format_name newest d ≡ Some version
+        → (1 ≤ version) × (version ≤ newest)
     by_object d e =
-        elim (names_format d) as
+        elim (names_format format_name d) as
         (λ b.
         cond b (option_and_then (version_read newest) (whole member.version d)) None ≡ Some version
         → (1 ≤ version) × (version ≤ newest)) [
@@ -193,10 +197,11 @@ header_says-range newest line version says = by_value (value_of line) says
     by_version None e = absurd (ok_not_err version Header e)
     by_version (Some n) e = cc
 
-    by_value : (o : Option Data) → Ok version ≡ ok_or (option_and_then (version_in newest) o) Header
+    by_value : (o : Option Data)
+        → Ok version ≡ ok_or (option_and_then (version_in format_name newest) o) Header
         → (1 ≤ version) × (version ≤ newest)
     by_value None e = absurd (ok_not_err version Header e)
-    by_value (Some d) e = by_object d (by_version (version_in newest d) e)
+    by_value (Some d) e = by_object d (by_version (version_in format_name newest d) e)
 
 pub header_says-known : (newest : ℕ) (line : List ℕ) (version : ℕ) → newest ≤ 2
     → Ok version ≡ header_says newest line → (version ≡ 1) ⊎ (version ≡ 2)

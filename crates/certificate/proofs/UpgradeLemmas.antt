@@ -92,17 +92,17 @@ told_is old now n r table within are ended sound = by r.body refl
   where
     by : (body : Body) → r.body ≡ body
         → told_by table r ≡ with_body r (body_upgraded old (slice_set now n (told_by table r)) n body)
-    by (TaskSchedule status before prior (Some next) share) is =
+    by (TaskSchedule status before prior (Some next) claim) is =
         let turns : Turns = record {
           prior = turn_ended (noted table prior) r.thread;
           next = (noted table next).next;
         } in
-        let said : told_by table r ≡ with_body r (TaskSchedule status (Some turns) prior (Some next) share) =
+        let said : told_by table r ≡ with_body r (TaskSchedule status (Some turns) prior (Some next) claim) =
         ap
         (λ (b : Body).
         option_map_or (λ (t : Turns). with_body r (telling t b)) (turns_told table r.thread b) r)
         is in
-        let was : IsSound (TaskSchedule status before prior (Some next) share) = subst IsSound is sound in
+        let was : IsSound (TaskSchedule status before prior (Some next) claim) = subst IsSound is sound in
         let runs : running (told_by table r).body ≡ Some prior =
         ap (λ (q : Record). running q.body) said
         ∙ ap (λ b. if b then Some prior else None) (sym was.next) in
@@ -115,16 +115,16 @@ told_is old now n r table within are ended sound = by r.body refl
         (λ t.
         with_body r
         (TaskSchedule status (Some (record { prior = t; next = (noted table next).next })) prior
-        (Some next) share))
+        (Some next) claim))
         (sym ends)
         ∙ ap
         (λ t.
         with_body r
         (TaskSchedule status
         (Some (record { prior = turn_at (slice_set now n (told_by table r)) n; next = t }))
-        prior (Some next) share))
+        prior (Some next) claim))
         (are.next next)
-    by (TaskSchedule status before prior None share) is =
+    by (TaskSchedule status before prior None claim) is =
         ap
         (λ (b : Body).
         option_map_or (λ (t : Turns). with_body r (telling t b)) (turns_told table r.thread b) r) is
@@ -157,8 +157,8 @@ told_in_range old n r table short few are in_range = by r.body refl
         → IsInRange
         (option_map_or (λ (turns : Turns). with_body r (telling turns body))
         (turns_told table r.thread body) r)
-    by (TaskSchedule status before prior (Some next) share) is =
-        let range : BodyInRange (TaskSchedule status before prior (Some next) share) =
+    by (TaskSchedule status before prior (Some next) claim) is =
+        let range : BodyInRange (TaskSchedule status before prior (Some next) claim) =
         subst BodyInRange is in_range.body in
         let ended = ended_few (noted table prior) r.thread in
         let last = small prior in
@@ -168,7 +168,7 @@ told_in_range old n r table short few are in_range = by r.body refl
           seen = in_range.seen;
           body = ((omega (arith, ended, last), small next), range.1, range.2, range.3);
         }
-    by (TaskSchedule status before prior None share) is = in_range
+    by (TaskSchedule status before prior None claim) is = in_range
     by _ is = in_range
 
 -- ---- the records so far
@@ -252,7 +252,7 @@ record IsKeptAs (body new : Body) : Type 0 where
 
 kept_as : (told : ℕ → Turns) (body : Body) → IsSound body → HasItsTurns 1 body
     → IsKeptAs body (option_map_or (λ task. telling (told task) body) (started body) body)
-kept_as told (TaskSchedule status before prior (Some next) share) sound turns = record {
+kept_as told (TaskSchedule status before prior (Some next) claim) sound turns = record {
   sound = record {
     named_flags = sound.named_flags;
     named_cancellation = sound.named_cancellation;
@@ -265,7 +265,7 @@ kept_as told (TaskSchedule status before prior (Some next) share) sound turns = 
   turns = refl;
   makes = refl;
 }
-kept_as told (TaskSchedule status before prior None share) sound turns = record {
+kept_as told (TaskSchedule status before prior None claim) sound turns = record {
   sound = sound;
   turns = turns;
   makes = refl;

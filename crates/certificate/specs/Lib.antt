@@ -11,10 +11,11 @@ pub mod CallbackNames
 pub mod Members
 pub mod Meanings
 pub mod RecordLines
+pub mod LooseBodies
 pub mod StepLines
 pub mod Texts
 pub mod PlainData
-pub mod Unordered
+pub mod Objects
 pub mod Formats
 pub mod Files
 pub mod Keeping

@@ -1,5 +1,7 @@
 -- What each member of a line's object is called.
 use Rattle.std.specs.Prelude.{List, ℕ, codes}
+use Rattle.certificate.specs.declared.members.Member.{Member}
+use Rattle.certificate.specs.declared.members.Member.TheVariants as variant
 
 abbrev pub format : List ℕ
 format = codes "format"
@@ -84,3 +86,33 @@ path = codes "path"
 
 abbrev pub after : List ℕ
 after = codes "after"
+
+abbrev pub member_name : Member → List ℕ
+member_name variant.Actual = actual
+member_name variant.After = after
+member_name variant.Callback = cb
+member_name variant.Child = child
+member_name variant.Deps = deps
+member_name variant.Endpoint = endpoint
+member_name variant.Flags = flags
+member_name variant.Format = format
+member_name variant.Index = index
+member_name variant.Kept = kept
+member_name variant.Kind = kind
+member_name variant.List = list
+member_name variant.Next = next
+member_name variant.NextTurn = next_turn
+member_name variant.Parallel = parallel
+member_name variant.Path = path
+member_name variant.Prior = prior
+member_name variant.PriorTurn = prior_turn
+member_name variant.Requested = requested
+member_name variant.Root = root
+member_name variant.Seen = seen
+member_name variant.Seq = seq
+member_name variant.Status = status
+member_name variant.Task = task
+member_name variant.Thread = thread
+member_name variant.Type = type
+member_name variant.Var = var
+member_name variant.Version = version

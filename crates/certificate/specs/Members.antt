@@ -68,16 +68,16 @@ each says (item d ds) = option_and_then (λ x. option_map (λ xs. x ∷ xs) (eac
 -- ---- names
 
 -- the first of these values that has the name
-unfoldable pub named : {X : Type 0} → (X → List ℕ) → List X → List ℕ → Option X
-named name_of [] name = None
-named name_of (x ∷ xs) name = if bytes_eq (name_of x) name then Some x else named name_of xs name
+unfoldable pub value_named : {X : Type 0} → (X → List ℕ) → List X → List ℕ → Option X
+value_named name_of [] name = None
+value_named name_of (x ∷ xs) name = if bytes_eq (name_of x) name then Some x else value_named name_of xs name
 
 abbrev pub status : List ℕ → Data → Option Status
-status name d = text name d >>= named status_name (Complete ∷ Yield ∷ Cancel ∷ Detach ∷ EarlyFulfill
+status name d = text name d >>= value_named status_name (Complete ∷ Yield ∷ Cancel ∷ Detach ∷ EarlyFulfill
     ∷ LateFulfill ∷ Switch ∷ TaskwaitComplete ∷ [])
 
 abbrev pub endpoint : List ℕ → Data → Option Endpoint
-endpoint name d = text name d >>= named endpoint_name (Begin ∷ End ∷ BeginEnd ∷ [])
+endpoint name d = text name d >>= value_named endpoint_name (Begin ∷ End ∷ BeginEnd ∷ [])
 
 -- an endpoint where a begin and an end cannot coincide
 abbrev pub not_both : Endpoint → Option Endpoint
@@ -89,15 +89,18 @@ abbrev pub begin_or_end : List ℕ → Data → Option Endpoint
 begin_or_end name d = endpoint name d >>= not_both
 
 abbrev pub sync_kind : List ℕ → Data → Option SyncKind
-sync_kind name d = text name d >>= named sync_kind_name
+sync_kind name d = text name d >>= value_named sync_kind_name
     (Barrier ∷ BarrierImplicit ∷ BarrierExplicit ∷ BarrierImplementation ∷ Taskwait ∷ Taskgroup
     ∷ Reduction ∷ BarrierImplicitWorkshare ∷ BarrierImplicitParallel ∷ BarrierTeams ∷ [])
 
+abbrev pub dep_kind_named : List ℕ → Option DepKind
+dep_kind_named = value_named dep_kind_name (In ∷ Out ∷ Inout ∷ Mutexinoutset ∷ Inoutset ∷ [])
+
 abbrev pub dep_kind : List ℕ → Data → Option DepKind
-dep_kind name d = text name d >>= named dep_kind_name (In ∷ Out ∷ Inout ∷ Mutexinoutset ∷ Inoutset ∷ [])
+dep_kind name d = text name d >>= dep_kind_named
 
 abbrev pub thread_kind : List ℕ → Data → Option ThreadKind
-thread_kind name d = text name d >>= named thread_kind_name (Initial ∷ Worker ∷ Other ∷ Unknown ∷ [])
+thread_kind name d = text name d >>= value_named thread_kind_name (Initial ∷ Worker ∷ Other ∷ Unknown ∷ [])
 
 -- ---- flags
 
@@ -114,11 +117,11 @@ flags_from flags found (item d ds) =
 abbrev pub flags : List (List ℕ × ℕ) → List ℕ → Data → Option ℕ
 flags table name d = list name d >>= flags_from table 0
 
-abbrev pub task_flags : List ℕ → Data → Option ℕ
-task_flags = flags table.task_flags
+abbrev pub task_flags_in : List ℕ → Data → Option ℕ
+task_flags_in = flags table.task_flags
 
-abbrev pub cancel_flags : List ℕ → Data → Option ℕ
-cancel_flags = flags table.cancel_flags
+abbrev pub cancel_flags_in : List ℕ → Data → Option ℕ
+cancel_flags_in = flags table.cancel_flags
 
 -- ---- what stands under a condition
 

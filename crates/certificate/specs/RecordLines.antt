@@ -23,8 +23,8 @@ use Rattle.ompt_events.specs.Names.{status_part, demands_next}
 use Rattle.certificate.specs.declared.faults.ReadCause.{ReadCause}
 use Rattle.certificate.specs.declared.faults.ReadCause.TheVariants.{Memory, Header, NotJson, Field, Limit}
 use Rattle.certificate.specs.Members.{◌>>=◌, whole, whole_or_null, text, truth, status, endpoint}
-use Rattle.certificate.specs.Members.{begin_or_end, sync_kind, thread_kind, task_flags, cancel_flags, next}
-use Rattle.certificate.specs.Members.{path, deps}
+use Rattle.certificate.specs.Members.{begin_or_end, sync_kind, thread_kind, task_flags_in, next}
+use Rattle.certificate.specs.Members.{cancel_flags_in, path, deps}
 use Rattle.certificate.specs.MemberNames as member
 use Rattle.certificate.specs.CallbackNames as callback
 
@@ -65,7 +65,7 @@ implicit_task d = do
   endpoint ← begin_or_end member.endpoint d
   actual ← whole member.actual d
   index ← whole member.index d
-  bits ← task_flags member.flags d
+  bits ← task_flags_in member.flags d
   parallel ← whole member.parallel d
   task ← whole member.task d
   Some (ImplicitTask endpoint actual index (record { 0 = bits }) parallel task)
@@ -74,7 +74,7 @@ implicit_task d = do
 unfoldable pub task_create : Data → Option Body
 task_create d = do
   deps ← truth member.deps d
-  bits ← task_flags member.flags d
+  bits ← task_flags_in member.flags d
   task ← whole member.task d
   child ← whole member.child d
   Some (TaskCreate deps (record { 0 = bits }) task child)
@@ -87,35 +87,31 @@ dependences d = do
   Some (Dependences task list)
 
 -- what a finishing record claims of its task's place
-unfoldable pub claim : Data → Option Claim
-claim d = do
+unfoldable pub claim_in : Data → Option Claim
+claim_in d = do
   kept ← whole member.kept d
   root ← whole member.root d
   path ← path member.path d
   Some (record { kept = kept; root = root; path = path })
 
 -- a claim is read where the record finishes a task, and nowhere else
-unfoldable pub share : Bool → Data → Option (Option Claim)
-share finishes d = if finishes then option_map Some (claim d) else Some None
+unfoldable pub claim_if : Bool → Data → Option (Option Claim)
+claim_if finishes d = if finishes then option_map Some (claim_in d) else Some None
 
 -- which turn of the prior task ends, and which one of the next task begins
-unfoldable pub both_turns : Data → Option Turns
-both_turns d = do
+unfoldable pub turns_in : Data → Option Turns
+turns_in d = do
   prior ← whole member.prior_turn d
   next ← whole member.next_turn d
   Some (record { prior = prior; next = next })
-
--- turns, by their numbers
-abbrev pub as_turns : ℕ × ℕ → Turns
-as_turns numbers = record { prior = numbers.0; next = numbers.1 }
 
 -- version 2 tells turns where a task runs next
 abbrev pub tells_turns : ℕ → Status → Bool
 tells_turns version status = (version == 2) && demands_next status
 
 -- turns are read where the record tells them, and nowhere else
-unfoldable pub turns : Bool → Data → Option (Option Turns)
-turns told d = if told then option_map Some (both_turns d) else Some None
+unfoldable pub turns_if : Bool → Data → Option (Option Turns)
+turns_if told d = if told then option_map Some (turns_in d) else Some None
 
 -- a task stops running or is fulfilled
 unfoldable pub task_schedule : ℕ → Data → Option Body
@@ -123,9 +119,9 @@ task_schedule version d = do
   status ← status member.status d
   prior ← whole member.prior d
   next ← next status member.next d
-  turns ← turns (tells_turns version status) d
-  share ← share (is_some (status_part status)) d
-  Some (TaskSchedule status turns prior next share)
+  turns ← turns_if (tells_turns version status) d
+  claim ← claim_if (is_some (status_part status)) d
+  Some (TaskSchedule status turns prior next claim)
 
 -- a region of synchronisation begins or ends
 unfoldable pub sync_region : Data → Option Body
@@ -139,10 +135,10 @@ sync_region d = do
 -- a task cancels a region or sees it cancelled, or is itself discarded
 unfoldable pub cancel : Data → Option Body
 cancel d = do
-  bits ← cancel_flags member.flags d
+  bits ← cancel_flags_in member.flags d
   task ← whole member.task d
-  share ← share (has_flag bits flag.discarded_task) d
-  Some (Cancel (record { 0 = bits }) task share)
+  claim ← claim_if (has_flag bits flag.discarded_task) d
+  Some (Cancel (record { 0 = bits }) task claim)
 
 -- the members of a callback, by its name
 unfoldable pub body_named : ℕ → List ℕ → Data → Option Body
@@ -185,18 +181,18 @@ deps_fit deps = nat_le (length deps) max_dependences
 abbrev pub claim_fits : Claim → Bool
 claim_fits c = path_fits c.path && is_short c.kept
 
-abbrev pub share_fits : Option Claim → Bool
-share_fits share = option_map_or claim_fits share true
+abbrev pub claim_if_fits : Option Claim → Bool
+claim_if_fits claim = option_map_or claim_fits claim true
 
-abbrev pub turns_fit : Option Turns → Bool
-turns_fit turns = option_map_or (λ (t : Turns). is_short t.prior && is_short t.next) turns true
+abbrev pub turns_if_fit : Option Turns → Bool
+turns_if_fit turns = option_map_or (λ (t : Turns). is_short t.prior && is_short t.next) turns true
 
 abbrev pub body_fits : Body → Bool
 body_fits (ParallelBegin requested task parallel) = is_short requested
 body_fits (ImplicitTask endpoint actual index bits parallel task) = is_short actual && is_short index
 body_fits (Dependences task list) = deps_fit list
-body_fits (TaskSchedule status turns prior next share) = share_fits share && turns_fit turns
-body_fits (Cancel bits task share) = share_fits share
+body_fits (TaskSchedule status turns prior next claim) = claim_if_fits claim && turns_if_fit turns
+body_fits (Cancel bits task claim) = claim_if_fits claim
 body_fits _ = true
 
 abbrev pub record_fits : Record → Bool
@@ -223,20 +219,25 @@ value_or_cause line = ok_or (value_of line) NotJson
 abbrev pub format_name : List ℕ
 format_name = codes "task-credit-audit"
 
-abbrev pub names_format : Data → Bool
-names_format d = option_map_or (λ s. bytes_eq s format_name) (text member.format d) false
+abbrev pub names_format : List ℕ → Data → Bool
+names_format format d = option_map_or (λ s. bytes_eq s format) (text member.format d) false
 
 -- the version, if it is one from 1 to the newest that is read
 abbrev pub version_read : ℕ → ℕ → Option ℕ
 version_read newest version = if nat_le 1 version && nat_le version newest then Some version else None
 
--- the version that the object of a header names, if it is one that is read
-abbrev pub version_in : ℕ → Data → Option ℕ
-version_in newest d = if names_format d then whole member.version d >>= version_read newest else None
+-- the version that the object of a header of this format names, if it is one that is read
+abbrev pub version_in : List ℕ → ℕ → Data → Option ℕ
+version_in format newest d =
+    if names_format format d then whole member.version d >>= version_read newest else None
 
--- the version of a file with this header
+-- the version of a file of this format with this header
+abbrev pub version_of : List ℕ → ℕ → List ℕ → Result ℕ ReadCause
+version_of format newest line = ok_or (option_and_then (version_in format newest) (value_of line)) Header
+
+-- the same of a trace file
 abbrev pub header_says : ℕ → List ℕ → Result ℕ ReadCause
-header_says newest line = ok_or (option_and_then (version_in newest) (value_of line)) Header
+header_says newest line = version_of format_name newest line
 
 -- the answer is what the definition says, or that no memory was found
 abbrev pub IsSaid : {X : Type 0} → Result X ReadCause → Result X ReadCause → Type 0

@@ -1,20 +1,15 @@
 -- What a script file stands for.
-use Rattle.std.specs.Prelude.{ℕ, ◌==◌, ◌&&◌, ◌||◌, Bool, false, not, List, [], ◌∷◌, ◌++◌, Option, None}
-use Rattle.std.specs.Prelude.{Result, Ok, Err, ok_or, option_and_then, codes, nat_lt, if◌then◌else◌}
-use Rattle.std.specs.Option.{option_map_or}
-use Rattle.std.specs.Str.{bytes_eq}
-use Rattle.serde_json.specs.Data.{Data}
+use Rattle.std.specs.Prelude.{ℕ, ◌==◌, ◌&&◌, ◌||◌, Bool, not, List, [], ◌∷◌, ◌++◌}
+use Rattle.std.specs.Prelude.{Result, Ok, Err, codes, nat_lt, if◌then◌else◌}
 use Rattle.ompt_events.specs.Limits.{max_threads}
 use Rattle.scripts.specs.declared.script.Step.{Step}
 use Rattle.scripts.specs.declared.fault.ScriptFault.{ScriptFault}
 use Rattle.scripts.specs.declared.fault.ScriptFault.TheVariants as fault
 use Rattle.scripts.specs.Scripts.{may_follow, is_full, step_of}
 use Rattle.certificate.specs.declared.faults.ReadCause.{ReadCause}
-use Rattle.certificate.specs.declared.faults.ReadCause.TheVariants.{Memory, Header, Field, Limit}
+use Rattle.certificate.specs.declared.faults.ReadCause.TheVariants.{Memory, Field, Limit}
 use Rattle.certificate.specs.declared.step_lines.SaidStep.{SaidStep}
-use Rattle.certificate.specs.Members.{◌>>=◌, whole, text}
-use Rattle.certificate.specs.MemberNames as member
-use Rattle.certificate.specs.RecordLines.{value_of, version_read}
+use Rattle.certificate.specs.RecordLines.{value_of, version_of}
 use Rattle.certificate.specs.StepLines.{step_said}
 use Rattle.certificate.specs.Formats.{Format}
 
@@ -22,15 +17,9 @@ use Rattle.certificate.specs.Formats.{Format}
 abbrev pub script_name : List ℕ
 script_name = codes "task-credit-script"
 
-abbrev pub names_script : Data → Bool
-names_script d = option_map_or (λ s. bytes_eq s script_name) (text member.format d) false
-
--- the version that the object of a header names: there is one alone
-abbrev pub script_version : Data → Option ℕ
-script_version d = if names_script d then whole member.version d >>= version_read 1 else None
-
+-- there is one version alone
 abbrev pub script_header_says : List ℕ → Result ℕ ReadCause
-script_header_says line = ok_or (option_and_then script_version (value_of line)) Header
+script_header_says line = version_of script_name 1 line
 
 -- the script without a step that a header begins
 abbrev pub no_steps : Result ℕ ReadCause → Result (List Step) ReadCause

@@ -5,36 +5,15 @@ use Rattle.std.specs.Str.{bytes_eq}
 use Rattle.serde_json.specs.Data.{Data}
 use Rattle.serde_json.specs.Find.{get, as_array}
 use Rattle.ompt_events.specs.declared.records.Body.{Body}
-use Rattle.ompt_events.specs.declared.records.Body.TheVariants.{ParallelBegin, ImplicitTask, TaskSchedule}
-use Rattle.ompt_events.specs.declared.records.Body.TheVariants.{Cancel}
+use Rattle.ompt_events.specs.declared.records.Body.TheVariants.{TaskSchedule, Cancel}
 use Rattle.certificate.specs.declared.faults.ReadCause.{ReadCause}
 use Rattle.certificate.specs.declared.faults.ReadCause.TheVariants.{Field, NotJson}
-use Rattle.certificate.specs.declared.step_lines.Loose.{Loose}
 use Rattle.certificate.specs.declared.step_lines.SaidStep.{SaidStep}
-use Rattle.certificate.specs.Members.{◌>>=◌, each, whole, whole_of, text, status, cancel_flags, next}
+use Rattle.certificate.specs.Members.{◌>>=◌, each, whole, whole_of, text, status, cancel_flags_in, next}
 use Rattle.certificate.specs.MemberNames as member
 use Rattle.certificate.specs.CallbackNames as callback
 use Rattle.certificate.specs.RecordLines as recorded
-use Rattle.certificate.specs.RecordLines.{is_short, body_fits}
-
--- a number, or where it has more than 32 bits the greatest one that has not
-abbrev pub cut_short : ℕ → ℕ
-cut_short n = if is_short n then n else 4294967295
-
--- the callback, its numbers cut short where they are past their limits
-abbrev pub cut_body : Body → Body
-cut_body (ParallelBegin requested task parallel) = ParallelBegin (cut_short requested) task parallel
-cut_body (ImplicitTask endpoint actual index given parallel task) =
-    ImplicitTask endpoint (cut_short actual) (cut_short index) given parallel task
-cut_body body = body
-
--- the same, and whether nothing is past its limit
-abbrev pub loose : Body → Loose
-loose body = record { body = cut_body body; fits = body_fits body }
-
--- what is read of a callback
-abbrev pub read_loosely : Option Body → Result Loose ReadCause
-read_loosely body = ok_or (option_map loose body) Field
+use Rattle.certificate.specs.LooseBodies.{loose_body}
 
 -- a task stops running or is fulfilled: a script tells no turns, and claims nothing
 unfoldable pub task_schedule : Data → Option Body
@@ -47,7 +26,7 @@ task_schedule d = do
 -- a task cancels a region or sees it cancelled, or is itself discarded
 unfoldable pub cancel : Data → Option Body
 cancel d = do
-  bits ← cancel_flags member.flags d
+  bits ← cancel_flags_in member.flags d
   task ← whole member.task d
   Some (Cancel (record { 0 = bits }) task None)
 
@@ -88,7 +67,7 @@ step d = do
   thread ← whole member.thread d
   after ← after d
   body ← body d
-  Some (record { thread = thread; after = after; loose = loose body })
+  Some (record { thread = thread; after = after; loose = loose_body body })
 
 -- what a line of a script stands for
 abbrev pub step_said : Option Data → Result SaidStep ReadCause

@@ -78,7 +78,7 @@ with_turn task r t = if is_task task (started r.body) then one_later t else t
 
 -- the turns that are noted of the tasks of a record, if one runs next
 abbrev pub turns_told : BTreeMap ℕ TaskTurns → ℕ → Body → Option Turns
-turns_told table thread (TaskSchedule status before prior (Some next) share) =
+turns_told table thread (TaskSchedule status before prior (Some next) claim) =
     Some (record { prior = turn_ended (noted table prior) thread; next = (noted table next).next })
 turns_told table thread body = None
 

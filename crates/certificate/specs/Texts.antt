@@ -19,6 +19,7 @@ use Rattle.ompt_events.specs.Flags.{task_flags, cancel_flags, has_flag}
 use Rattle.ompt_events.specs.Traces.{TraceView}
 use Rattle.ompt_events.specs.Names.{status_name, endpoint_name, sync_kind_name, dep_kind_name}
 use Rattle.ompt_events.specs.Names.{thread_kind_name}
+use Rattle.certificate.specs.declared.texts.Head.{Head}
 use Rattle.certificate.specs.MemberNames as member
 use Rattle.certificate.specs.CallbackNames as callback
 use Rattle.certificate.specs.RecordLines.{format_name}
@@ -89,17 +90,17 @@ body_members (TaskCreate deps flags task child) =
     (member.child, whole_number child) ∷ []
 body_members (Dependences task list) = (member.cb, string callback.dependences) ∷
     (member.task, whole_number task) ∷ (member.list, array (items_of (map dep_data list))) ∷ []
-body_members (TaskSchedule status turns prior next share) =
+body_members (TaskSchedule status turns prior next claim) =
     (member.cb, string callback.task_schedule) ∷ (member.status, string (status_name status)) ∷
     (member.prior, whole_number prior) ∷ (member.next, number_or_null next)
-    ∷ turn_members turns ++ claim_members share
+    ∷ turn_members turns ++ claim_members claim
 body_members (SyncRegion kind endpoint parallel task) =
     (member.cb, string callback.sync_region) ∷ (member.kind, string (sync_kind_name kind)) ∷
     (member.endpoint, string (endpoint_name endpoint))
     ∷ (member.parallel, number_or_null parallel) ∷ (member.task, whole_number task) ∷ []
-body_members (Cancel flags task share) =
+body_members (Cancel flags task claim) =
     (member.cb, string callback.cancel) ∷ (member.flags, names (flag_names cancel_flags flags.0)) ∷
-    (member.task, whole_number task) ∷ claim_members share
+    (member.task, whole_number task) ∷ claim_members claim
 
 -- what its thread says of it, and then the callback
 abbrev pub record_members : Record → List (List ℕ × Data)
@@ -146,9 +147,9 @@ status_tail seen seq status thread =
     ++ ((codes ",\"status\":" ++ quoted (status_name status))
     ++ ((codes ",\"thread\":" ++ decimal thread) ++ codes "}")))
 
--- what a thread records with the numbers of this record
-abbrev pub with_body : Record → Body → Record
-with_body r body = record { thread = r.thread; seq = r.seq; seen = r.seen; body = body }
+-- what a thread records: its numbers, and the callback
+abbrev pub record_of : Head → Body → Record
+record_of head body = record { thread = head.thread; seq = head.seq; seen = head.seen; body = body }
 
 -- the bytes were put behind
 pub record Puts (old new bytes : List ℕ) : Type 0 where

@@ -1,11 +1,8 @@
-//! The members of the header and of each callback's record (OpenMP 5.2, 19.5.2), by the names that they
-//! have in a file.
+//! The members of each callback's record (OpenMP 5.2, 19.5.2), and the lines as they are written.
 
 // Each table stands once. Its call names the shape that its rows are put into, and what the shape is given.
 //
-// A row of members is `field: kind "member"`, in the order of the Rust fields. A list whose items are kept
-// stands last: it is brought within its limit as it is looked up, and the other members must have been
-// looked up before. The kinds:
+// A row of members is `field: kind Member`, in the order of the Rust fields. The kinds:
 // - `id`: a whole number of 64 bits; `short`: one of at most 32 bits; `thread`: one of at most 8 bits.
 // - `id_or_null`: an id, or none. `next`: the same, where the status says which.
 // - `truth`: true or false.
@@ -15,28 +12,22 @@
 // - `claim`: the members of `Claim`, where the record finishes a task.
 // - `turns`: the members of `Turns`, in a file of version 2 where a task runs next.
 
-// The header: the member that names the format, and the one with its version.
-macro_rules! header {
-    ($shape:ident $given:tt) => {
-        $shape! { $given text "format" = "task-credit-audit", id "version" }
-    };
-}
-
-// The callbacks: the function that is named like it, its name, and its variant of `Body`.
+// The callbacks: the function that is named like it, and its name. Those behind the semicolon have members that
+// the lines of scripts have not.
 macro_rules! each_callback {
     ($shape:ident $given:tt) => {
         $shape! {
-            $given "cb":
-            thread_begin = "thread_begin" ThreadBegin,
-            thread_end = "thread_end" ThreadEnd,
-            parallel_begin = "parallel_begin" ParallelBegin,
-            parallel_end = "parallel_end" ParallelEnd,
-            implicit_task = "implicit_task" ImplicitTask,
-            task_create = "task_create" TaskCreate,
-            dependences = "dependences" Dependences,
-            task_schedule = "task_schedule" TaskSchedule,
-            sync_region = "sync_region" SyncRegion,
-            cancel = "cancel" Cancel
+            $given Callback:
+            thread_begin = "thread_begin",
+            thread_end = "thread_end",
+            parallel_begin = "parallel_begin",
+            parallel_end = "parallel_end",
+            implicit_task = "implicit_task",
+            task_create = "task_create",
+            dependences = "dependences",
+            sync_region = "sync_region";
+            task_schedule = "task_schedule",
+            cancel = "cancel"
         }
     };
 }
@@ -44,51 +35,51 @@ macro_rules! each_callback {
 // The members of a variant of `Body`, and of the parts of a record.
 macro_rules! members {
     (Record $shape:ident $given:tt) => {
-        $shape! { $given Record { thread: thread "thread", seq: short "seq", seen: short "seen" } }
+        $shape! { $given Record { thread: thread Thread, seq: short Seq, seen: short Seen } }
     };
     (ThreadBegin $shape:ident $given:tt) => {
-        $shape! { $given ThreadBegin { kind: thread_kind "kind" } }
+        $shape! { $given ThreadBegin { kind: thread_kind Kind } }
     };
     (ThreadEnd $shape:ident $given:tt) => {
         $shape! { $given ThreadEnd {} }
     };
     (ParallelBegin $shape:ident $given:tt) => {
         $shape! {
-            $given ParallelBegin { requested: short "requested", task: id "task", parallel: id "parallel" }
+            $given ParallelBegin { requested: short Requested, task: id Task, parallel: id Parallel }
         }
     };
     (ParallelEnd $shape:ident $given:tt) => {
-        $shape! { $given ParallelEnd { task: id "task", parallel: id "parallel" } }
+        $shape! { $given ParallelEnd { task: id Task, parallel: id Parallel } }
     };
     (ImplicitTask $shape:ident $given:tt) => {
         $shape! {
             $given ImplicitTask {
-                endpoint: begin_or_end "endpoint",
-                actual: short "actual",
-                index: short "index",
-                flags: flags "flags",
-                parallel: id "parallel",
-                task: id "task"
+                endpoint: begin_or_end Endpoint,
+                actual: short Actual,
+                index: short Index,
+                flags: flags Flags,
+                parallel: id Parallel,
+                task: id Task
             }
         }
     };
     (TaskCreate $shape:ident $given:tt) => {
         $shape! {
-            $given TaskCreate { deps: truth "deps", flags: flags "flags", task: id "task", child: id "child" }
+            $given TaskCreate { deps: truth Deps, flags: flags Flags, task: id Task, child: id Child }
         }
     };
     (Dependences $shape:ident $given:tt) => {
-        $shape! { $given Dependences { task: id "task", list: deps "list" } }
+        $shape! { $given Dependences { task: id Task, list: deps List } }
     };
     (Dep $shape:ident $given:tt) => {
-        $shape! { $given Dep { kind: dep_kind "type", var: id "var" } }
+        $shape! { $given Dep { kind: dep_kind Type, var: id Var } }
     };
     (TaskSchedule $shape:ident $given:tt) => {
         $shape! {
             $given TaskSchedule {
-                status: status "status",
-                prior: id "prior",
-                next: next "next",
+                status: status Status,
+                prior: id Prior,
+                next: next Next,
                 turns: turns,
                 claim: claim
             }
@@ -97,21 +88,21 @@ macro_rules! members {
     (SyncRegion $shape:ident $given:tt) => {
         $shape! {
             $given SyncRegion {
-                kind: sync_kind "kind",
-                endpoint: endpoint "endpoint",
-                parallel: id_or_null "parallel",
-                task: id "task"
+                kind: sync_kind Kind,
+                endpoint: endpoint Endpoint,
+                parallel: id_or_null Parallel,
+                task: id Task
             }
         }
     };
     (Cancel $shape:ident $given:tt) => {
-        $shape! { $given Cancel { flags: flags "flags", task: id "task", claim: claim } }
+        $shape! { $given Cancel { flags: flags Flags, task: id Task, claim: claim } }
     };
     (Turns $shape:ident $given:tt) => {
-        $shape! { $given Turns { prior: short "prior_turn", next: short "next_turn" } }
+        $shape! { $given Turns { prior: short PriorTurn, next: short NextTurn } }
     };
     (Claim $shape:ident $given:tt) => {
-        $shape! { $given Claim { kept: short "kept", root: id "root", path: path "path" } }
+        $shape! { $given Claim { kept: short Kept, root: id Root, path: path Path } }
     };
 }
 
@@ -286,6 +277,13 @@ macro_rules! lines {
             end
         }
     };
+    (header $shape:ident $given:tt $version:tt) => {
+        $shape! {
+            $given
+            "{\"format\":\"task-credit-audit\",\"version\":" short $version;
+            end
+        }
+    };
     (dep $shape:ident $given:tt $kind:tt $var:tt) => {
         $shape! {
             $given
@@ -297,6 +295,5 @@ macro_rules! lines {
 }
 
 pub(crate) use each_callback;
-pub(crate) use header;
 pub(crate) use lines;
 pub(crate) use members;

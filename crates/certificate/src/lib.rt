@@ -9,6 +9,7 @@
 
 mod ahead;
 mod blocks;
+mod bodies;
 mod callbacks;
 mod canonical;
 mod device;
@@ -16,10 +17,9 @@ mod faults;
 mod kept;
 pub mod laws;
 mod lines;
-mod lists;
-mod making;
 mod members;
 mod memory;
+mod objects;
 mod parts;
 mod pieces;
 mod reading;
@@ -27,13 +27,14 @@ mod reading_on;
 mod script_reading;
 mod step_lines;
 mod streams;
+mod tape;
 mod task_turns;
 mod texts;
-mod unordered;
 mod upgrading;
 mod values;
 mod window;
 mod writing;
+mod written;
 
 pub use device::{DeviceFault, Sink, Source};
 pub use faults::{ReadCause, ReadFault, UpgradeFault, WriteFault};

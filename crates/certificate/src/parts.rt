@@ -10,6 +10,7 @@ ghost use Rattle.ompt_events.specs.Flags as flag;
 ghost use Rattle.ompt_events.specs.Names.{status_name, endpoint_name, sync_kind_name, dep_kind_name, thread_kind_name};
 ghost use Rattle.certificate.specs.Texts.{Takes, is_plain_text, dep_data, number_or_null, whole_number, names, flag_names};
 
+use crate::callbacks::lines;
 use bitflags::Flags;
 use memchr::memchr;
 use ompt_events::{
@@ -474,8 +475,8 @@ pub(crate) fn next_item(rest: &[u8], later: bool) -> Option<&[u8]>
     if later { after(rest, ",") } else { Some(rest) }
 }
 
-/// How many numbers a path has at most: each but the first has a comma before it.
-fn room_for_numbers(rest: &[u8]) -> usize {
+/// How many numbers or names a list has at most: each but the first has a comma before it.
+pub(crate) fn room_for_items(rest: &[u8]) -> usize {
     let mut room = 1;
     'bytes: for byte in rest {
         match *byte {
@@ -525,7 +526,7 @@ fn path_alone(alloc: Global, rest: &[u8]) -> Option<(Path, &[u8])>
         (compact_text (array (items_of (map whole_number taken.0)))) taken.1.now) }
 {
     let mut rest = after(rest, "[")?;
-    let mut numbers = Vec::with_capacity(alloc, room_for_numbers(rest)).ok()?;
+    let mut numbers = Vec::with_capacity(alloc, room_for_items(rest)).ok()?;
     let mut later = false;
     'numbers: for _ in 0..MAX_DEPTH {
         let Some((number, behind)) = next_number(rest, later) else {
@@ -589,12 +590,24 @@ fn next_dep(rest: &[u8], later: bool) -> Option<(Dep, &[u8])>
     dep(next_item(rest, later)?)
 }
 
+// A dependence.
+macro_rules! take_dep {
+    (($rest:ident) $($text:literal $kind:ident $value:ident),*; end) => {{
+        $(let ($value, $rest) = take_value!($kind $rest $text)?;)*
+        let behind = after($rest, "}")?;
+        Some((Dep { $($value),* }, behind))
+    }};
+}
+
+// A value of a dependence, by its kind.
+macro_rules! take_value {
+    (dep_kind $rest:ident $text:literal) => { dep_kind($rest, $text) };
+    (id $rest:ident $text:literal) => { id($rest, $text) };
+}
+
 /// One dependence alone.
-fn dep(rest: &[u8]) -> Option<(Dep, &[u8])>
+pub(crate) fn dep(rest: &[u8]) -> Option<(Dep, &[u8])>
     ensures { IfSome result (λ taken. Takes rest.now (compact_text (dep_data taken.0)) taken.1.now) }
 {
-    let (kind, rest) = dep_kind(rest, "{\"type\":")?;
-    let (var, rest) = id(rest, ",\"var\":")?;
-    let behind = after(rest, "}")?;
-    Some((Dep { var, kind }, behind))
+    lines!(dep take_dep (rest) kind var)
 }

@@ -11,7 +11,7 @@ ghost use Rattle.certificate.specs.Windows.{ShowsLine, ShowsFault, IsDeviceFault
 use crate::device::{DeviceFault, MAX_TURNS, Source};
 use crate::faults::{ReadCause, ReadFault};
 use crate::kept::Kept;
-use crate::lines::{header, other, sound};
+use crate::lines::{TRACES, header, other, sound};
 use crate::window::{MAX_LINE, Window};
 use json::Scratch;
 use ompt_events::{MAX_RECORDS, Trace};
@@ -159,7 +159,7 @@ pub(crate) fn take_header(
     ensures { IsSaid (result_map_both (λ _. kept.new) (λ e. e) result)
         (with_header (header_says newest text.now)) }
 {
-    kept.begin(header(alloc, newest, text, scratch)?);
+    kept.begin(header(alloc, TRACES, newest, text, scratch)?);
     Ok(())
 }
 

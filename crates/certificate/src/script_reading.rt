@@ -2,24 +2,24 @@
 ghost use Rattle.std.specs.Prelude.{◌≡◌, ◌≤◌, ◌+◌, ℕ, List, [], Option, Ok, true, IfErr, IfSome, if◌then◌else◌};
 ghost use Rattle.std.specs.Result.{result_err, result_map_both};
 ghost use Rattle.certificate.specs.Counts.{TakesTurns, breaks_told, cause_told};
-ghost use Rattle.certificate.specs.Meanings.{meant_at};
 ghost use Rattle.certificate.specs.Reading.{IsAnswerIn, IsBetween, IsAfter, Grows};
 ghost use Rattle.certificate.specs.RecordLines.{IsSaid};
-ghost use Rattle.certificate.specs.ScriptFiles.{cause_of, is_within, script_adds, script_header_says, script_version, scripts, with_step};
-ghost use Rattle.json.specs.Find.{HasValue};
+ghost use Rattle.certificate.specs.ScriptFiles.{cause_of, is_within, script_adds, scripts, with_step};
 ghost use Rattle.scripts.specs.Scripts.{may_follow};
 
+use crate::bodies::Loose;
 use crate::device::{MAX_TURNS, Source};
 use crate::faults::{ReadCause, ReadFault};
-use crate::lines::version_read;
-use crate::members::{id, text};
+use crate::lines::header;
 use crate::reading::{LAST_LINE, next_line};
-use crate::step_lines::{Loose, SaidStep, step};
-use crate::values::tape_of;
+use crate::step_lines::{SaidStep, step};
 use crate::window::Window;
-use json::{Element, Scratch};
+use json::Scratch;
 use scripts::{Script, ScriptFault};
 use std::alloc::Global;
+
+/// The format of script files.
+const SCRIPTS: &str = "task-credit-script";
 
 /// Reads a script file to its end. At most 131,074 bytes wait at a time, two of the longest lines with their line
 /// feeds, and the source is asked for no more than there is room for. After a refusal nothing is said of how far
@@ -112,30 +112,8 @@ fn take_text(
     if line > 1 {
         return add(script, step(alloc, text, scratch)?);
     }
-    header(alloc, text, scratch)?;
+    header(alloc, SCRIPTS, 1, text, scratch)?;
     Ok(())
-}
-
-/// The version that a header line names, which is 1.
-fn header(alloc: Global, text: &[u8], scratch: &mut Scratch) -> Result<u32, ReadCause>
-    ensures { IsSaid result (script_header_says text.now) }
-{
-    match tape_of(alloc, text, scratch) {
-        Ok(tape) => version_in(&tape.root()).ok_or(ReadCause::Header),
-        Err(ReadCause::Memory) => Err(ReadCause::Memory),
-        Err(_) => Err(ReadCause::Header),
-    }
-}
-
-/// The version, if the format is that of scripts and the version 1.
-fn version_in(value: &Element<'_, '_>) -> Option<u32>
-    requires { HasValue value.now }
-    ensures { result ≡ script_version (meant_at value.now) }
-{
-    match text(value, "format") {
-        Ok(found) if found == "task-credit-script" => version_read(1, id(value, "version")),
-        _ => None,
-    }
 }
 
 /// Adds a step. That it may not follow is told before a limit is.

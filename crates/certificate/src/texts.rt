@@ -7,7 +7,7 @@ ghost use Rattle.serde_json.specs.View.{items_of};
 ghost use Rattle.serde_json.specs.Written.{compact_text, comma_if};
 ghost use Rattle.ompt_events.specs.Flags.{task_flags, cancel_flags};
 ghost use Rattle.ompt_events.specs.Names.{status_name, endpoint_name, sync_kind_name, dep_kind_name, thread_kind_name};
-ghost use Rattle.certificate.specs.Texts.{Puts, is_plain_text, with_body, line_of, task_tail, status_tail, header_line, dep_data, number_or_null, whole_number, names, flag_names};
+ghost use Rattle.certificate.specs.Texts.{Puts, is_plain_text, record_of, line_of, task_tail, status_tail, header_line, dep_data, number_or_null, whole_number, names, flag_names};
 
 use crate::callbacks::lines;
 use bitflags::Flags;
@@ -17,6 +17,14 @@ use ompt_events::{
     TaskFlags, ThreadKind, Turns,
 };
 use std::alloc::AllocError;
+
+/// The numbers that each record has.
+#[derive(Clone, Copy)]
+struct Head {
+    thread: u8,
+    seq: u32,
+    seen: u32,
+}
 
 // A part of a line, by the kind of its value.
 macro_rules! put_part {
@@ -61,15 +69,20 @@ macro_rules! put_parts {
 pub(crate) fn put_record(out: &mut Vec<u8>, event: &Record) -> Result<(), AllocError>
     ensures { OnOk result (Puts out.old.items out.new.items (line_of event.now)) }
 {
+    let head = Head {
+        thread: event.thread,
+        seq: event.seq,
+        seen: event.seen,
+    };
     match &event.body {
-        Body::ThreadBegin { kind } => put_thread_begin(out, event, *kind),
-        Body::ThreadEnd => put_thread_end(out, event),
+        Body::ThreadBegin { kind } => put_thread_begin(out, head, *kind),
+        Body::ThreadEnd => put_thread_end(out, head),
         Body::ParallelBegin {
             requested,
             task,
             parallel,
-        } => put_parallel_begin(out, event, *requested, *task, *parallel),
-        Body::ParallelEnd { task, parallel } => put_parallel_end(out, event, *task, *parallel),
+        } => put_parallel_begin(out, head, *requested, *task, *parallel),
+        Body::ParallelEnd { task, parallel } => put_parallel_end(out, head, *task, *parallel),
         Body::ImplicitTask {
             endpoint,
             actual,
@@ -78,15 +91,15 @@ pub(crate) fn put_record(out: &mut Vec<u8>, event: &Record) -> Result<(), AllocE
             parallel,
             task,
         } => put_implicit_task(
-            out, event, *endpoint, *actual, *index, *flags, *parallel, *task,
+            out, head, *endpoint, *actual, *index, *flags, *parallel, *task,
         ),
         Body::TaskCreate {
             deps,
             flags,
             task,
             child,
-        } => put_task_create(out, event, *deps, *flags, *task, *child),
-        Body::Dependences { task, list } => put_dependences(out, event, *task, list),
+        } => put_task_create(out, head, *deps, *flags, *task, *child),
+        Body::Dependences { task, list } => put_dependences(out, head, *task, list),
         Body::TaskSchedule {
             status,
             turns,
@@ -96,13 +109,13 @@ pub(crate) fn put_record(out: &mut Vec<u8>, event: &Record) -> Result<(), AllocE
         } => match turns {
             Some(turns) => match claim {
                 Some(claim) => {
-                    put_finishing_in_turn(out, event, *status, *turns, *prior, *next, claim)
+                    put_finishing_in_turn(out, head, *status, *turns, *prior, *next, claim)
                 }
-                None => put_switching_in_turn(out, event, *status, *turns, *prior, *next),
+                None => put_switching_in_turn(out, head, *status, *turns, *prior, *next),
             },
             None => match claim {
-                Some(claim) => put_finishing(out, event, *status, *prior, *next, claim),
-                None => put_switching(out, event, *status, *prior, *next),
+                Some(claim) => put_finishing(out, head, *status, *prior, *next, claim),
+                None => put_switching(out, head, *status, *prior, *next),
             },
         },
         Body::SyncRegion {
@@ -110,10 +123,10 @@ pub(crate) fn put_record(out: &mut Vec<u8>, event: &Record) -> Result<(), AllocE
             endpoint,
             parallel,
             task,
-        } => put_sync_region(out, event, *kind, *endpoint, *parallel, *task),
+        } => put_sync_region(out, head, *kind, *endpoint, *parallel, *task),
         Body::Cancel { flags, task, claim } => match claim {
-            Some(claim) => put_discarding(out, event, *flags, *task, claim),
-            None => put_cancelling(out, event, *flags, *task),
+            Some(claim) => put_discarding(out, head, *flags, *task, claim),
+            None => put_cancelling(out, head, *flags, *task),
         },
     }
 }
@@ -122,60 +135,55 @@ pub(crate) fn put_record(out: &mut Vec<u8>, event: &Record) -> Result<(), AllocE
 pub(crate) fn put_header(out: &mut Vec<u8>, version: u32) -> Result<(), AllocError>
     ensures { OnOk result (Puts out.old.items out.new.items (header_line version)) }
 {
-    put_short(
-        out,
-        "{\"format\":\"task-credit-audit\",\"version\":",
-        version,
-    )?;
-    put(out, "}")
+    lines!(header put_parts (out) version)
 }
 
 /// A thread begins.
-fn put_thread_begin(out: &mut Vec<u8>, event: &Record, kind: ThreadKind) -> Result<(), AllocError>
-    ensures { OnOk result (Puts out.old.items out.new.items (line_of (with_body event.now
+fn put_thread_begin(out: &mut Vec<u8>, head: Head, kind: ThreadKind) -> Result<(), AllocError>
+    ensures { OnOk result (Puts out.old.items out.new.items (line_of (record_of head
         (Body.ThreadBegin kind)))) }
 {
-    lines!(thread_begin put_parts (out) kind (event.seen) (event.seq) (event.thread))
+    lines!(thread_begin put_parts (out) kind (head.seen) (head.seq) (head.thread))
 }
 
 /// A thread ends.
-fn put_thread_end(out: &mut Vec<u8>, event: &Record) -> Result<(), AllocError>
-    ensures { OnOk result (Puts out.old.items out.new.items (line_of (with_body event.now Body.ThreadEnd))) }
+fn put_thread_end(out: &mut Vec<u8>, head: Head) -> Result<(), AllocError>
+    ensures { OnOk result (Puts out.old.items out.new.items (line_of (record_of head Body.ThreadEnd))) }
 {
-    lines!(thread_end put_parts (out) (event.seen) (event.seq) (event.thread))
+    lines!(thread_end put_parts (out) (head.seen) (head.seq) (head.thread))
 }
 
 /// A task begins a parallel region.
 fn put_parallel_begin(
     out: &mut Vec<u8>,
-    event: &Record,
+    head: Head,
     requested: u32,
     task: u64,
     parallel: u64,
 ) -> Result<(), AllocError>
     ensures { OnOk result (Puts out.old.items out.new.items
-        (line_of (with_body event.now (Body.ParallelBegin requested task parallel)))) }
+        (line_of (record_of head (Body.ParallelBegin requested task parallel)))) }
 {
-    lines!(parallel_begin put_parts (out) parallel requested (event.seen) (event.seq) task (event.thread))
+    lines!(parallel_begin put_parts (out) parallel requested (head.seen) (head.seq) task (head.thread))
 }
 
 /// A task ends a parallel region.
 fn put_parallel_end(
     out: &mut Vec<u8>,
-    event: &Record,
+    head: Head,
     task: u64,
     parallel: u64,
 ) -> Result<(), AllocError>
     ensures { OnOk result (Puts out.old.items out.new.items
-        (line_of (with_body event.now (Body.ParallelEnd task parallel)))) }
+        (line_of (record_of head (Body.ParallelEnd task parallel)))) }
 {
-    lines!(parallel_end put_parts (out) parallel (event.seen) (event.seq) task (event.thread))
+    lines!(parallel_end put_parts (out) parallel (head.seen) (head.seq) task (head.thread))
 }
 
 /// An initial or implicit task begins or ends.
 fn put_implicit_task(
     out: &mut Vec<u8>,
-    event: &Record,
+    head: Head,
     endpoint: Endpoint,
     actual: u32,
     index: u32,
@@ -184,90 +192,85 @@ fn put_implicit_task(
     task: u64,
 ) -> Result<(), AllocError>
     ensures { OnOk result (Puts out.old.items out.new.items
-        (line_of (with_body event.now (Body.ImplicitTask endpoint actual index flags parallel task)))) }
+        (line_of (record_of head (Body.ImplicitTask endpoint actual index flags parallel task)))) }
 {
     lines!(implicit_task put_parts (out)
-        actual endpoint flags index parallel (event.seen) (event.seq) task (event.thread))
+        actual endpoint flags index parallel (head.seen) (head.seq) task (head.thread))
 }
 
 /// A task is created.
 fn put_task_create(
     out: &mut Vec<u8>,
-    event: &Record,
+    head: Head,
     deps: bool,
     flags: TaskFlags,
     task: u64,
     child: u64,
 ) -> Result<(), AllocError>
     ensures { OnOk result (Puts out.old.items out.new.items
-        (line_of (with_body event.now (Body.TaskCreate deps flags task child)))) }
+        (line_of (record_of head (Body.TaskCreate deps flags task child)))) }
 {
-    lines!(task_create put_parts (out) child deps flags (event.seen) (event.seq) task (event.thread))
+    lines!(task_create put_parts (out) child deps flags (head.seen) (head.seq) task (head.thread))
 }
 
 /// What a task depends on.
-fn put_dependences(
-    out: &mut Vec<u8>,
-    event: &Record,
-    task: u64,
-    list: &Deps,
-) -> Result<(), AllocError>
+fn put_dependences(out: &mut Vec<u8>, head: Head, task: u64, list: &Deps) -> Result<(), AllocError>
     ensures { OnOk result (Puts out.old.items out.new.items
-        (line_of (with_body event.now (Body.Dependences task list.now)))) }
+        (line_of (record_of head (Body.Dependences task list.now)))) }
 {
-    lines!(dependences put_parts (out) list (event.seen) (event.seq) task (event.thread))
+    lines!(dependences put_parts (out) list (head.seen) (head.seq) task (head.thread))
 }
 
 /// A task stops running and is not finished.
 fn put_switching(
     out: &mut Vec<u8>,
-    event: &Record,
+    head: Head,
     status: Status,
     prior: u64,
     next: Option<u64>,
 ) -> Result<(), AllocError>
     ensures { OnOk result (Puts out.old.items out.new.items
-        (line_of (with_body event.now (Body.TaskSchedule status None prior next None)))) }
+        (line_of (record_of head (Body.TaskSchedule status None prior next None)))) }
 {
-    lines!(switching put_parts (out) next prior (event.seen) (event.seq) status (event.thread))
+    lines!(switching put_parts (out) next prior (head.seen) (head.seq) status (head.thread))
 }
 
 /// A task, its body or its event is finished.
 fn put_finishing(
     out: &mut Vec<u8>,
-    event: &Record,
+    head: Head,
     status: Status,
     prior: u64,
     next: Option<u64>,
     claim: &Claim,
 ) -> Result<(), AllocError>
     ensures { OnOk result (Puts out.old.items out.new.items
-        (line_of (with_body event.now (Body.TaskSchedule status None prior next (Some claim.now))))) }
+        (line_of (record_of head (Body.TaskSchedule status None prior next (Some claim.now))))) }
 {
     lines!(finishing put_parts (out)
-        (claim.kept) next (&claim.path) prior (claim.root) (event.seen) (event.seq) status (event.thread))
+        (claim.kept) next (&claim.path) prior (claim.root) (head.seen) (head.seq) status (head.thread))
 }
 
 /// A task stops running and is not finished, and its turns are told.
 fn put_switching_in_turn(
     out: &mut Vec<u8>,
-    event: &Record,
+    head: Head,
     status: Status,
     turns: Turns,
     prior: u64,
     next: Option<u64>,
 ) -> Result<(), AllocError>
     ensures { OnOk result (Puts out.old.items out.new.items
-        (line_of (with_body event.now (Body.TaskSchedule status (Some turns) prior next None)))) }
+        (line_of (record_of head (Body.TaskSchedule status (Some turns) prior next None)))) }
 {
     lines!(switching_in_turn put_parts (out)
-        next (turns.next) prior (turns.prior) (event.seen) (event.seq) status (event.thread))
+        next (turns.next) prior (turns.prior) (head.seen) (head.seq) status (head.thread))
 }
 
 /// A task, its body or its event is finished, and turns are told.
 fn put_finishing_in_turn(
     out: &mut Vec<u8>,
-    event: &Record,
+    head: Head,
     status: Status,
     turns: Turns,
     prior: u64,
@@ -275,56 +278,56 @@ fn put_finishing_in_turn(
     claim: &Claim,
 ) -> Result<(), AllocError>
     ensures { OnOk result (Puts out.old.items out.new.items
-        (line_of (with_body event.now
+        (line_of (record_of head
         (Body.TaskSchedule status (Some turns) prior next (Some claim.now))))) }
 {
     lines!(finishing_in_turn put_parts (out)
         (claim.kept) next (turns.next) (&claim.path) prior (turns.prior) (claim.root)
-        (event.seen) (event.seq) status (event.thread))
+        (head.seen) (head.seq) status (head.thread))
 }
 
 /// A region of synchronisation begins or ends.
 fn put_sync_region(
     out: &mut Vec<u8>,
-    event: &Record,
+    head: Head,
     kind: SyncKind,
     endpoint: Endpoint,
     parallel: Option<u64>,
     task: u64,
 ) -> Result<(), AllocError>
     ensures { OnOk result (Puts out.old.items out.new.items
-        (line_of (with_body event.now (Body.SyncRegion kind endpoint parallel task)))) }
+        (line_of (record_of head (Body.SyncRegion kind endpoint parallel task)))) }
 {
     lines!(sync_region put_parts (out)
-        endpoint kind parallel (event.seen) (event.seq) task (event.thread))
+        endpoint kind parallel (head.seen) (head.seq) task (head.thread))
 }
 
 /// A task cancels a region or sees it cancelled.
 fn put_cancelling(
     out: &mut Vec<u8>,
-    event: &Record,
+    head: Head,
     flags: CancelFlags,
     task: u64,
 ) -> Result<(), AllocError>
     ensures { OnOk result (Puts out.old.items out.new.items
-        (line_of (with_body event.now (Body.Cancel flags task None)))) }
+        (line_of (record_of head (Body.Cancel flags task None)))) }
 {
-    lines!(cancelling put_parts (out) flags (event.seen) (event.seq) task (event.thread))
+    lines!(cancelling put_parts (out) flags (head.seen) (head.seq) task (head.thread))
 }
 
 /// A task is discarded.
 fn put_discarding(
     out: &mut Vec<u8>,
-    event: &Record,
+    head: Head,
     flags: CancelFlags,
     task: u64,
     claim: &Claim,
 ) -> Result<(), AllocError>
     ensures { OnOk result (Puts out.old.items out.new.items
-        (line_of (with_body event.now (Body.Cancel flags task (Some claim.now))))) }
+        (line_of (record_of head (Body.Cancel flags task (Some claim.now))))) }
 {
     lines!(discarding put_parts (out)
-        flags (claim.kept) (&claim.path) (claim.root) (event.seen) (event.seq) task (event.thread))
+        flags (claim.kept) (&claim.path) (claim.root) (head.seen) (head.seq) task (head.thread))
 }
 
 /// The last members of a line that names a task.

@@ -1,4 +1,3 @@
-use Rattle.ompt_events.specs.declared.records.Body.TheVariants.{ThreadEnd}
 use Rattle.certificate.proofs.PartLemmas.{line-finishing}
 use Rattle.certificate.proofs.TakeLemmas.{Takes-both, Takes-whole}
 use Rattle.certificate.proofs.canonical.finishing.Goals as goal
@@ -11,7 +10,6 @@ returns c =
       thread = c.in-Some-status_tail.thread;
       seq = c.in-Some-status_tail.seq;
       seen = c.in-Some-status_tail.seen;
-      body = ThreadEnd;
     })
     c.in-Some-status_tail.status c.in-Some-id.prior c.in-Some-id_or_null.next (record {
       kept = c.in-Some.kept;

@@ -1,4 +1,3 @@
-use Rattle.ompt_events.specs.declared.records.Body.TheVariants.{ThreadEnd}
 use Rattle.certificate.proofs.PartLemmas.{line-implicit_task}
 use Rattle.certificate.proofs.TakeLemmas.{Takes-both, Takes-whole}
 use Rattle.certificate.proofs.canonical.implicit_task.Goals as goal
@@ -11,7 +10,6 @@ returns c =
       thread = c.in-Some-task_tail.thread;
       seq = c.in-Some-task_tail.seq;
       seen = c.in-Some-task_tail.seen;
-      body = ThreadEnd;
     })
     c.in-Some-endpoint.endpoint c.in-Some.actual c.in-Some-short.index c.in-Some-task_flags.flags
     c.in-Some-id.parallel c.in-Some-task_tail.task)

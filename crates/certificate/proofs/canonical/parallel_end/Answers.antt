@@ -1,4 +1,3 @@
-use Rattle.ompt_events.specs.declared.records.Body.TheVariants.{ThreadEnd}
 use Rattle.certificate.proofs.PartLemmas.{line-parallel_end}
 use Rattle.certificate.proofs.TakeLemmas.{Takes-both, Takes-whole}
 use Rattle.certificate.proofs.canonical.parallel_end.Goals as goal
@@ -11,7 +10,6 @@ returns c =
       thread = c.in-Some-task_tail.thread;
       seq = c.in-Some-task_tail.seq;
       seen = c.in-Some-task_tail.seen;
-      body = ThreadEnd;
     })
     c.in-Some-task_tail.task c.in-Some.parallel)
     (Takes-both _ _ _ _ _ c.in-Some.ensures c.in-Some-task_tail.ensures)

@@ -1,4 +1,3 @@
-use Rattle.ompt_events.specs.declared.records.Body.TheVariants.{ThreadEnd}
 use Rattle.certificate.proofs.PartLemmas.{line-switching_in_turn}
 use Rattle.certificate.proofs.TakeLemmas.{Takes-both, Takes-whole}
 use Rattle.certificate.proofs.canonical.switching_in_turn.Goals as goal
@@ -11,7 +10,6 @@ returns c =
       thread = c.in-Some-status_tail.thread;
       seq = c.in-Some-status_tail.seq;
       seen = c.in-Some-status_tail.seen;
-      body = ThreadEnd;
     })
     c.in-Some-status_tail.status
     (record { prior = c.in-Some-short-2.prior_turn; next = c.in-Some-short.next_turn })

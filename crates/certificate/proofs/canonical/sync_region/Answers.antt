@@ -1,4 +1,3 @@
-use Rattle.ompt_events.specs.declared.records.Body.TheVariants.{ThreadEnd}
 use Rattle.certificate.proofs.PartLemmas.{line-sync_region}
 use Rattle.certificate.proofs.TakeLemmas.{Takes-both, Takes-whole}
 use Rattle.certificate.proofs.canonical.sync_region.Goals as goal
@@ -11,7 +10,6 @@ returns c =
       thread = c.in-Some-task_tail.thread;
       seq = c.in-Some-task_tail.seq;
       seen = c.in-Some-task_tail.seen;
-      body = ThreadEnd;
     })
     c.in-Some-sync_kind.kind c.in-Some.endpoint c.in-Some-id_or_null.parallel
     c.in-Some-task_tail.task)

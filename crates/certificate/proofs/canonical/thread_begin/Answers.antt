@@ -1,4 +1,3 @@
-use Rattle.ompt_events.specs.declared.records.Body.TheVariants.{ThreadEnd}
 use Rattle.certificate.proofs.PartLemmas.{line-thread_begin}
 use Rattle.certificate.proofs.TakeLemmas.{Takes-both, Takes-whole}
 use Rattle.certificate.proofs.canonical.thread_begin.Goals as goal
@@ -11,7 +10,6 @@ returns c =
       thread = c.in-Some-byte.thread;
       seq = c.in-Some-short-2.seq;
       seen = c.in-Some-short.seen;
-      body = ThreadEnd;
     })
     c.in-Some.kind)
     (Takes-both _ _ _ _ _ c.in-Some.ensures

@@ -1,4 +1,3 @@
-use Rattle.ompt_events.specs.declared.records.Body.TheVariants.{ThreadEnd}
 use Rattle.certificate.proofs.PartLemmas.{line-thread_end}
 use Rattle.certificate.proofs.TakeLemmas.{Takes-both, Takes-whole}
 use Rattle.certificate.proofs.canonical.thread_end.Goals as goal
@@ -10,7 +9,6 @@ returns c =
       thread = c.in-Some-byte.thread;
       seq = c.in-Some-short.seq;
       seen = c.in-Some.seen;
-      body = ThreadEnd;
     }))
     (Takes-both _ _ _ _ _ c.in-Some.ensures
     (Takes-both _ _ _ _ _ c.in-Some-short.ensures

@@ -1,4 +1,4 @@
-use Rattle.certificate.specs.Meanings.{meant_at}
+use Rattle.certificate.specs.Objects.{object_data}
 use Rattle.certificate.proofs.MemberLemmas.{ok_or-some}
 use Rattle.certificate.proofs.RecordLemmas.{body_named-none}
 use Rattle.certificate.proofs.lines.body.Goals as goal
@@ -9,7 +9,7 @@ returns-in_default c =
     λ _.
     rw (
       ok_or-some _ _ c.in_ok-text.ensures,
-      body_named-none c.args.version c.in_ok-text.field-0.now (meant_at c.args.value.now)
+      body_named-none c.args.version c.in_ok-text.field-0.now (object_data c.args.object.now)
           no.not-thread_begin no.not-thread_end no.not-parallel_begin no.not-parallel_end
           no.not-implicit_task no.not-task_create no.not-dependences no.not-task_schedule
           no.not-sync_region no.not-cancel,

@@ -6,6 +6,6 @@ pub returns : goal.returns
 returns c =
     on_ok _
     (λ last.
-    Puts-same _ _ _ _ (line-cancelling c.args.event.now c.args.flags c.args.task)
+    Puts-same _ _ _ _ (line-cancelling c.args.head c.args.flags c.args.task)
     (Puts-both _ _ _ _ _ c.in-Ok.ensures last))
     c.put_task_tail.ensures

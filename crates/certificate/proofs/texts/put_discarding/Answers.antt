@@ -6,7 +6,7 @@ pub returns : goal.returns
 returns c =
     on_ok _
     (λ last.
-    Puts-same _ _ _ _ (line-discarding c.args.event.now c.args.flags c.args.task c.args.claim.now)
+    Puts-same _ _ _ _ (line-discarding c.args.head c.args.flags c.args.task c.args.claim.now)
     (Puts-both _ _ _ _ _ c.in-Ok.ensures
     (Puts-both _ _ _ _ _ c.in-Ok-put_short.ensures
     (Puts-both _ _ _ _ _ c.in-Ok-put_path.ensures

@@ -7,5 +7,5 @@ returns c =
     on_ok _
     (λ last.
     Puts-same _ _ _ _ (text-header c.args.version)
-    (Puts-both _ _ _ _ _ c.in_ok-put_short.ensures last))
+    (Puts-both _ _ _ _ _ c.in-Ok.ensures last))
     c.put.ensures

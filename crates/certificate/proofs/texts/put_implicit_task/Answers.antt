@@ -7,7 +7,7 @@ returns c =
     on_ok _
     (λ last.
     Puts-same _ _ _ _
-    (line-implicit_task c.args.event.now c.args.endpoint c.args.actual c.args.index c.args.flags
+    (line-implicit_task c.args.head c.args.endpoint c.args.actual c.args.index c.args.flags
     c.args.parallel c.args.task)
     (Puts-both _ _ _ _ _ c.in-Ok.ensures
     (Puts-both _ _ _ _ _ c.in-Ok-put_endpoint.ensures

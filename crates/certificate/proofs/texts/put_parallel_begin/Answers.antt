@@ -7,6 +7,6 @@ returns c =
     on_ok _
     (λ last.
     Puts-same _ _ _ _
-    (line-parallel_begin c.args.event.now c.args.requested c.args.task c.args.parallel)
+    (line-parallel_begin c.args.head c.args.requested c.args.task c.args.parallel)
     (Puts-both _ _ _ _ _ c.in-Ok.ensures (Puts-both _ _ _ _ _ c.in-Ok-put_short.ensures last)))
     c.put_task_tail.ensures

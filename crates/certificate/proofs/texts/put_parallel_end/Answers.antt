@@ -6,6 +6,6 @@ pub returns : goal.returns
 returns c =
     on_ok _
     (λ last.
-    Puts-same _ _ _ _ (line-parallel_end c.args.event.now c.args.task c.args.parallel)
+    Puts-same _ _ _ _ (line-parallel_end c.args.head c.args.task c.args.parallel)
     (Puts-both _ _ _ _ _ c.in-Ok.ensures last))
     c.put_task_tail.ensures

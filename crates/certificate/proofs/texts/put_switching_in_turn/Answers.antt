@@ -7,7 +7,7 @@ returns c =
     on_ok _
     (λ last.
     Puts-same _ _ _ _
-    (line-switching_in_turn c.args.event.now c.args.status c.args.turns c.args.prior c.args.next)
+    (line-switching_in_turn c.args.head c.args.status c.args.turns c.args.prior c.args.next)
     (Puts-both _ _ _ _ _ c.in-Ok.ensures
     (Puts-both _ _ _ _ _ c.in-Ok-put_short.ensures
     (Puts-both _ _ _ _ _ c.in-Ok-put_id.ensures

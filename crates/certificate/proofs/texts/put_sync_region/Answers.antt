@@ -7,7 +7,7 @@ returns c =
     on_ok _
     (λ last.
     Puts-same _ _ _ _
-    (line-sync_region c.args.event.now c.args.kind c.args.endpoint c.args.parallel c.args.task)
+    (line-sync_region c.args.head c.args.kind c.args.endpoint c.args.parallel c.args.task)
     (Puts-both _ _ _ _ _ c.in-Ok.ensures
     (Puts-both _ _ _ _ _ c.in-Ok-put_sync_kind.ensures
     (Puts-both _ _ _ _ _ c.in-Ok-put_id_or_null.ensures last))))

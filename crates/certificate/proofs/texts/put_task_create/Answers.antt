@@ -7,7 +7,7 @@ returns c =
     on_ok _
     (λ last.
     Puts-same _ _ _ _
-    (line-task_create c.args.event.now c.args.deps c.args.flags c.args.task c.args.child)
+    (line-task_create c.args.head c.args.deps c.args.flags c.args.task c.args.child)
     (Puts-both _ _ _ _ _ c.in-Ok.ensures
     (Puts-both _ _ _ _ _ c.in-Ok-put_truth.ensures
     (Puts-both _ _ _ _ _ c.in-Ok-put_task_flags.ensures last))))

@@ -6,7 +6,7 @@ pub returns : goal.returns
 returns c =
     on_ok _
     (λ last.
-    Puts-same _ _ _ _ (line-thread_end c.args.event.now)
+    Puts-same _ _ _ _ (line-thread_end c.args.head)
     (Puts-both _ _ _ _ _ c.in-Ok.ensures
     (Puts-both _ _ _ _ _ c.in-Ok-put_short.ensures
     (Puts-both _ _ _ _ _ c.in-Ok-put_byte.ensures last))))
