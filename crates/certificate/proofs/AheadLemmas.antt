@@ -6,8 +6,8 @@ use Rattle.std.specs.Prelude.{OnOk}
 use Rattle.std.specs.Result.{result_err}
 use Rattle.std.specs.Io.KnownBytes.{Keeps, IsAtEnd, prepend_known}
 use Rattle.ompt_events.specs.Traces.{TraceView}
-use Rattle.certificate.specs.declared.faults.ReadCause.{ReadCause}
-use Rattle.certificate.specs.declared.faults.ReadCause.TheVariants.{Memory}
+use Rattle.lines.specs.declared.cause.ReadCause.{ReadCause}
+use Rattle.lines.specs.declared.cause.ReadCause.TheVariants.{Memory}
 use Rattle.certificate.specs.declared.ahead.Ahead.{Ahead}
 use Rattle.certificate.specs.declared.pieces.Piece.{Piece}
 use Rattle.certificate.specs.Limits.{newest_version}
@@ -120,7 +120,7 @@ next_waits known left left' room limit front old new u few same_limit all worked
 
 -- ---- what is told
 
--- no memory was found for what waits
+-- memory ran out for what waits
 pub waits_memory : (known left : Option (List ℕ)) (room : ℕ) (front : List ℕ) (ahead : Ahead)
     → Waits known left room front ahead → IsToldNext Memory known left room ahead
 waits_memory known left room front ahead waits =
@@ -132,7 +132,7 @@ pub next_memory : (known left : Option (List ℕ)) (room : ℕ) (front : List �
 next_memory known left room front new next =
     no_memory known new.line room new.kept (front ++ new.block.waiting) left next.few next.between
 
--- ---- what waits after the bytes behind the whole lines were moved
+-- ---- what waits after the bytes after the whole lines were moved
 
 pub waits_parted : (known left : Option (List ℕ)) (room : ℕ) (front front' : List ℕ) (old new : Ahead)
     → old.block.waiting ≡ [] → front ≡ front' ++ new.block.waiting → SameLines old new

@@ -36,7 +36,7 @@ IsPiece-rest xs start whole within =
     take_all (length xs - start) (drop start xs) (omega arith) in
     record { low = within; high = omega arith; whole = rw all (whole_drop xs start whole) }
 
--- up to behind a line feed
+-- up to after a line feed
 pub IsPiece-line : (xs : List ℕ) (start least at : ℕ) → start ≤ least → LineFeedAt (drop least xs) (Some at)
     → IsPiece xs start (least + at + 1)
 IsPiece-line xs start least at low found =
@@ -55,7 +55,7 @@ IsPiece-line xs start least at low found =
           );
     }
 
--- ---- pieces one behind another
+-- ---- pieces one after another
 
 pub ArePieces-push : (bytes : List ℕ) (start : ℕ) (cuts : List ℕ) (middle cut : ℕ)
     → ArePieces bytes start cuts middle → IsPiece bytes middle cut

@@ -1,8 +1,8 @@
 -- Counters of 64 bits, counted up.
 use Rattle.std.proofs.Common.{◌≡◌, ◌≢◌, ◌==◌, false, Ok, Err, Result, ℕ, zero, suc, ◌+◌, ◌-◌, ◌<◌, ◌≤◌, arith}
 use Rattle.std.proofs.Common.{refl, ap, ◌∙◌, Option, Some, None}
-use Rattle.certificate.specs.declared.faults.ReadCause.{ReadCause}
-use Rattle.certificate.specs.declared.faults.ReadCause.TheVariants.{TurnsSpent}
+use Rattle.lines.specs.declared.cause.ReadCause.{ReadCause}
+use Rattle.lines.specs.declared.cause.ReadCause.TheVariants.{TurnsSpent}
 use Rattle.certificate.specs.declared.faults.WriteFault.{WriteFault}
 use Rattle.certificate.specs.declared.faults.WriteFault.TheVariants as write
 use Rattle.std.proofs.lemmas.Bool.{lt-ltb}

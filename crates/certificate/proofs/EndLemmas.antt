@@ -1,15 +1,16 @@
--- How a round ends, and what is told of the source.
+-- How a round ends, and what is reported of the source.
 use Rattle.std.proofs.Common.{◌≡◌, ◌≢◌, ℕ, ◌<◌, ◌≤◌, List, [], ◌∷◌, length, Option, Some, None, Ok, Err}
 use Rattle.std.proofs.Common.{arith, refl, eq-eqb}
 use Rattle.std.specs.Prelude.{IfSome}
 use Rattle.std.specs.Io.KnownBytes.{IsAtEnd}
 use Rattle.ompt_events.specs.Traces.{TraceView}
-use Rattle.certificate.specs.declared.faults.ReadCause.{ReadCause}
+use Rattle.lines.specs.declared.cause.ReadCause.{ReadCause}
 use Rattle.certificate.specs.declared.faults.ReadFault.{ReadFault}
-use Rattle.certificate.specs.declared.faults.ReadCause.TheVariants.{Device, Memory, Header, LineTooLong}
-use Rattle.certificate.specs.declared.faults.ReadCause.TheVariants.{NotJson, Field, Limit, Unended}
-use Rattle.certificate.specs.declared.faults.ReadCause.TheVariants.{TurnsSpent}
-use Rattle.certificate.specs.Limits.{max_line, newest_version}
+use Rattle.lines.specs.declared.cause.ReadCause.TheVariants.{Device, Memory, Header, LineTooLong}
+use Rattle.lines.specs.declared.cause.ReadCause.TheVariants.{NotJson, Field, Limit, Unended}
+use Rattle.lines.specs.declared.cause.ReadCause.TheVariants.{TurnsSpent}
+use Rattle.certificate.specs.Limits.{newest_version}
+use Rattle.lines.specs.Limits.{max_line}
 use Rattle.certificate.specs.Formats.{said, fault_in}
 use Rattle.certificate.specs.Files.{traces, file_says_to}
 use Rattle.certificate.specs.Windows.{LineFeedAt}
@@ -20,7 +21,7 @@ use Rattle.certificate.proofs.ReadingLemmas.{IsAfter-long, IsAfter-device, IsAft
 use Rattle.certificate.proofs.ReadingLemmas.{IsAfter-none_first, IsAfter-none}
 use Rattle.certificate.proofs.PieceLemmas.{no_memory}
 
--- ---- what waits behind the whole lines
+-- ---- what waits after the whole lines
 
 pub waiting_long : (known : Option (List ℕ)) (n : ℕ) (kept : TraceView) (waiting : List ℕ)
     (left : Option (List ℕ))
@@ -56,7 +57,7 @@ pub waiting_none : (known : Option (List ℕ)) (n : ℕ) (kept : TraceView) (wai
 waiting_none known n kept waiting left later none end now =
     IsAfter-none (traces newest_version) known n kept waiting left later (empty waiting none, end) now
 
--- the source did not answer, or no memory was found for its bytes
+-- the source did not answer, or memory ran out for its bytes
 pub waiting_fault : (known : Option (List ℕ)) (n room : ℕ) (kept : TraceView) (cause : ReadCause)
     (waiting : List ℕ) (left : Option (List ℕ))
     → IsFillFault cause → length waiting ≤ room → LineFeedAt waiting None
@@ -74,7 +75,7 @@ waiting_fault known n room kept Field waiting left is few none now = absurd is
 waiting_fault known n room kept Limit waiting left is few none now = absurd is
 waiting_fault known n room kept Unended waiting left is few none now = absurd is
 
--- ---- what is told of a trace file
+-- ---- what is reported of a trace file
 
 pub told_in_room : (room : ℕ) (cause : ReadCause) (n : ℕ) (bytes : List ℕ) (left : Option (List ℕ))
     → IsToldWithin room cause n bytes left → IsToldInRoom room cause n bytes left

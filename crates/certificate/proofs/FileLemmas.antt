@@ -4,19 +4,16 @@ use Rattle.std.proofs.Common.{Some, None, Result, Ok, Err, true, false, cond, ar
 use Rattle.std.proofs.Common.{eqb-true, eq-eqb, suc, append-nil, length-append, length-take}
 use Rattle.std.specs.Prelude.{◌==◌}
 use Rattle.std.specs.List.{AllByRecursion}
-use Rattle.certificate.specs.declared.faults.ReadCause.{ReadCause}
+use Rattle.lines.specs.declared.cause.ReadCause.{ReadCause}
 use Rattle.certificate.specs.declared.faults.ReadFault.{ReadFault}
-use Rattle.certificate.specs.declared.faults.ReadCause.TheVariants.{LineTooLong}
+use Rattle.lines.specs.declared.cause.ReadCause.TheVariants.{LineTooLong}
 use Rattle.std.proofs.lemmas.List.{take-append-drop, get_or-take, drop_more}
 use Rattle.std.proofs.lemmas.List.Sums.{sum_by-cons}
-use Rattle.certificate.specs.Limits.{max_line}
+use Rattle.lines.specs.Limits.{max_line}
 use Rattle.certificate.specs.Windows.{LineFeedAt}
+use Rattle.lines.proofs.JsonLemmas.{IsUnbroken}
 use Rattle.certificate.specs.Formats.{Format, Cut, cut, with_byte, line_feeds, is_long, from_line, rest_says}
 use Rattle.certificate.specs.Formats.{go_on, fault_in, line_adds, end_adds}
-
--- no line feed
-abbrev pub IsUnbroken : List ℕ → Type 0
-IsUnbroken bytes = AllByRecursion (λ b. (b == 10) ≡ false) bytes
 
 -- bytes in front of the first line
 abbrev pub with_front : List ℕ → List (List ℕ) → List ℕ → Cut

@@ -1,14 +1,14 @@
--- How pieces are put together behind what was kept before them.
+-- How pieces are put together after what was kept before them.
 use Rattle.std.proofs.Common.{◌≡◌, ℕ, ◌+◌, ◌≤◌, List, [], ◌∷◌, ◌++◌, length, Option, Some, None, Result, Ok}
 use Rattle.std.proofs.Common.{Err, arith, refl, sym, ap, ◌∙◌, subst, append-nil, append_assoc, length-append}
 use Rattle.std.specs.Prelude.{All, IfSome, OnOk}
 use Rattle.std.specs.Result.{result_err}
 use Rattle.ompt_events.specs.declared.records.Record.{Record}
 use Rattle.ompt_events.specs.Traces.{TraceView, IsSoundIn}
-use Rattle.certificate.specs.declared.faults.ReadCause.{ReadCause}
-use Rattle.certificate.specs.declared.faults.ReadCause.TheVariants.{Device, Memory, Header, LineTooLong}
-use Rattle.certificate.specs.declared.faults.ReadCause.TheVariants.{NotJson, Field, Limit, Unended}
-use Rattle.certificate.specs.declared.faults.ReadCause.TheVariants.{TurnsSpent}
+use Rattle.lines.specs.declared.cause.ReadCause.{ReadCause}
+use Rattle.lines.specs.declared.cause.ReadCause.TheVariants.{Device, Memory, Header, LineTooLong}
+use Rattle.lines.specs.declared.cause.ReadCause.TheVariants.{NotJson, Field, Limit, Unended}
+use Rattle.lines.specs.declared.cause.ReadCause.TheVariants.{TurnsSpent}
 use Rattle.certificate.specs.declared.pieces.Piece.{Piece}
 use Rattle.certificate.specs.Formats.{line_feeds}
 use Rattle.certificate.specs.Keeping.{HaveRoom, IsWhyNot, KeepsFirst}

@@ -11,17 +11,17 @@ use Rattle.std.proofs.lemmas.Option.{slice_get_past}
 use Rattle.std.proofs.lemmas.List.Elements.{filter_map-append}
 use Rattle.ompt_events.specs.declared.records.Record.{Record}
 use Rattle.ompt_events.specs.Traces.{TraceView}
-use Rattle.certificate.specs.declared.faults.ReadCause.{ReadCause}
-use Rattle.certificate.specs.declared.faults.ReadCause.TheVariants.{LineTooLong, Unended, Header, Limit}
+use Rattle.lines.specs.declared.cause.ReadCause.{ReadCause}
+use Rattle.lines.specs.declared.cause.ReadCause.TheVariants.{LineTooLong, Unended, Header, Limit}
 use Rattle.certificate.specs.declared.faults.ReadFault.{ReadFault}
-use Rattle.certificate.specs.RecordLines.{line_says, header_says}
+use Rattle.lines.specs.RecordLines.{line_says, header_says}
 use Rattle.certificate.specs.Formats.{cut, is_long, line_adds, end_adds, from_line, go_on, fault_in}
 use Rattle.certificate.specs.Files.{has_room, no_trace, with_record, with_header, text_adds, traces}
 use Rattle.certificate.specs.Files.{line_fault}
 use Rattle.certificate.specs.Files.{file_says_to, trace_said, records_said, version_of, cause_in, trace_of}
 use Rattle.certificate.specs.Files.{StandsFor, IsFaultlessBefore, IsFirstFault}
 use Rattle.certificate.specs.Reading.{IsLineReached}
-use Rattle.certificate.proofs.RecordLemmas.{ok_not_err}
+use Rattle.lines.proofs.RecordLemmas.{ok_not_err}
 use Rattle.certificate.proofs.FileLemmas.{line_feeds-lines}
 use Rattle.certificate.proofs.ReadingLemmas.{IsLineReached-within, IsLineReached-later}
 

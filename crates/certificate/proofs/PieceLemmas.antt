@@ -10,12 +10,13 @@ use Rattle.std.proofs.lemmas.List.Elements.{All-cons}
 use Rattle.ompt_events.specs.declared.records.Record.{Record}
 use Rattle.ompt_events.specs.Records.{made}
 use Rattle.ompt_events.specs.Traces.{TraceView, IsSoundIn, tasks_in}
-use Rattle.certificate.specs.declared.faults.ReadCause.{ReadCause}
-use Rattle.certificate.specs.declared.faults.ReadCause.TheVariants.{Device, Memory, Header, LineTooLong}
-use Rattle.certificate.specs.declared.faults.ReadCause.TheVariants.{NotJson, Field, Limit, Unended}
-use Rattle.certificate.specs.declared.faults.ReadCause.TheVariants.{TurnsSpent}
-use Rattle.certificate.specs.Limits.{max_line, newest_version}
-use Rattle.certificate.specs.RecordLines.{line_says, header_says}
+use Rattle.lines.specs.declared.cause.ReadCause.{ReadCause}
+use Rattle.lines.specs.declared.cause.ReadCause.TheVariants.{Device, Memory, Header, LineTooLong}
+use Rattle.lines.specs.declared.cause.ReadCause.TheVariants.{NotJson, Field, Limit, Unended}
+use Rattle.lines.specs.declared.cause.ReadCause.TheVariants.{TurnsSpent}
+use Rattle.certificate.specs.Limits.{newest_version}
+use Rattle.lines.specs.Limits.{max_line}
+use Rattle.lines.specs.RecordLines.{line_says, header_says}
 use Rattle.certificate.specs.Formats.{go_on, rest_says, said, fault_in, line_feeds}
 use Rattle.certificate.specs.Files.{has_room, text_adds, traces, with_header, with_record}
 use Rattle.certificate.specs.Reading.{IsFromLine, IsTextCause}
@@ -30,7 +31,7 @@ use Rattle.certificate.proofs.FileLemmas.{rest_says-line, rest_says-long, unbrok
 use Rattle.certificate.proofs.FileLemmas.{window-parts}
 use Rattle.certificate.proofs.ReadingLemmas.{from_next, line_feeds-one}
 use Rattle.certificate.proofs.TraceLemmas.{traces-text_causes}
-use Rattle.certificate.proofs.SoundLemmas.{line_says-sound}
+use Rattle.lines.proofs.SoundLemmas.{line_says-sound}
 
 -- ---- one line
 
@@ -51,7 +52,7 @@ says_line n kept line later bytes more left begins =
     ∙ rest_says-line (traces newest_version) n kept line ((later ++ more) ++ left) begins.unbroken
     begins.short
 
--- what the text of a line behind the header adds
+-- what the text of a line after the header adds
 adds_record : (n : ℕ) (kept : TraceView) (line : List ℕ) → n ≢ 1
     → text_adds newest_version n kept line ≡ with_record kept (line_says kept.version line)
 adds_record n kept line other = let is : (n == 1) ≡ false = grind arith in rw is refl
@@ -140,7 +141,7 @@ long_line (Some all) n kept bytes more (Some l) begins now =
     ∙ rest_says-long (traces newest_version) n kept begins.front ((begins.later ++ more) ++ l)
     begins.unbroken begins.long
 
--- no memory was found for what waits from a line on
+-- memory ran out for what waits from a line on
 pub no_memory : (known : Option (List ℕ)) (n room : ℕ) (kept : TraceView) (waiting : List ℕ)
     (left : Option (List ℕ))
     → length waiting ≤ room → IsBetweenLines known n kept waiting left

@@ -5,20 +5,21 @@ use Rattle.std.proofs.Common.{sym, ap, ◌∙◌, subst, inl, inr, eq-eqb, appen
 use Rattle.std.proofs.Common.{length-take}
 use Rattle.std.specs.Prelude.{nat_lt, ◌==◌, IfSome}
 use Rattle.std.specs.Io.KnownBytes.{Keeps, IsAtEnd, prepend_known}
-use Rattle.certificate.specs.declared.faults.ReadCause.{ReadCause}
+use Rattle.lines.specs.declared.cause.ReadCause.{ReadCause}
 use Rattle.certificate.specs.declared.faults.ReadFault.{ReadFault}
-use Rattle.certificate.specs.declared.faults.ReadCause.TheVariants.{Device, Memory, Header, LineTooLong}
-use Rattle.certificate.specs.declared.faults.ReadCause.TheVariants.{NotJson, Field, Limit, Unended}
-use Rattle.certificate.specs.declared.faults.ReadCause.TheVariants.{TurnsSpent}
+use Rattle.lines.specs.declared.cause.ReadCause.TheVariants.{Device, Memory, Header, LineTooLong}
+use Rattle.lines.specs.declared.cause.ReadCause.TheVariants.{NotJson, Field, Limit, Unended}
+use Rattle.lines.specs.declared.cause.ReadCause.TheVariants.{TurnsSpent}
 use Rattle.std.proofs.lemmas.List.{take-append-drop}
 use Rattle.std.proofs.lemmas.List.Sums.{sum_by-append, sum_by-cons}
-use Rattle.certificate.specs.Limits.{max_line}
+use Rattle.lines.specs.Limits.{max_line}
 use Rattle.certificate.specs.Windows.{LineFeedAt, ShowsFault, ShowsLine}
 use Rattle.certificate.specs.Formats.{Format, cut, said, rest_says, go_on, fault_in, is_long, line_feeds}
 use Rattle.certificate.specs.Counts.{breaks_told}
 use Rattle.certificate.specs.Reading.{IsLineAfterGiven, IsFromLine, IsLineBeingRead, IsLineReached, IsToldIn}
 use Rattle.certificate.specs.Reading.{IsAnswerIn, IsBetween, IsTextCause, IsOfText, HasTextCauses}
-use Rattle.certificate.proofs.FileLemmas.{IsUnbroken, unbroken-before, unbroken-all, unbroken-front}
+use Rattle.certificate.proofs.FileLemmas.{unbroken-before, unbroken-all, unbroken-front}
+use Rattle.lines.proofs.JsonLemmas.{IsUnbroken}
 use Rattle.certificate.proofs.FileLemmas.{window-parts, rest_says-line, rest_says-end, rest_says-long}
 use Rattle.certificate.proofs.FileLemmas.{said_later}
 
@@ -62,7 +63,7 @@ from_next n bytes line rest all from =
           ∙ sym (append_assoc front (10 ∷ []) rest);
     }
 
--- so many line feeds are left
+-- this many line feeds are left
 pub from_feeds : (n : ℕ) (bytes rest : List ℕ) → IsFromLine n bytes rest
     → n + line_feeds rest ≡ line_feeds bytes + 1
 from_feeds n bytes rest from =

@@ -1,4 +1,4 @@
--- Room for records behind others.
+-- Room for records after others.
 use Rattle.std.proofs.Common.{◌≡◌, ℕ, ◌+◌, ◌<◌, ◌≤◌, Bool, List, [], ◌∷◌, ◌++◌, length, Ok, Err, true, false}
 use Rattle.std.proofs.Common.{cond, arith, refl, sym, ap, append_assoc, append-nil, length-append}
 use Rattle.std.specs.Prelude.{All, is_some}
@@ -10,10 +10,10 @@ use Rattle.ompt_events.specs.declared.records.Record.{Record}
 use Rattle.ompt_events.specs.Records.{made}
 use Rattle.ompt_events.specs.Limits.{max_records, max_tasks}
 use Rattle.ompt_events.specs.Traces.{TraceView, IsSoundIn, HasItsTurns, IsInRange, IsSound, tasks_in}
-use Rattle.certificate.specs.declared.faults.ReadCause.TheVariants.{Limit}
+use Rattle.lines.specs.declared.cause.ReadCause.TheVariants.{Limit}
 use Rattle.certificate.specs.Files.{has_room, with_record}
 use Rattle.certificate.specs.Keeping.{IsTraceKept, HaveRoom}
-use Rattle.certificate.proofs.RecordLemmas.{ok_not_err, both-first}
+use Rattle.lines.proofs.RecordLemmas.{ok_not_err, both-first}
 
 -- one record more, where all are few enough
 has_room-few : (before rs : List Record) (r : Record) → length (before ++ (r ∷ rs)) ≤ max_records
@@ -34,7 +34,7 @@ HaveRoom-few before (r ∷ rs) few tasks =
     let same : (before ++ r ∷ []) ++ rs ≡ before ++ (r ∷ rs) = append_assoc before (r ∷ []) rs in
     (has_room-few before rs r few tasks, HaveRoom-few (before ++ r ∷ []) rs (rw same few) (rw same tasks))
 
--- one record more behind those that have room
+-- one record more after those that have room
 pub HaveRoom-push : (before rs : List Record) (r : Record) → HaveRoom before rs
     → has_room (before ++ rs) r ≡ true → HaveRoom before (rs ++ r ∷ [])
 HaveRoom-push before [] r have room = (rw (append-nil before) at room, tt)

@@ -10,16 +10,16 @@ use Rattle.scripts.specs.declared.script.Step.{Step}
 use Rattle.scripts.specs.declared.fault.ScriptFault.{ScriptFault}
 use Rattle.scripts.specs.declared.fault.ScriptFault.TheVariants as fault
 use Rattle.scripts.specs.Scripts.{may_follow, is_full, step_of, step_fault}
-use Rattle.certificate.specs.declared.faults.ReadCause.{ReadCause}
-use Rattle.certificate.specs.declared.faults.ReadCause.TheVariants.{Memory, Header, NotJson, Field, Limit}
-use Rattle.certificate.specs.declared.step_lines.SaidStep.{SaidStep}
-use Rattle.certificate.specs.RecordLines.{value_of}
-use Rattle.certificate.specs.StepLines.{step, step_said}
+use Rattle.lines.specs.declared.cause.ReadCause.{ReadCause}
+use Rattle.lines.specs.declared.cause.ReadCause.TheVariants.{Memory, Header, NotJson, Field, Limit}
+use Rattle.lines.specs.declared.step_lines.SaidStep.{SaidStep}
+use Rattle.lines.specs.RecordLines.{value_of}
+use Rattle.lines.specs.StepLines.{step, step_said}
 use Rattle.certificate.specs.Reading.{Grows, IsTextCause, HasTextCauses}
 use Rattle.certificate.specs.ScriptFiles.{scripts, script_adds, script_header_says, script_name, no_steps}
-use Rattle.certificate.specs.RecordLines.{version_in}
+use Rattle.lines.specs.RecordLines.{version_in}
 use Rattle.certificate.specs.ScriptFiles.{with_step, is_within, cause_of}
-use Rattle.certificate.proofs.RecordLemmas.{ok_not_err}
+use Rattle.lines.proofs.RecordLemmas.{ok_not_err}
 use Rattle.certificate.proofs.TraceLemmas.{same_cause}
 
 -- ---- the causes of a line

@@ -7,23 +7,23 @@ use Rattle.ompt_events.specs.declared.records.Record.{Record}
 use Rattle.ompt_events.specs.Traces.{TraceView}
 use Rattle.ompt_events.specs.Limits.{max_records}
 use Rattle.serde_json.specs.Data.{Data}
-use Rattle.certificate.specs.declared.faults.ReadCause.{ReadCause}
-use Rattle.certificate.specs.declared.faults.ReadCause.TheVariants.{Device, Memory, Header, LineTooLong}
-use Rattle.certificate.specs.declared.faults.ReadCause.TheVariants.{NotJson, Field, Limit, Unended}
-use Rattle.certificate.specs.declared.faults.ReadCause.TheVariants.{TurnsSpent}
+use Rattle.lines.specs.declared.cause.ReadCause.{ReadCause}
+use Rattle.lines.specs.declared.cause.ReadCause.TheVariants.{Device, Memory, Header, LineTooLong}
+use Rattle.lines.specs.declared.cause.ReadCause.TheVariants.{NotJson, Field, Limit, Unended}
+use Rattle.lines.specs.declared.cause.ReadCause.TheVariants.{TurnsSpent}
 use Rattle.certificate.specs.declared.faults.ReadFault.{ReadFault}
-use Rattle.certificate.specs.RecordLines.{line_says, header_says, said_of, value_of, names_format}
-use Rattle.certificate.specs.RecordLines.{format_name}
-use Rattle.certificate.specs.RecordLines.{version_read, version_in, bounded, record_fits, unbounded}
+use Rattle.lines.specs.RecordLines.{line_says, header_says, said_of, value_of, names_format}
+use Rattle.lines.specs.RecordLines.{format_name}
+use Rattle.lines.specs.RecordLines.{version_read, version_in, bounded, record_fits, unbounded}
 use Rattle.certificate.specs.Files.{file_says_to, text_adds, traces, with_record, with_header, has_room}
 use Rattle.std.proofs.lemmas.Bool.{ltb-true, leb-true, cases_lt}
 use Rattle.std.proofs.lemmas.Option.{none-some, option_and_then_some}
-use Rattle.certificate.specs.Members.{whole}
-use Rattle.certificate.specs.MemberNames as member
+use Rattle.lines.specs.Members.{whole}
+use Rattle.lines.specs.MemberNames as member
 use Rattle.certificate.specs.Reading.{IsToldIn, IsToldRightlyTo, IsAnswerIn, IsAnswerTo, Grows, IsTextCause}
 use Rattle.certificate.specs.Reading.{HasTextCauses}
 use Rattle.certificate.proofs.LawLemmas.{faultless-before}
-use Rattle.certificate.proofs.RecordLemmas.{ok_not_err, both-first, both-second}
+use Rattle.lines.proofs.RecordLemmas.{ok_not_err, both-first, both-second}
 
 -- ---- causes
 
@@ -72,7 +72,7 @@ traces-text_causes newest n before line e h =
       | false ↦ λ later. with_record-cause before.version before (value_of line) e later
     ] h
 
--- ---- what is told of a trace file
+-- ---- what is reported of a trace file
 
 pub IsToldRightlyTo-from : (newest : ℕ) (e : ReadCause) (n : ℕ) (bytes : List ℕ) (left : Option (List ℕ))
     → IsToldIn (traces newest) e n bytes left → IsToldRightlyTo newest e n bytes left

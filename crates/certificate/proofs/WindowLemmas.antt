@@ -44,7 +44,7 @@ slice_range-parts xs n e le =
     let whole : n + (e - n) ≡ e = omega arith in
     ap (slice_range xs 0) (sym whole) ∙ slice_range-more xs 0 n (e - n) (omega arith)
 
--- behind the same front
+-- after the same front
 pub slice_range-same_front : (xs ys : List ℕ) (s e : ℕ) → s ≤ e → take e ys ≡ take e xs
     → slice_range ys s e ≡ slice_range xs s e
 slice_range-same_front xs ys s e le same =
@@ -80,7 +80,7 @@ IsFirstByte-none xs s e window k low high passes =
     window.no_line_feed (s + k) (omega arith) (omega arith)
     (sym (get_or-slice_range xs s e k within) ∙ eqb-true _ _ passes)
 
--- the first line feed behind a stretch that has none
+-- the first line feed after a stretch that has none
 pub IsFirstByte-behind : (xs : List ℕ) (s m e at : ℕ) → IsWindow xs s m e
     → IsFirstByte (is_byte 10) (slice_range xs m e) (Some at)
     → IsFirstByte (is_byte 10) (slice_range xs s e) (Some (m - s + at))

@@ -7,7 +7,8 @@ use Rattle.std.proofs.lemmas.List.{map-append, take_more, take_all, take-append-
 use Rattle.std.specs.Prelude.{OnErr}
 use Rattle.std.specs.Io.KnownBytes.{Appends}
 use Rattle.ompt_events.specs.declared.records.Record.{Record}
-use Rattle.certificate.specs.Texts.{ended_lines, header_line, line_of}
+use Rattle.lines.specs.Texts.{header_line, line_of}
+use Rattle.certificate.specs.TraceTexts.{ended_lines}
 use Rattle.std.proofs.Math.Seq.{take-add, take-append_seam}
 
 pub Appends-none : (a : Option (List ℕ)) → Appends a a []
@@ -24,7 +25,7 @@ Appends-more (Some xs) (Some ys) (Some zs) bytes at n first next =
     ∙ append_assoc xs (take at bytes) (take n (drop at bytes))
     ∙ ap (λ l. xs ++ l) (sym (take-add at n bytes))
 
--- bytes behind bytes
+-- bytes after bytes
 pub Appends-both : (a b c : Option (List ℕ)) (xs ys : List ℕ) → Appends a b xs → Appends b c ys
     → Appends a c (xs ++ ys)
 Appends-both None b c xs ys first next = tt

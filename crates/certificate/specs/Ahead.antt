@@ -4,10 +4,11 @@ use Rattle.std.specs.Prelude.{Option, None, Result, Ok, Err, IfErr, IfSome, OnOk
 use Rattle.std.specs.Result.{result_err}
 use Rattle.std.specs.Io.KnownBytes.{Keeps, IsAtEnd, prepend_known}
 use Rattle.ompt_events.specs.Limits.{max_records}
-use Rattle.certificate.specs.declared.faults.ReadCause.{ReadCause}
+use Rattle.lines.specs.declared.cause.ReadCause.{ReadCause}
 use Rattle.certificate.specs.declared.ahead.Ahead.{Ahead}
 use Rattle.certificate.specs.declared.pieces.Piece.{Piece}
-use Rattle.certificate.specs.Limits.{max_line, max_turns, newest_version}
+use Rattle.certificate.specs.Limits.{max_turns, newest_version}
+use Rattle.lines.specs.Limits.{max_line}
 use Rattle.certificate.specs.Counts.{TakesTurns, breaks_told}
 use Rattle.certificate.specs.Formats.{line_feeds, said}
 use Rattle.certificate.specs.Files.{no_trace, traces}
@@ -17,7 +18,7 @@ use Rattle.certificate.specs.Blocks.{BlockView, IsFillFault}
 use Rattle.certificate.specs.ReadingOn.{IsBetweenLines, IsToldWithin, IsJudgedUpTo, IsLineCounted}
 use Rattle.certificate.specs.ReadingOn.{IsLineFault}
 
--- nothing was read, and so many bytes may wait
+-- nothing was read, and the block has room for this many bytes
 pub record IsFirst (room : ℕ) (ahead : Ahead) : Type 0 where
   pub line : ahead.line ≡ 1
   pub kept : ahead.kept ≡ no_trace
@@ -38,7 +39,7 @@ pub record AreJudgedOf (version : ℕ) (pieces : List Piece) (bytes : List ℕ) 
   pub none : pieces ≡ [] → bytes ≡ []
   pub some : 0 < length pieces → 0 < line_feeds bytes
 
--- the header was taken, and one record is kept for each line behind it that was added
+-- the header was taken, and one record is kept for each line after it that was added
 pub record IsInHand (ahead : Ahead) : Type 0 where
   pub low : 2 ≤ ahead.line
   pub high : ahead.line ≤ max_records + 2
@@ -47,12 +48,12 @@ pub record IsInHand (ahead : Ahead) : Type 0 where
   pub pending : ArePending ahead.kept.version ahead.pieces.items
   pub met : IfErr ahead.filled IsFillFault
 
--- where the source is asked, it may give more and has turns left
+-- where the source is read again, it may give more and has turns left
 abbrev pub CanAsk : Ahead → Type 0
 CanAsk ahead = ahead.asks ≡ true → (ahead.filled ≡ Ok true) × (ahead.turns ≤ max_turns)
 
--- between two rounds: whole lines stand in front, and no line feed follows them. Where the source may give
--- more and is not asked, the line that waits is too long
+-- between two rounds: whole lines are in front, and no line feed follows them. Where the source may give
+-- more and is not read again, the line there is too long
 pub record IsRoundReady (front : BlockView) (ahead : Ahead) : Type 0 where
   pub in_hand : IsInHand ahead
   pub can_ask : CanAsk ahead
@@ -62,7 +63,7 @@ pub record IsRoundReady (front : BlockView) (ahead : Ahead) : Type 0 where
   pub long : max_line < front.limit
   pub rests : ahead.asks ≡ false → ahead.filled ≡ Ok true → max_line < length ahead.block.waiting
 
--- what waits: the pieces that were judged, these bytes, and those of the block behind them
+-- what is left: the pieces that were judged, these bytes, and those of the block after them
 pub record Waits (known left : Option (List ℕ)) (room : ℕ) (front : List ℕ) (ahead : Ahead) : Type 0 where
   pub bytes : List ℕ
   pub judged : AreJudged ahead.kept.version ahead.pieces.items bytes
@@ -128,7 +129,7 @@ pub record ArePiecesAdded (result : Result (Unit {0}) ReadCause) (old new : Ahea
   pub version : OnOk result (new.kept.version ≡ old.kept.version)
   pub fault : IfErr result IsLineFault
 
--- the block was filled, where the source is asked
+-- the block was filled, where the source is read again
 pub record IsRefilled (old new : Ahead) (left left' : Option (List ℕ)) : Type 0 where
   pub lines : SameLines old new
   pub asks : new.asks ≡ old.asks

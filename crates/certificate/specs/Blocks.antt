@@ -1,17 +1,17 @@
 -- What holds of a block of bytes, and of the bytes of its whole lines.
 use Rattle.std.specs.Prelude.{◌≡◌, ℕ, ◌≤◌, List, [], ◌∷◌, length, take, drop, slice_range, None}
-use Rattle.certificate.specs.declared.faults.ReadCause.{ReadCause}
-use Rattle.certificate.specs.declared.faults.ReadCause.TheVariants.{Device, Memory, TurnsSpent}
+use Rattle.lines.specs.declared.cause.ReadCause.{ReadCause}
+use Rattle.lines.specs.declared.cause.ReadCause.TheVariants.{Device, Memory, TurnsSpent}
 use Rattle.certificate.specs.Windows.{LineFeedAt}
 use Rattle.certificate.specs.Pieces.{IsWholeLines}
 
--- bytes that wait, how many are free behind them, and how many may wait
+-- the bytes of a block, how many are free after them, and how many it may have
 pub record BlockView : Type 0 where
   pub waiting : List ℕ
   pub free : ℕ
   pub limit : ℕ
 
--- the bytes up to end wait, of so many
+-- the bytes up to end are in the block, of at most this many
 pub record IsBlock (size end limit : ℕ) : Type 0 where
   pub within : end ≤ size
   pub few : size ≤ limit
@@ -23,7 +23,7 @@ IsFillFault TurnsSpent = Unit {0}
 IsFillFault Memory = Unit {0}
 IsFillFault _ = ⊥
 
--- so many bytes are those of whole lines, and no line feed follows
+-- this many bytes are those of whole lines, and no line feed follows
 pub record AreWholeLines (count : ℕ) (bytes : List ℕ) : Type 0 where
   pub within : count ≤ length bytes
   pub whole : IsWholeLines (take count bytes)
@@ -35,7 +35,7 @@ pub record IsPiece (bytes : List ℕ) (start end : ℕ) : Type 0 where
   pub high : end ≤ length bytes
   pub whole : IsWholeLines (slice_range bytes start end)
 
--- one piece behind another, each from where the one before it ends
+-- one piece after another, each from where the one before it ends
 abbrev pub ArePieces : List ℕ → ℕ → List ℕ → ℕ → Type 0
 ArePieces bytes start [] end = start ≡ end
 ArePieces bytes start (cut ∷ cuts) end = IsPiece bytes start cut × ArePieces bytes cut cuts end

@@ -5,8 +5,8 @@ use Rattle.certificate.specs.Limits.{max_turns}
 use Rattle.certificate.specs.declared.device.DeviceFault.{DeviceFault}
 use Rattle.certificate.specs.declared.device.DeviceFault.TheVariants.{Again, Broken}
 use Rattle.certificate.specs.declared.faults.ReadFault.{ReadFault}
-use Rattle.certificate.specs.declared.faults.ReadCause.{ReadCause}
-use Rattle.certificate.specs.declared.faults.ReadCause.TheVariants.{Device, TurnsSpent}
+use Rattle.lines.specs.declared.cause.ReadCause.{ReadCause}
+use Rattle.lines.specs.declared.cause.ReadCause.TheVariants.{Device, TurnsSpent}
 use Rattle.certificate.specs.declared.faults.WriteFault.{WriteFault}
 use Rattle.certificate.specs.declared.faults.WriteFault.TheVariants as write
 
@@ -38,13 +38,13 @@ stalls_after offered (Ok n) count = if n == 0 && nat_lt 0 offered then next_coun
 stalls_after offered (Err Again) count = next_count count
 stalls_after offered (Err Broken) count = count
 
--- the counter of the answers `Broken`, after a call of `read` that ends so: only `Device` tells of one
+-- the counter of the answers `Broken`, after a call of `read` that ends so: only `Device` reports one
 abbrev pub breaks_told : Option ReadCause → ℕ → ℕ
 breaks_told None count = count
 breaks_told (Some Device) count = next_count count
 breaks_told (Some _) count = count
 
--- the cause that a call of `read` told
+-- the cause that a call of `read` reported
 abbrev pub cause_told : {X : Type 0} → Result X ReadFault → Option ReadCause
 cause_told (Ok x) = None
 cause_told (Err fault) = Some fault.cause

@@ -9,11 +9,11 @@ use Rattle.ompt_events.specs.declared.records.Record.{Record}
 use Rattle.ompt_events.specs.Records.{made}
 use Rattle.ompt_events.specs.Limits.{max_records, max_tasks}
 use Rattle.ompt_events.specs.Traces.{TraceView, tasks_in}
-use Rattle.certificate.specs.declared.faults.ReadCause.{ReadCause}
-use Rattle.certificate.specs.declared.faults.ReadCause.TheVariants.{Limit}
+use Rattle.lines.specs.declared.cause.ReadCause.{ReadCause}
+use Rattle.lines.specs.declared.cause.ReadCause.TheVariants.{Limit}
 use Rattle.certificate.specs.declared.faults.ReadFault.{ReadFault}
 use Rattle.certificate.specs.Limits.{newest_version}
-use Rattle.certificate.specs.RecordLines.{line_says, header_says}
+use Rattle.lines.specs.RecordLines.{line_says, header_says}
 use Rattle.certificate.specs.Formats.{Format, cut, line_adds, end_adds, said}
 
 -- whether a trace of these records may have one more
@@ -38,7 +38,7 @@ abbrev pub with_header : Result ℕ ReadCause → Result TraceView ReadCause
 with_header (Err cause) = Err cause
 with_header (Ok version) = Ok (record { version = version; records = [] })
 
--- the trace after the line of number n, which is not too long, when this one stands before it
+-- the trace after the line of number n, which is not too long, when this one comes before it
 abbrev pub text_adds : ℕ → ℕ → TraceView → List ℕ → Result TraceView ReadCause
 text_adds newest n before line =
     if n == 1 then with_header (header_says newest line)

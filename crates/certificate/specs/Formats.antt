@@ -2,10 +2,10 @@
 -- of lines, whatever its lines add to.
 use Rattle.std.specs.Prelude.{ℕ, ◌+◌, ◌==◌, Bool, List, [], ◌∷◌, length, Result, Ok, Err, count_by, nat_lt}
 use Rattle.std.specs.Prelude.{if◌then◌else◌}
-use Rattle.certificate.specs.declared.faults.ReadCause.{ReadCause}
-use Rattle.certificate.specs.declared.faults.ReadCause.TheVariants.{Header, LineTooLong, Unended}
+use Rattle.lines.specs.declared.cause.ReadCause.{ReadCause}
+use Rattle.lines.specs.declared.cause.ReadCause.TheVariants.{Header, LineTooLong, Unended}
 use Rattle.certificate.specs.declared.faults.ReadFault.{ReadFault}
-use Rattle.certificate.specs.Limits.{max_line}
+use Rattle.lines.specs.Limits.{max_line}
 
 -- the lines that a line feed ends, without it, and the bytes after the last one
 pub record Cut : Type 0 where
@@ -35,8 +35,8 @@ is_long line = nat_lt max_line (length line)
 abbrev pub fault_in : ℕ → ReadCause → ReadFault
 fault_in n cause = record { line = n; cause = cause }
 
--- what stands before any line, and what the text of the line of a number, which is not too long, makes of
--- what stands before it
+-- what comes before any line, and what the text of the line of a number, which is not too long, makes of
+-- what comes before it
 pub record Format (X : Type 0) : Type 0 where
   pub first : X
   pub adds : ℕ → X → List ℕ → Result X ReadCause
@@ -58,7 +58,7 @@ abbrev pub go_on : {X : Type 0} → ℕ → Result X ReadCause → (X → Result
 go_on n (Err cause) next = Err (fault_in n cause)
 go_on n (Ok after) next = next after
 
--- what the lines from number n on stand for, when this stands before them
+-- what the lines from number n on stand for, when this comes before them
 unfoldable pub from_line : {X : Type 0} → Format X → ℕ → X → List (List ℕ) → List ℕ → Result X ReadFault
 from_line format n before [] rest = go_on n (end_adds n before rest) Ok
 from_line format n before (line ∷ lines) rest =

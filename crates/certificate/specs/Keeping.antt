@@ -2,8 +2,8 @@
 use Rattle.std.specs.Prelude.{ℕ, ◌≡◌, ◌++◌, List, [], ◌∷◌, length, true, false, Option, Some, None}
 use Rattle.ompt_events.specs.declared.records.Record.{Record}
 use Rattle.ompt_events.specs.Traces.{TraceView, IsTraceOf, tasks_in}
-use Rattle.certificate.specs.declared.faults.ReadCause.{ReadCause}
-use Rattle.certificate.specs.declared.faults.ReadCause.TheVariants.{Memory, Limit}
+use Rattle.lines.specs.declared.cause.ReadCause.{ReadCause}
+use Rattle.lines.specs.declared.cause.ReadCause.TheVariants.{Memory, Limit}
 use Rattle.certificate.specs.Files.{has_room}
 
 -- a trace of this version, with the number of tasks that it makes
@@ -11,12 +11,12 @@ pub record IsTraceKept (version : ℕ) (rs : List Record) (tasks : ℕ) : Type 0
   pub trace : IsTraceOf version rs
   pub counted : tasks ≡ tasks_in rs
 
--- there is room for each of these records, behind those before it
+-- there is room for each of these records, after those before it
 abbrev pub HaveRoom : List Record → List Record → Type 0
 HaveRoom before [] = Unit {0}
 HaveRoom before (r ∷ rs) = (has_room before r ≡ true) × HaveRoom (before ++ r ∷ []) rs
 
--- why none of these records is kept behind those: there is none, no memory was found, or the first has no
+-- why none of these records is kept after those: there is none, memory ran out, or the first has no
 -- room
 abbrev pub IsWhyNot : Option ReadCause → List Record → List Record → Type 0
 IsWhyNot None before rest = rest ≡ []
@@ -25,7 +25,7 @@ IsWhyNot (Some Limit) before rest =
     (r : Record) × (later : List Record) × (rest ≡ r ∷ later) × (has_room before r ≡ false)
 IsWhyNot _ before rest = ⊥
 
--- of these records the first ones, so many, are kept behind those of a trace, and this is why no more
+-- of these records the first ones, this many, are kept after those of a trace, and this is why no more
 pub record KeepsFirst (old : TraceView) (rs : List Record) (count : ℕ) (why : Option ReadCause)
     (new : TraceView) : Type 0 where
   pub first : List Record

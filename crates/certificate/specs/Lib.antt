@@ -1,23 +1,13 @@
--- The trace file. Read first what a file stands for: `Files`, over `RecordLines` and `Members` for a line and
--- `Formats` for line after line, and `Texts` for the text of a trace; then what a call of `read` and of
--- `write` answers: `Reading`, `Counts`, `Answers`; of `read_on`: `ReadingOn` and `Ahead`,
+-- The trace file. Read first what a file stands for: `Files`, over `Formats` for line after line, and `TraceTexts`
+-- for the text of a trace; then what a call of `read` and of `write` answers: `Reading`, `Counts`, `Answers`; of `read_on`: `ReadingOn` and `Ahead`,
 -- over `Pieces` and `Blocks`; of `upgrade`: `Upgrading`.
 pub mod Limits
 pub mod Counts
 pub mod Windows
 pub mod FaultNames
-pub mod MemberNames
-pub mod CallbackNames
-pub mod Members
-pub mod Meanings
-pub mod RecordLines
-pub mod LooseBodies
-pub mod StepLines
-pub mod Texts
-pub mod PlainData
-pub mod Objects
 pub mod Formats
 pub mod Files
+pub mod TraceTexts
 pub mod Keeping
 pub mod ScriptFiles
 pub mod Reading

@@ -1,10 +1,5 @@
--- How long a line is, how often a device may ask for another turn, and which versions of the format the
--- program reads.
+-- How often a device may ask for another turn, and which versions of the format the program reads.
 use Rattle.std.specs.Prelude.{ℕ}
-
--- bytes of a line, its line feed not counted
-abbrev pub max_line : ℕ
-max_line = 65536
 
 -- turns of one call; the next one ends it
 abbrev pub max_turns : ℕ

@@ -1,4 +1,4 @@
--- What a piece of a file stands for: whole lines behind the header, judged with no count of what stands
+-- What a piece of a file stands for: whole lines after the header, judged without counts of what is
 -- before them.
 use Rattle.std.specs.Prelude.{ℕ, ◌≡◌, ◌≢◌, ◌≤◌, ◌<◌, ◌+◌, ◌⊎◌, false, ◌==◌, List, [], ◌∷◌, ◌++◌, length, drop}
 use Rattle.std.specs.Prelude.{Option, Some, None, Result, Ok, Err, All, is_some, if◌then◌else◌}
@@ -6,11 +6,11 @@ use Rattle.std.specs.List.{AllByRecursion}
 use Rattle.ompt_events.specs.declared.records.Record.{Record}
 use Rattle.ompt_events.specs.Records.{made}
 use Rattle.ompt_events.specs.Traces.{IsInRange, tasks_in}
-use Rattle.certificate.specs.declared.faults.ReadCause.{ReadCause}
-use Rattle.certificate.specs.declared.faults.ReadCause.TheVariants.{LineTooLong, Memory}
+use Rattle.lines.specs.declared.cause.ReadCause.{ReadCause}
+use Rattle.lines.specs.declared.cause.ReadCause.TheVariants.{LineTooLong, Memory}
 use Rattle.certificate.specs.declared.pieces.Piece.{Piece}
-use Rattle.certificate.specs.Limits.{max_line}
-use Rattle.certificate.specs.RecordLines.{line_says}
+use Rattle.lines.specs.Limits.{max_line}
+use Rattle.lines.specs.RecordLines.{line_says}
 
 -- no byte is a line feed
 abbrev pub HasNoLineFeed : List ℕ → Type 0
@@ -20,7 +20,7 @@ HasNoLineFeed bytes = AllByRecursion (λ b. (b == 10) ≡ false) bytes
 abbrev pub IsWholeLines : List ℕ → Type 0
 IsWholeLines bytes = (bytes ≡ []) ⊎ ((front : List ℕ) × (bytes ≡ front ++ 10 ∷ []))
 
--- the bytes begin with a line that is not too long, and behind its line feed these follow
+-- the bytes begin with a line that is not too long, and after its line feed come these
 pub record BeginsWith (line later bytes : List ℕ) : Type 0 where
   pub unbroken : HasNoLineFeed line
   pub short : length line ≤ max_line
@@ -32,7 +32,7 @@ pub record BeginsWithRecord (version : ℕ) (r : Record) (later bytes : List ℕ
   pub begins : BeginsWith line later bytes
   pub says : line_says version line ≡ Ok r
 
--- the bytes begin with lines that stand for these records, and behind them these follow
+-- the bytes begin with lines that stand for these records, and after them come these
 abbrev pub BeginsWithRecords : ℕ → List Record → List ℕ → List ℕ → Type 0
 BeginsWithRecords version [] later bytes = bytes ≡ later
 BeginsWithRecords version (r ∷ rs) later bytes =
@@ -53,7 +53,7 @@ pub record BeginsWithFault (version : ℕ) (cause : ReadCause) (bytes : List ℕ
   pub begins : BeginsWith line later bytes
   pub says : line_says version line ≡ Err cause
 
--- why the first line of the bytes gives no record: no memory was found, it is too long, or what it says
+-- why the first line of the bytes gives no record: memory ran out, it is too long, or what it says
 abbrev pub IsFaultOf : ℕ → ReadCause → List ℕ → Type 0
 IsFaultOf version Memory bytes = Unit {0}
 IsFaultOf version LineTooLong bytes = BeginsTooLong bytes
@@ -97,7 +97,7 @@ TakesLine version bytes old (Ok len) new =
     × (len ≤ length bytes)
 TakesLine version bytes old (Err cause) new = IsFaultOf version cause bytes × SamePiece old new
 
--- the bytes are those of these pieces, one behind another
+-- the bytes are those of these pieces, one after another
 abbrev pub AreJudged : ℕ → List Piece → List ℕ → Type 0
 AreJudged version [] bytes = bytes ≡ []
 AreJudged version (piece ∷ pieces) bytes =

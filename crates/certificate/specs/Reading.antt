@@ -1,13 +1,14 @@
--- What a reader answers on a source that tells its bytes.
+-- What a reader answers on a source whose bytes are known.
 use Rattle.std.specs.Prelude.{ℕ, ◌≡◌, ◌≢◌, ◌⊎◌, ◌+◌, ◌*◌, ◌≤◌, ◌<◌, ◌==◌, Bool, true, false, List, [], ◌∷◌}
 use Rattle.std.specs.Prelude.{◌++◌, length, Option, Some, None, Result, Ok, Err, IfSome, if◌then◌else◌}
 use Rattle.ompt_events.specs.Limits.{max_records}
 use Rattle.ompt_events.specs.Traces.{TraceView}
-use Rattle.certificate.specs.declared.faults.ReadCause.{ReadCause}
-use Rattle.certificate.specs.declared.faults.ReadCause.TheVariants.{Device, Memory, Header, NotJson, Field}
-use Rattle.certificate.specs.declared.faults.ReadCause.TheVariants.{Limit, TurnsSpent}
+use Rattle.lines.specs.declared.cause.ReadCause.{ReadCause}
+use Rattle.lines.specs.declared.cause.ReadCause.TheVariants.{Device, Memory, Header, NotJson, Field}
+use Rattle.lines.specs.declared.cause.ReadCause.TheVariants.{Limit, TurnsSpent}
 use Rattle.certificate.specs.declared.faults.ReadFault.{ReadFault}
-use Rattle.certificate.specs.Limits.{max_line, newest_version}
+use Rattle.certificate.specs.Limits.{newest_version}
+use Rattle.lines.specs.Limits.{max_line}
 use Rattle.certificate.specs.Formats.{Format, said, rest_says, fault_in, line_feeds}
 use Rattle.certificate.specs.Files.{file_says_to, IsFaultlessBefore}
 
@@ -27,7 +28,7 @@ pub record IsFromLine (n : ℕ) (bytes rest : List ℕ) : Type 0 where
   pub lines : AreLinesBefore n before
   pub parts : bytes ≡ before ++ rest
 
--- the line of number n is being read: behind the lines before it at most as many bytes were given as two of
+-- the line of number n is being read: after the lines before it at most as many bytes were given as two of
 -- the longest lines have, and among them this line with its line feed; or nothing was given yet
 pub record IsBeingRead (n : ℕ) (bytes left : List ℕ) : Type 0 where
   pub waiting : List ℕ
@@ -40,25 +41,25 @@ abbrev pub IsLineBeingRead : ℕ → List ℕ → Option (List ℕ) → Type 0
 IsLineBeingRead n bytes None = ⊥
 IsLineBeingRead n bytes (Some left) = IsBeingRead n bytes left
 
--- ---- what is told of a file of any format
+-- ---- what is reported of a file of any format
 
 -- no line before the one of number n has a fault: the file stands for what its bytes from that line on stand
--- for, behind what the lines before it stand for
+-- for, after what the lines before it stand for
 pub record IsLineReached {X : Type 0} (format : Format X) (n : ℕ) (bytes : List ℕ) : Type 0 where
   pub before : X
   pub rest : List ℕ
   pub begins : IsFromLine n bytes rest
   pub says : said format bytes ≡ rest_says format n before rest
 
--- a fault that is told in the line of number n is that of the file, or one of the device or of memory while
--- that line was read, and then no line before it has a fault
+-- a fault that is reported in the line of number n is that of the file, or one of the device or of memory
+-- while that line was read, and then no line before it has a fault
 abbrev pub IsToldIn : {X : Type 0} → Format X → ReadCause → ℕ → List ℕ → Option (List ℕ) → Type 0
 IsToldIn format Device n bytes left = IsLineAfterGiven n bytes left × IsLineReached format n bytes
 IsToldIn format TurnsSpent n bytes left = IsLineAfterGiven n bytes left × IsLineReached format n bytes
 IsToldIn format Memory n bytes left = IsLineBeingRead n bytes left × IsLineReached format n bytes
 IsToldIn format cause n bytes left = said format bytes ≡ Err (fault_in n cause)
 
--- the answer is what the bytes stand for, or a fault that is told rightly
+-- the answer is what the bytes stand for, or a fault that is reported rightly
 abbrev pub IsAnswerIn : {X : Type 0} → Format X → Result X ReadFault → List ℕ → Option (List ℕ) → Type 0
 IsAnswerIn format (Ok x) bytes left = said format bytes ≡ Ok x
 IsAnswerIn format (Err fault) bytes left = IsToldIn format fault.cause fault.line bytes left
@@ -89,7 +90,7 @@ IsTextCause Field = Unit {0}
 IsTextCause Limit = Unit {0}
 IsTextCause _ = ⊥
 
--- the same, or that no memory was found for the line
+-- the same, or that memory ran out for the line
 abbrev pub IsOfText : ReadCause → Type 0
 IsOfText Memory = Unit {0}
 IsOfText cause = IsTextCause cause
@@ -99,7 +100,7 @@ abbrev pub HasTextCauses : {X : Type 0} → Format X → Type 0
 HasTextCauses {X} format =
     (n : ℕ) (before : X) (line : List ℕ) (e : ReadCause) → Err e ≡ format.adds n before line → IsTextCause e
 
--- ---- what is told of a trace file
+-- ---- what is reported of a trace file
 
 -- the same as `IsToldIn` of a trace file of at most the newest version, in the words of `Files`
 abbrev pub IsToldRightlyTo : ℕ → ReadCause → ℕ → List ℕ → Option (List ℕ) → Type 0
@@ -111,7 +112,7 @@ IsToldRightlyTo newest Memory n bytes left =
     IsLineBeingRead n bytes left × IsFaultlessBefore newest n bytes
 IsToldRightlyTo newest cause n bytes left = file_says_to newest bytes ≡ Err (fault_in n cause)
 
--- the answer is the trace that the bytes stand for, or a fault that is told rightly
+-- the answer is the trace that the bytes stand for, or a fault that is reported rightly
 abbrev pub IsAnswerTo : ℕ → Result TraceView ReadFault → List ℕ → Option (List ℕ) → Type 0
 IsAnswerTo newest (Ok trace) bytes left = file_says_to newest bytes ≡ Ok trace
 IsAnswerTo newest (Err fault) bytes left = IsToldRightlyTo newest fault.cause fault.line bytes left

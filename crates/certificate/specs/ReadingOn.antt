@@ -2,10 +2,11 @@
 use Rattle.std.specs.Prelude.{ℕ, ◌≡◌, ◌+◌, ◌-◌, ◌*◌, ◌≤◌, ◌^◌, List, length, ◌++◌, Option, Some, None, Result}
 use Rattle.std.specs.Prelude.{Ok, Err, IfSome}
 use Rattle.ompt_events.specs.Traces.{TraceView}
-use Rattle.certificate.specs.declared.faults.ReadCause.{ReadCause}
-use Rattle.certificate.specs.declared.faults.ReadCause.TheVariants.{Device, Memory, TurnsSpent}
+use Rattle.lines.specs.declared.cause.ReadCause.{ReadCause}
+use Rattle.lines.specs.declared.cause.ReadCause.TheVariants.{Device, Memory, TurnsSpent}
 use Rattle.certificate.specs.declared.faults.ReadFault.{ReadFault}
-use Rattle.certificate.specs.Limits.{max_line, newest_version}
+use Rattle.certificate.specs.Limits.{newest_version}
+use Rattle.lines.specs.Limits.{max_line}
 use Rattle.certificate.specs.Counts.{TakesTurns, breaks_told}
 use Rattle.certificate.specs.Formats.{said}
 use Rattle.certificate.specs.Files.{IsFaultlessBefore, traces}
@@ -20,7 +21,7 @@ block_size = 2 ^ 21
 abbrev pub room_of : ℕ → ℕ → ℕ
 room_of workers block = workers * block + 2 * (max_line + 1)
 
--- the line of number n is being read: behind the lines before it, at most so many bytes were given
+-- the line of number n is being read: after the lines before it, at most this many bytes were given
 pub record IsBeingReadIn (room n : ℕ) (bytes left : List ℕ) : Type 0 where
   pub waiting : List ℕ
   pub begins : IsFromLine n bytes (waiting ++ left)
@@ -31,20 +32,20 @@ abbrev pub IsLineBeingReadIn : ℕ → ℕ → List ℕ → Option (List ℕ) �
 IsLineBeingReadIn room n bytes None = ⊥
 IsLineBeingReadIn room n bytes (Some left) = IsBeingReadIn room n bytes left
 
--- ---- what is told of a trace file
+-- ---- what is reported of a trace file
 
--- the same as `IsToldRightly`, but for the bytes that may wait where no memory was found
+-- the same as `IsToldRightly`, but for the bytes in the buffers where memory ran out
 abbrev pub IsToldInRoom : ℕ → ReadCause → ℕ → List ℕ → Option (List ℕ) → Type 0
 IsToldInRoom room Memory n bytes left =
     IsLineBeingReadIn room n bytes left × IsFaultlessBefore newest_version n bytes
 IsToldInRoom room cause n bytes left = IsToldRightly cause n bytes left
 
--- the answer is the trace that the bytes stand for, or a fault that is told rightly
+-- the answer is the trace that the bytes stand for, or a fault that is reported rightly
 abbrev pub IsAnswerInRoom : ℕ → Result TraceView ReadFault → List ℕ → Option (List ℕ) → Type 0
 IsAnswerInRoom room (Ok trace) bytes left = IsReadAnswer (Ok trace) bytes left
 IsAnswerInRoom room (Err fault) bytes left = IsToldInRoom room fault.cause fault.line bytes left
 
--- the same with so many workers and with blocks of this size, or of the size that `read_on` takes
+-- the same with this many workers and with blocks of this size, or of the size that `read_on` takes
 abbrev pub IsAnswerInBlocks : ℕ → ℕ → Result TraceView ReadFault → List ℕ → Option (List ℕ) → Type 0
 IsAnswerInBlocks workers block answer bytes left = IsAnswerInRoom (room_of workers block) answer bytes left
 
@@ -53,15 +54,15 @@ IsAnswerOn workers answer bytes left = IsAnswerInBlocks workers block_size answe
 
 -- ---- what the source did
 
--- what the source did is told, except where a line that it gave before is faulty: then that fault is told
+-- what the source did is reported, unless a line that it gave before is faulty: then that fault is reported
 abbrev pub IsToldAfter : Option ReadCause → Option ReadCause → Type 0
 IsToldAfter met None = met ≡ None
 IsToldAfter met (Some Device) = met ≡ Some Device
 IsToldAfter met (Some TurnsSpent) = met ≡ Some TurnsSpent
 IsToldAfter met (Some cause) = Unit {0}
 
--- what was met at a source by a reading that told this: each answer `Again` is a turn, the one after the last
--- that a call has ends the reading, and so does the first answer `Broken`
+-- what was met at a source by a reading that reported this: each answer `Again` is a turn, the one after the
+-- last that a call has ends the reading, and so does the first answer `Broken`
 pub record ReadsAhead (told : Option ReadCause) (turns turns' agains agains' breaks breaks' : ℕ) : Type 0
   where
     pub met : Option ReadCause
@@ -71,7 +72,7 @@ pub record ReadsAhead (told : Option ReadCause) (turns turns' agains agains' bre
 
 -- ---- between two lines
 
--- the same as `IsToldIn` of a trace file, but for the bytes that may wait where no memory was found
+-- the same as `IsToldIn` of a trace file, but for the bytes in the buffers where memory ran out
 abbrev pub IsToldWithin : ℕ → ReadCause → ℕ → List ℕ → Option (List ℕ) → Type 0
 IsToldWithin room Memory n bytes left =
     IsLineBeingReadIn room n bytes left × IsLineReached (traces newest_version) n bytes
@@ -99,7 +100,7 @@ IsReadToEnd (Ok _) known n kept room left =
     IfSome known (λ bytes. said (traces newest_version) bytes ≡ Ok kept)
 IsReadToEnd (Err cause) known n kept room left = IfSome known (λ bytes. IsToldWithin room cause n bytes left)
 
--- a fault that the lines have which a source gave, or that no memory was found for them
+-- a fault that the lines have which a source gave, or that memory ran out for them
 abbrev pub IsLineFault : ReadCause → Type 0
 IsLineFault Device = ⊥
 IsLineFault TurnsSpent = ⊥

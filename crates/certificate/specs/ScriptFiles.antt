@@ -6,11 +6,11 @@ use Rattle.scripts.specs.declared.script.Step.{Step}
 use Rattle.scripts.specs.declared.fault.ScriptFault.{ScriptFault}
 use Rattle.scripts.specs.declared.fault.ScriptFault.TheVariants as fault
 use Rattle.scripts.specs.Scripts.{may_follow, is_full, step_of}
-use Rattle.certificate.specs.declared.faults.ReadCause.{ReadCause}
-use Rattle.certificate.specs.declared.faults.ReadCause.TheVariants.{Memory, Field, Limit}
-use Rattle.certificate.specs.declared.step_lines.SaidStep.{SaidStep}
-use Rattle.certificate.specs.RecordLines.{value_of, version_of}
-use Rattle.certificate.specs.StepLines.{step_said}
+use Rattle.lines.specs.declared.cause.ReadCause.{ReadCause}
+use Rattle.lines.specs.declared.cause.ReadCause.TheVariants.{Memory, Field, Limit}
+use Rattle.lines.specs.declared.step_lines.SaidStep.{SaidStep}
+use Rattle.lines.specs.RecordLines.{value_of, version_of}
+use Rattle.lines.specs.StepLines.{step_said}
 use Rattle.certificate.specs.Formats.{Format}
 
 -- what the header says

@@ -1,4 +1,4 @@
--- What stands behind a source or a sink of std's, and how often it has failed.
+-- What is behind a source or a sink of std's, and how often it has failed.
 use Rattle.std.specs.Prelude.{ℕ}
 use Rattle.certificate.specs.declared.streams.FromRead.{FromRead}
 use Rattle.certificate.specs.declared.streams.ToWrite.{ToWrite}

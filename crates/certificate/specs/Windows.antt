@@ -3,9 +3,9 @@ use Rattle.std.specs.Prelude.{◌≡◌, ◌≢◌, ℕ, ◌+◌, ◌*◌, ◌�
 use Rattle.std.specs.Prelude.{None}
 use Rattle.std.specs.Io.KnownBytes.{IsAtEnd}
 use Rattle.memchr.specs.Find.{IsFirstByte, is_byte}
-use Rattle.certificate.specs.Limits.{max_line}
-use Rattle.certificate.specs.declared.faults.ReadCause.{ReadCause}
-use Rattle.certificate.specs.declared.faults.ReadCause.TheVariants.{Device, LineTooLong, Unended, TurnsSpent}
+use Rattle.lines.specs.Limits.{max_line}
+use Rattle.lines.specs.declared.cause.ReadCause.{ReadCause}
+use Rattle.lines.specs.declared.cause.ReadCause.TheVariants.{Device, LineTooLong, Unended, TurnsSpent}
 
 -- the bytes from start to end wait, and up to searched there is no line feed among them
 pub record IsWindow (bytes : List ℕ) (start searched end : ℕ) : Type 0 where
@@ -15,7 +15,7 @@ pub record IsWindow (bytes : List ℕ) (start searched end : ℕ) : Type 0 where
   pub size : length bytes ≡ 2 * (max_line + 1)
   pub no_line_feed : (k : ℕ) → start ≤ k → k < searched → slice_index bytes k ≢ 10
 
--- the next line feed stands here, or nowhere
+-- the next line feed is here, or nowhere
 abbrev pub LineFeedAt : List ℕ → Option ℕ → Type 0
 LineFeedAt = IsFirstByte (is_byte 10)
 

@@ -1,5 +1,5 @@
-//! What a reading on several workers has in hand on the thread that called it: the records that were read,
-//! the pieces that come next, and the block that is filled while others are judged.
+//! The state of a reading on several workers, on the calling thread: the records that were read, the pieces
+//! that come next, and the block that is filled while others are judged.
 ghost use Rattle.std.specs.Prelude.{◌≡◌, ◌≤◌, ◌<◌, ◌+◌, ℕ, List, Option, Ok, None, true, false, [], ◌++◌, length, IfOk, IfErr, OnOk};
 ghost use Rattle.std.specs.Result.{result_err};
 ghost use Rattle.certificate.specs.Formats.{line_feeds};
@@ -11,7 +11,7 @@ ghost use Rattle.certificate.specs.Ahead.{IsFirst, IsInHand, CanAsk, ArePiecesAd
 
 use crate::blocks::{Block, fill};
 use crate::device::Source;
-use crate::faults::ReadCause;
+use lines::ReadCause;
 use crate::kept::Kept;
 use crate::pieces::Piece;
 use crate::reading::LAST_LINE;
@@ -28,18 +28,18 @@ pub(crate) struct Ahead {
     pub(crate) kept: Kept,
     /// The pieces of the lines from there on that were judged.
     pub(crate) pieces: Vec<Piece>,
-    /// The bytes behind those that are judged now.
+    /// The bytes after those that are judged now.
     pub(crate) block: Block,
-    /// The turns that the source has taken.
+    /// How often the source was interrupted.
     pub(crate) turns: u32,
-    /// What the source answered last: whether more may come.
+    /// The last answer of the source: whether more may come.
     pub(crate) filled: Result<bool, ReadCause>,
-    /// Whether it is asked again.
+    /// Whether the source is read again.
     pub(crate) asks: bool,
 }
 
 impl Ahead {
-    /// Nothing was read yet, and at most so many bytes may wait in the block.
+    /// Returns the state before anything was read. The block has room for at most this many bytes.
     pub(crate) fn new(alloc: Global, limit: usize) -> Result<Ahead, AllocError>
         ensures { IfOk result (IsFirst limit) }
     {
@@ -54,8 +54,8 @@ impl Ahead {
         })
     }
 
-    /// Leaves whole lines in the block, and moves the bytes behind them to its own, in which none wait.
-    /// Finds out whether the source is asked again: not where it has no more, nor where a line is too long.
+    /// Leaves whole lines in the block, and moves the bytes after them to its own, which is empty.
+    /// Decides whether the source is read again: not if it has ended, nor if a line is too long.
     pub(crate) fn part(&mut self, front: &mut Block) -> Result<(), ReadCause>
         requires empty { self.old.block.waiting ≡ [] }
         requires limit { front.old.limit ≡ self.old.block.limit }
@@ -81,7 +81,7 @@ impl Ahead {
     }
 
     /// Does what the calling thread does while lines are judged: adds the pieces before them, and then
-    /// fills the block, where the source is asked.
+    /// fills the block, if the source is read again.
     pub(crate) fn work_beside<S: Source>(
         &mut self,
         alloc: Global,
@@ -109,7 +109,7 @@ impl Ahead {
         join(pieces, &mut self.line, &mut self.kept)
     }
 
-    /// Fills the block, where the source is asked.
+    /// Fills the block, if the source is read again.
     fn refill<S: Source>(&mut self, source: &mut S)
         requires can_ask { CanAsk self.old }
         requires met { IfErr self.old.filled IsFillFault }
@@ -124,7 +124,7 @@ impl Ahead {
     }
 }
 
-/// Whether the source is asked again after it answered this, when so many bytes wait behind whole lines.
+/// Returns whether the source is read again after this answer, if this many bytes follow the whole lines.
 fn may_ask(filled: Result<bool, ReadCause>, len: usize) -> bool
     ensures asks { result ≡ true → (filled ≡ Ok true) × (len ≤ MAX_LINE) }
     ensures rests { result ≡ false → filled ≡ Ok true → MAX_LINE < len }
@@ -136,7 +136,7 @@ fn may_ask(filled: Result<bool, ReadCause>, len: usize) -> bool
     }
 }
 
-/// Adds what these pieces stand for, up to the first fault.
+/// Adds the records of these pieces, up to the first fault.
 fn join(pieces: Vec<Piece>, line: &mut u32, kept: &mut Kept) -> Result<(), ReadCause>
     requires judged { (bytes : List ℕ) × AreJudged kept.old.version pieces.items bytes }
     requires line { (2 ≤ line.old) × (line.old ≤ LAST_LINE) }
@@ -159,7 +159,7 @@ fn join(pieces: Vec<Piece>, line: &mut u32, kept: &mut Kept) -> Result<(), ReadC
     Ok(())
 }
 
-/// Adds what a piece stands for, up to its fault. A record for which there is no room comes first.
+/// Adds the records of a piece, up to its fault. A record past the limits is reported before the fault.
 fn add(piece: Piece, line: &mut u32, kept: &mut Kept) -> Result<(), ReadCause>
     requires judged { (bytes : List ℕ) × IsPieceJudged kept.old.version bytes piece }
     requires line { (2 ≤ line.old) × (line.old ≤ LAST_LINE) }
@@ -183,7 +183,7 @@ fn add(piece: Piece, line: &mut u32, kept: &mut Kept) -> Result<(), ReadCause>
     }
 }
 
-/// The fault, if there is one.
+/// Returns the fault, if there is one.
 fn fault_of(fault: Option<ReadCause>) -> Result<(), ReadCause>
     ensures { fault ≡ result_err result }
 {

@@ -1,4 +1,4 @@
-//! A block of bytes that a source gave, for several workers at a time.
+//! A block of bytes from a source, for several workers.
 ghost use Rattle.std.specs.Prelude.{◌≡◌, ◌≤◌, ◌<◌, ◌+◌, ◌++◌, ◌==◌, [], length, take, drop, true, false, Ok, None, IfOk, IfErr, OnOk, OnErr};
 ghost use Rattle.std.specs.Result.{result_err};
 ghost use Rattle.std.specs.Io.KnownBytes.{Keeps, IsAtEnd, prepend_known};
@@ -8,16 +8,16 @@ ghost use Rattle.certificate.specs.Pieces.{IsWholeLines};
 ghost use Rattle.certificate.specs.Blocks.{AreWholeLines, IsFillFault};
 
 use crate::device::{DeviceFault, MAX_TURNS, Source};
-use crate::faults::ReadCause;
+use lines::ReadCause;
 use crate::window::read_at;
 use memchr::memrchr;
 use std::alloc::{AllocError, Global};
 use std::marker::Model;
 
-/// How many bytes are first made ready for a source. A block grows from there as bytes come.
+/// The first size of a block in bytes. It grows as bytes come.
 const FIRST_BYTES: usize = 65_536;
 
-/// Bytes that a source gave and that were not judged yet.
+/// Bytes of a source that were not judged yet.
 #[derive(Drop)]
 pub(crate) struct Block {
     bytes: Vec<u8>,
@@ -41,8 +41,8 @@ impl Model for Block {
 }
 
 impl Block {
-    /// An empty block in which at most `limit` bytes may wait. Memory is reserved for all of them, and
-    /// touched only where bytes come.
+    /// Returns an empty block for at most `limit` bytes. Reserves memory for all of them, and touches it
+    /// only where bytes are put.
     pub(crate) fn new(alloc: Global, limit: usize) -> Result<Block, AllocError>
         ensures { IfOk result (λ block. block ≡ record { waiting = []; free = 0; limit = limit }) }
     {
@@ -53,7 +53,7 @@ impl Block {
         })
     }
 
-    /// How many bytes wait.
+    /// Returns how many bytes the block has.
     pub(crate) fn len(&self) -> usize
         ensures count { result ≡ length self.now.waiting }
         ensures few { length self.now.waiting ≤ self.now.limit }
@@ -61,7 +61,7 @@ impl Block {
         self.end
     }
 
-    /// Whether as many bytes wait as may.
+    /// Returns whether the block is full.
     pub(crate) fn is_full(&self) -> bool
         ensures full { result ≡ (length self.now.waiting == self.now.limit) }
         ensures few { length self.now.waiting ≤ self.now.limit }
@@ -69,7 +69,7 @@ impl Block {
         self.end == self.limit
     }
 
-    /// Makes sure that there is room for a byte more, where one more may wait.
+    /// Makes room for a byte more, unless the block is full.
     pub(crate) fn make_room(&mut self) -> Result<(), AllocError>
         requires { length self.old.waiting < self.old.limit }
         ensures waiting { self.new.waiting ≡ self.old.waiting }
@@ -83,7 +83,7 @@ impl Block {
         self.bytes.resize(self.end + more, 0)
     }
 
-    /// Takes more bytes from the source, and says how many: none only at its end.
+    /// Reads more bytes from the source. Returns how many: none only at its end.
     pub(crate) fn read<S: Source>(&mut self, source: &mut S) -> Result<usize, DeviceFault>
         requires { 0 < self.old.free }
         ensures few { length self.new.waiting ≤ self.new.limit }
@@ -101,7 +101,7 @@ impl Block {
         Ok(count)
     }
 
-    /// How many bytes the whole lines have that wait, each with its line feed.
+    /// Returns how many bytes the whole lines have, line feeds included.
     pub(crate) fn whole_lines(&self) -> usize
         ensures lines { AreWholeLines result self.now.waiting }
         ensures few { length self.now.waiting ≤ self.now.limit }
@@ -112,7 +112,7 @@ impl Block {
         }
     }
 
-    /// The bytes that wait.
+    /// Returns the bytes.
     pub(crate) fn bytes(&self) -> &[u8]
         ensures bytes { result.now ≡ self.now.waiting }
         ensures few { length self.now.waiting ≤ self.now.limit }
@@ -120,7 +120,7 @@ impl Block {
         &self.bytes[..self.end]
     }
 
-    /// Lets the first bytes go, and moves the others to the front.
+    /// Removes the first bytes, and moves the others to the front.
     pub(crate) fn skip(&mut self, count: usize)
         requires { count ≤ length self.old.waiting }
         ensures waiting { self.new.waiting ≡ drop count self.old.waiting }
@@ -130,7 +130,7 @@ impl Block {
         self.end -= count;
     }
 
-    /// Lets all bytes go.
+    /// Removes all bytes.
     pub(crate) fn clear(&mut self)
         ensures waiting { self.new.waiting ≡ [] }
         ensures limit { self.new.limit ≡ self.old.limit }
@@ -138,7 +138,7 @@ impl Block {
         self.end = 0;
     }
 
-    /// Makes sure that there is room for so many bytes, where none wait.
+    /// Makes room for this many bytes. Requires that the block is empty.
     fn hold(&mut self, count: usize) -> Result<(), AllocError>
         requires none { self.old.waiting ≡ [] }
         requires few { count ≤ self.old.limit }
@@ -152,7 +152,7 @@ impl Block {
         self.bytes.resize(count, 0)
     }
 
-    /// Takes these bytes, where none wait.
+    /// Puts these bytes into the block. Requires that it is empty.
     fn put(&mut self, bytes: &[u8]) -> Result<(), AllocError>
         requires none { self.old.waiting ≡ [] }
         requires few { length bytes.now ≤ self.old.limit }
@@ -165,7 +165,7 @@ impl Block {
         Ok(())
     }
 
-    /// Keeps the whole lines, and moves the bytes behind them to another block, in which none wait.
+    /// Keeps the whole lines, and moves the bytes after them to another block, which is empty.
     pub(crate) fn move_rest(&mut self, rest: &mut Block) -> Result<(), AllocError>
         requires none { rest.old.waiting ≡ [] }
         requires limit { self.old.limit ≡ rest.old.limit }
@@ -192,7 +192,7 @@ fn put_front(bytes: &mut [u8], front: &[u8])
     bytes[..front.len()].copy_from_slice(front);
 }
 
-/// Takes bytes until as many wait as may or the source ends. Says whether more may come.
+/// Reads until the block is full or the source ends. Returns whether more may come.
 pub(crate) fn fill<S: Source>(
     block: &mut Block,
     source: &mut S,
@@ -221,7 +221,7 @@ pub(crate) fn fill<S: Source>(
     Ok(true)
 }
 
-/// Takes more bytes from the source, and asks again as long as it wants that and has turns left.
+/// Reads more bytes from the source. Retries while it is interrupted, at most 10,000 times in one reading.
 fn ask<S: Source>(block: &mut Block, source: &mut S, turns: &mut u32) -> Result<usize, ReadCause>
     requires room { 0 < block.old.free }
     requires few { length block.old.waiting ≤ block.old.limit }

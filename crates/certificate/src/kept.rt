@@ -1,17 +1,17 @@
-//! The trace that a file has given so far.
+//! The trace of the lines so far.
 ghost use Rattle.std.specs.Prelude.{◌≡◌, ◌≢◌, ◌+◌, ◌≤◌, ◌⊎◌, [], ◌∷◌, ◌++◌, length, All, Ok, Err};
 ghost use Rattle.std.specs.Result.{result_map_both};
 ghost use Rattle.ompt_events.specs.Traces.{IsInRange, IsSoundIn, IsTraceOf, tasks_in};
-ghost use Rattle.certificate.specs.RecordLines.{IsSaid};
+ghost use Rattle.lines.specs.RecordLines.{IsSaid};
 ghost use Rattle.certificate.specs.Files.{no_trace, with_record};
 ghost use Rattle.certificate.specs.Keeping.{KeepsFirst};
 
-use crate::faults::ReadCause;
+use lines::ReadCause;
 use ompt_events::{MAX_RECORDS, MAX_TASKS, Record, Trace};
 use std::alloc::Global;
 use std::marker::Model;
 
-/// Records in file order that keep within the limits of a trace of the version.
+/// Records in file order, within the limits of a trace of the version.
 #[derive(Drop)]
 pub(crate) struct Kept {
     version: u32,
@@ -32,7 +32,7 @@ impl Model for Kept {
 }
 
 impl Kept {
-    /// No record.
+    /// Returns a trace without records.
     pub(crate) fn new(alloc: Global) -> Kept
         ensures { result ≡ no_trace }
     {
@@ -53,14 +53,14 @@ impl Kept {
         self.version = version;
     }
 
-    /// The version of the trace.
+    /// Returns the version of the trace.
     pub(crate) fn version(&self) -> u32
         ensures { result ≡ self.now.version }
     {
         self.version
     }
 
-    /// Adds the record, if there is room for it.
+    /// Adds the record. Fails with `Limit` if the trace is full, or out of memory.
     #[inline(always)]
     pub(crate) fn keep(&mut self, event: Record) -> Result<(), ReadCause>
         requires { IsSoundIn self.old.version event.body }
@@ -84,8 +84,8 @@ impl Kept {
         Ok(())
     }
 
-    /// Adds the first of these records, of which so many make a task: all for which there is room. Says how
-    /// many they are, and why no more were added. Where there is room for all, no record is looked at.
+    /// Adds the first of these records, as many as the limits allow; `tasks` of them make a task. Returns
+    /// how many were added, and why no more. If all are within the limits, no record is looked at.
     pub(crate) fn keep_all(
         &mut self,
         mut records: Vec<Record>,
@@ -126,7 +126,7 @@ impl Kept {
         (count, None)
     }
 
-    /// The trace of these records. Takes no memory.
+    /// Returns the trace of these records. Takes no memory.
     pub(crate) fn into_trace(self) -> Trace
         ensures { result ≡ self }
     {
@@ -138,7 +138,7 @@ impl Kept {
     }
 }
 
-/// The trace of version 1 of these records.
+/// Returns the trace of version 1 with these records.
 fn of_records(records: Vec<Record>) -> Trace
     requires { IsTraceOf 1 records.items }
     ensures { result ≡ record { version = 1; records = records.items } }
@@ -149,7 +149,7 @@ fn of_records(records: Vec<Record>) -> Trace
     }
 }
 
-/// The trace of version 2 of these records.
+/// Returns the trace of version 2 with these records.
 fn of_turns(records: Vec<Record>) -> Trace
     requires { IsTraceOf 2 records.items }
     ensures { result ≡ record { version = 2; records = records.items } }

@@ -4,8 +4,8 @@ ghost use Rattle.std.specs.Prelude.{◌≡◌, ◌≤◌, ◌↔◌, ℕ, List, 
 ghost use Rattle.ompt_events.specs.declared.records.Record.{Record};
 ghost use Rattle.ompt_events.specs.Traces.{TraceView, IsTraceOf, IsSoundIn};
 ghost use Rattle.certificate.specs.declared.faults.ReadFault.{ReadFault};
-ghost use Rattle.certificate.specs.RecordLines.{line_says};
-ghost use Rattle.certificate.specs.Texts.{trace_text};
+ghost use Rattle.lines.specs.RecordLines.{line_says};
+ghost use Rattle.certificate.specs.TraceTexts.{trace_text};
 ghost use Rattle.certificate.specs.Files.{file_says_to, StandsFor, IsFirstFault};
 
 /// A file stands for at most one trace.
@@ -14,32 +14,32 @@ pub fn one_trace()
         → StandsFor newest bytes a → StandsFor newest bytes b → a ≡ b }
 {}
 
-/// A file with a fault stands for none.
+/// A file with a fault stands for no trace.
 pub fn faulty_is_none()
     ensures { (newest : ℕ) (bytes : List ℕ) (fault : ReadFault) (trace : TraceView)
         → IsFirstFault newest bytes fault → StandsFor newest bytes trace → ⊥ }
 {}
 
-/// The lines taken one after another say the trace exactly where no line has a fault.
+/// The lines, one after another, give the trace if and only if no line has a fault.
 pub fn stands_line_by_line()
     ensures { (newest : ℕ) (bytes : List ℕ) (trace : TraceView)
         → (file_says_to newest bytes ≡ Ok trace) ↔ StandsFor newest bytes trace }
 {}
 
-/// The fault that is said is that of a line, and no earlier line has any; and there is no other such line.
+/// The fault of a file is that of its first line with a fault, and of no other line.
 pub fn first_fault_is_said()
     ensures { (newest : ℕ) (bytes : List ℕ) (fault : ReadFault)
         → (file_says_to newest bytes ≡ Err fault) ↔ IsFirstFault newest bytes fault }
 {}
 
-/// What a line of a file stands for can stand in a trace of the file's version.
+/// The record of a line of a file may be in a trace of the file's version.
 pub fn lines_are_sound()
     ensures { (version : ℕ) (line : List ℕ) (event : Record)
         → line_says version line ≡ Ok event → IsSoundIn version event.body }
 {}
 
-/// The text of a trace of either version is a file that stands for it, and for no other trace, wherever its
-/// version is read.
+/// The text of a trace of either version is a file that stands for this trace and no other, if its version
+/// is read.
 pub fn text_stands_for_its_trace()
     ensures { (newest : ℕ) (trace : TraceView) → trace.version ≤ newest
         → IsTraceOf trace.version trace.records

@@ -1,43 +1,32 @@
-//! The trace file, of version 1 or 2 of its format: what its lines stand for, a reader of it from any
-//! source, and traces and plain bytes written to any sink. Read `device`, `faults`, `reading` and `writing`
-//! for what a caller sees, and `laws` for what follows of a file; `lines` is how a line is read (`canonical`
-//! as it is written, `unordered` and `making` with its members in another order, both by `parts`), `texts`
-//! how it is written, and `callbacks` has the tables. `reading_on` reads on several workers: by `blocks`, cut
-//! into `pieces` that are judged side by side; `ahead` is what the calling thread has in hand meanwhile.
-//! `upgrading` makes a trace of version 2 of one of version 1, by what `task_turns` notes of each task.
+//! The trace file, of version 1 or 2 of its format: a reader of it from any source, and traces and plain
+//! bytes written to any sink. Read `device`, `faults`, `reading` and `writing` for what a caller sees, and
+//! `laws` for what follows of a file. `window` has the bytes of a source that no line has yet, and `kept`
+//! the trace so far; the crate `lines` reads and writes each line. `reading_on` reads on several workers: by
+//! `blocks`, cut into `pieces` that are judged side by side; `ahead` is what the calling thread has in hand
+//! meanwhile. `upgrading` makes a trace of version 2 of one of version 1, by what `task_turns` notes of each
+//! task.
 #![tactic(auto)]
 
 mod ahead;
 mod blocks;
-mod bodies;
-mod callbacks;
-mod canonical;
 mod device;
 mod faults;
 mod kept;
 pub mod laws;
-mod lines;
-mod members;
 mod memory;
-mod objects;
-mod parts;
 mod pieces;
 mod reading;
 mod reading_on;
 mod script_reading;
-mod step_lines;
 mod streams;
-mod tape;
 mod task_turns;
-mod texts;
 mod upgrading;
-mod values;
 mod window;
 mod writing;
-mod written;
 
 pub use device::{DeviceFault, Sink, Source};
-pub use faults::{ReadCause, ReadFault, UpgradeFault, WriteFault};
+pub use faults::{ReadFault, UpgradeFault, WriteFault};
+pub use lines::ReadCause;
 pub use memory::{MemSink, MemSource};
 pub use reading::{NEWEST_VERSION, read, read_to};
 pub use reading_on::{read_blocks, read_on};

@@ -1,4 +1,4 @@
-//! A source and a sink in memory, which fail as they are told to.
+//! A source and a sink in memory, which fail when they are made to.
 ghost use Rattle.std.specs.Prelude.{◌≡◌, ◌+◌, ◌≤◌, ◌<◌, [], Some, IfOk, length, max, drop, vec_len, vec_capacity};
 ghost use Rattle.std.specs.Io.{ReadsAtMost, WritesAtMost};
 ghost use Rattle.std.specs.Io.KnownBytes.{ReadConsumes, WriteAppends};
@@ -42,9 +42,9 @@ impl Model for MemSource {
 }
 
 impl MemSource {
-    /// A source of these bytes that gives at most `per_read` of them a read, and at least one.
-    /// Its first `agains_first` reads answer `Again`. The read of the number `broken_read`,
-    /// counted from 0 and with those, answers `Broken` instead of what it would.
+    /// Returns a source of these bytes that gives at most `per_read` of them a read, and at least one.
+    /// Its first `agains_first` reads answer `Again`. The read with the number `broken_read`, counted from 0
+    /// and including those, answers `Broken` instead.
     pub fn new(
         bytes: Vec<u8>,
         per_read: usize,
@@ -107,7 +107,7 @@ impl Source for MemSource {
     }
 }
 
-/// A sink that keeps what it takes in memory.
+/// A sink that keeps the bytes in memory.
 #[derive(Debug, Drop)]
 pub struct MemSink {
     bytes: Vec<u8>,
@@ -139,9 +139,9 @@ impl Model for MemSink {
 }
 
 impl MemSink {
-    /// A sink with room for this many bytes, which is taken now; past it, a write answers `Broken`.
-    /// The write of the number `broken_write`, counted from 0, answers `Broken` too,
-    /// and each from `idle_from` on takes nothing.
+    /// Returns a sink with room for this many bytes, which is allocated now; past it, a write answers
+    /// `Broken`. The write with the number `broken_write`, counted from 0, answers `Broken` too, and each
+    /// from `idle_from` on takes nothing.
     pub fn new(
         alloc: Global,
         room: usize,
@@ -169,7 +169,7 @@ impl MemSink {
         })
     }
 
-    /// The bytes that were taken so far.
+    /// Returns the bytes that were taken so far.
     pub fn bytes(&self) -> &[u8]
         ensures { result.now ≡ self.now.taken }
     {

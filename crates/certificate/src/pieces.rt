@@ -1,11 +1,10 @@
-//! How a piece of a trace file is judged: whole lines behind the header, with no count of what stands before
+//! How a piece of a trace file is judged: whole lines after the header, without counts of the records before
 //! them.
 ghost use Rattle.std.specs.Prelude.{◌≡◌, ◌≤◌, ◌<◌, ◌+◌, ◌-◌, ◌^◌, [], length, drop, slice_range, slice_index, IfOk, OnOk, OnErr, IfErr};
 ghost use Rattle.certificate.specs.Pieces.{IsWholeLines, IsPieceJudged, AreJudged, TakesLine, TakesText, WithRecord, SamePiece};
 ghost use Rattle.certificate.specs.Blocks.{AreCuts, IsPiece};
 
-use crate::faults::ReadCause;
-use crate::lines::{other, sound};
+use lines::{ReadCause, record, record_as_written};
 use crate::window::MAX_LINE;
 use json::Scratch;
 use memchr::memchr;
@@ -14,11 +13,11 @@ use std::alloc::{AllocError, Global};
 use std::thread;
 use std::thread::Threads;
 
-/// A line of a record is rarely shorter. Where many are, the room that is taken for a piece grows.
+/// The line of a record is rarely shorter. If many are, the list of a piece's records grows.
 const LINE: usize = 96;
 
-/// The records of a piece's lines up to its first faulty one, how many of them make a task, and what that
-/// line has.
+/// The records of a piece's lines up to its first faulty one, how many of them make a task, and the cause of
+/// that line.
 #[derive(Drop)]
 pub(crate) struct Piece {
     pub(crate) records: Vec<Record>,
@@ -44,7 +43,7 @@ impl Piece {
     }
 }
 
-/// Judges the lines of each piece of a file of this version, which end where the cuts say, side by side.
+/// Judges the lines of all pieces of a file of this version side by side. The cuts are where pieces end.
 pub(crate) fn judge_all<R: Threads + Sync>(
     rt: &R,
     alloc: Global,
@@ -69,7 +68,7 @@ pub(crate) fn judge_all<R: Threads + Sync>(
     Ok(pieces)
 }
 
-/// Judges the piece of this number, from 0.
+/// Judges the piece with this number, from 0.
 fn judge_piece(alloc: Global, version: u32, text: &[u8], cuts: &[usize], number: usize) -> Piece
     requires cuts { AreCuts text.now cuts.now }
     requires number { number + 1 < length cuts.now }
@@ -83,7 +82,7 @@ fn judge_piece(alloc: Global, version: u32, text: &[u8], cuts: &[usize], number:
     )
 }
 
-/// Whole lines of the bytes.
+/// Returns whole lines of the bytes.
 fn piece_of(text: &[u8], start: usize, end: usize) -> &[u8]
     requires { IsPiece text.now start end }
     ensures { result.now ≡ slice_range text.now start end }
@@ -115,7 +114,7 @@ fn judge(alloc: Global, version: u32, text: &[u8]) -> Piece
     piece
 }
 
-/// No record, with room for so many, if memory is found for them now.
+/// Returns a piece without records, with room for this many if there is memory for them now.
 fn reserved(alloc: Global, count: usize) -> Vec<Record>
     ensures { result.items ≡ [] }
 {
@@ -125,7 +124,7 @@ fn reserved(alloc: Global, count: usize) -> Vec<Record>
     }
 }
 
-/// Judges the first line, and says how long it is with its line feed.
+/// Judges the first line. Returns its length, line feed included.
 fn judge_line(
     alloc: Global,
     version: u32,
@@ -148,7 +147,8 @@ fn judge_line(
     }
 }
 
-/// Judges the text of a line. Compiled, a line as it is written has this function to itself.
+/// Judges the text of a line. It is not inlined: with the other forms beside it, a line in written form
+/// takes longer.
 #[inline(never)]
 fn judge_text(
     alloc: Global,
@@ -160,7 +160,7 @@ fn judge_text(
     requires { piece.old.tasks + 1 < 2 ^ 64 }
     ensures { TakesText version text.now piece.old result piece.new }
 {
-    match sound(alloc, version, text) {
+    match record_as_written(alloc, version, text) {
         Some(event) => piece.add(event),
         None => judge_other(alloc, version, text, piece, scratch),
     }
@@ -178,10 +178,10 @@ fn judge_other(
     requires { piece.old.tasks + 1 < 2 ^ 64 }
     ensures { TakesText version text.now piece.old result piece.new }
 {
-    piece.add(other(alloc, version, text, scratch)?)
+    piece.add(record(alloc, version, text, scratch)?)
 }
 
-/// Where whole lines are cut into at most `count` pieces of about the same size.
+/// Returns where to cut whole lines into at most `count` pieces of about the same size.
 pub(crate) fn cuts(alloc: Global, text: &[u8], count: u32) -> Result<Vec<usize>, AllocError>
     requires whole { IsWholeLines text.now }
     requires count { 1 ≤ count }
@@ -200,7 +200,7 @@ pub(crate) fn cuts(alloc: Global, text: &[u8], count: u32) -> Result<Vec<usize>,
     Ok(cuts)
 }
 
-/// Behind the first line that ends at least so many bytes after the start, or the end.
+/// Returns the end of the first line that ends at least this many bytes after the start, or the end of all.
 fn next_cut(text: &[u8], start: usize, size: usize) -> usize
     requires { start ≤ length text.now }
     ensures { IsWholeLines text.now → IsPiece text.now start result }

@@ -2,40 +2,40 @@
 ghost use Rattle.std.specs.Prelude.{◌≡◌, ◌≤◌, ◌+◌, ℕ, List, Option, length, Ok, true, IfOk, IfErr, IfSome};
 ghost use Rattle.std.specs.Result.{result_err, result_map_both};
 ghost use Rattle.certificate.specs.Files.{text_adds, traces, with_header, with_record};
-ghost use Rattle.certificate.specs.RecordLines.{IsSaid, header_says, line_says};
+ghost use Rattle.lines.specs.RecordLines.{IsSaid, header_says, line_says};
 ghost use Rattle.std.specs.Io.KnownBytes.{Keeps, IsAtEnd, prepend_known};
 ghost use Rattle.certificate.specs.Counts.{TakesTurns, breaks_told, cause_told};
 ghost use Rattle.certificate.specs.Reading.{IsReadAnswer, IsAnswerTo, IsBetween, IsAfter, Grows};
 ghost use Rattle.certificate.specs.Windows.{ShowsLine, ShowsFault, IsDeviceFault};
 
 use crate::device::{DeviceFault, MAX_TURNS, Source};
-use crate::faults::{ReadCause, ReadFault};
+use crate::faults::ReadFault;
+use lines::{ReadCause, TRACES, header, record, record_as_written};
 use crate::kept::Kept;
-use crate::lines::{TRACES, header, other, sound};
 use crate::window::{MAX_LINE, Window};
 use json::Scratch;
 use ompt_events::{MAX_RECORDS, Trace};
 use std::alloc::Global;
 
-/// The number of the last line that is read: after the header and the records, one that is too many.
+/// The number of the last line that is read: after the header and the most records, one too many.
 pub(crate) const LAST_LINE: u32 = 2 + MAX_RECORDS as u32;
 
 /// The newest version of the format that [`read`] takes.
 pub const NEWEST_VERSION: u32 = 2;
 
-/// Reads a trace file of a version up to [`NEWEST_VERSION`] to its end. At most 131,074 bytes wait at a
-/// time, two of the longest lines with their line feeds, and the source is asked for no more than there is
-/// room for. After a refusal nothing is said of how far the source was read.
+/// Reads a trace file of a version up to [`NEWEST_VERSION`] to its end. Fails at the first faulty line, if
+/// the source fails, or out of memory; then it is not defined how far the source was read. Has a buffer of
+/// 131,074 bytes, two of the longest lines with their line feeds.
 pub fn read<S: Source>(alloc: Global, source: &mut S) -> Result<Trace, ReadFault>
-    // The trace that the bytes stand for, their first fault, or a fault of the device or of memory.
+    // The trace that the bytes stand for, their first fault, or a failure of the device or of memory.
     ensures file { IfSome (S.remaining source.old)
         (λ bytes. IsReadAnswer result bytes (S.remaining source.new)) }
 
-    // Each answer `Again` is a turn, and the 10,001st ends the call.
+    // The call ends with the 10,001st answer `Again`.
     ensures turns { (turns : ℕ) × TakesTurns (cause_told result) 0 turns (S.agains source.old)
         (S.agains source.new) }
 
-    // `Device` is told exactly where the source broke.
+    // `Device` is reported if and only if the source has failed.
     ensures breaks { S.breaks source.new ≡ breaks_told (cause_told result) (S.breaks source.old) }
     ensures line { IfErr result (λ fault. (1 ≤ fault.line) × (fault.line ≤ LAST_LINE)) }
     ensures version { IfOk result (λ trace. trace.version ≤ NEWEST_VERSION) }
@@ -43,19 +43,20 @@ pub fn read<S: Source>(alloc: Global, source: &mut S) -> Result<Trace, ReadFault
     read_to(alloc, NEWEST_VERSION, source)
 }
 
-/// The same of a file of a version up to `newest`: 1, or 2 for files that may tell turns.
+/// Reads the same way a file of a version up to `newest`: 1, or 2 for files that may have turns. Fails as
+/// [`read`] does.
 pub fn read_to<S: Source>(alloc: Global, newest: u32, source: &mut S) -> Result<Trace, ReadFault>
     requires { (1 ≤ newest) × (newest ≤ 2) }
 
-    // The trace that the bytes stand for, their first fault, or a fault of the device or of memory.
+    // The trace that the bytes stand for, their first fault, or a failure of the device or of memory.
     ensures file { IfSome (S.remaining source.old)
         (λ bytes. IsAnswerTo newest result bytes (S.remaining source.new)) }
 
-    // Each answer `Again` is a turn, and the 10,001st ends the call.
+    // The call ends with the 10,001st answer `Again`.
     ensures turns { (turns : ℕ) × TakesTurns (cause_told result) 0 turns (S.agains source.old)
         (S.agains source.new) }
 
-    // `Device` is told exactly where the source broke.
+    // `Device` is reported if and only if the source has failed.
     ensures breaks { S.breaks source.new ≡ breaks_told (cause_told result) (S.breaks source.old) }
     ensures line { IfErr result (λ fault. (1 ≤ fault.line) × (fault.line ≤ LAST_LINE)) }
     ensures version { IfOk result (λ trace. trace.version ≤ newest) }
@@ -88,7 +89,7 @@ pub fn read_to<S: Source>(alloc: Global, newest: u32, source: &mut S) -> Result<
     unreachable!()
 }
 
-/// Reads the line of this number and keeps what it stands for. Says whether there was one.
+/// Reads the line with this number and keeps its record. Returns whether there was one.
 fn read_line<S: Source>(
     alloc: Global,
     newest: u32,
@@ -122,8 +123,8 @@ fn read_line<S: Source>(
     }
 }
 
-/// Takes the text of the line of this number: the header, or a record that is kept. Compiled, a line as it
-/// is written has this function to itself: with the loop or the other forms beside it, it runs slower.
+/// Takes the text of the line with this number: the header, or a record that is kept. It is not inlined:
+/// with the loop or the other forms beside it, a line in written form takes longer.
 #[inline(never)]
 fn take_text(
     alloc: Global,
@@ -140,7 +141,7 @@ fn take_text(
     if line == 1 {
         return take_header(alloc, newest, text, kept, scratch);
     }
-    match sound(alloc, kept.version(), text) {
+    match record_as_written(alloc, kept.version(), text) {
         Some(event) => kept.keep(event),
         None => take_other(alloc, text, kept, scratch),
     }
@@ -174,10 +175,10 @@ fn take_other(
     ensures { IsSaid (result_map_both (λ _. kept.new) (λ e. e) result)
         (with_record kept.old (line_says kept.old.version text.now)) }
 {
-    kept.keep(other(alloc, kept.version(), text, scratch)?)
+    kept.keep(record(alloc, kept.version(), text, scratch)?)
 }
 
-/// The length of the next line, which the window then begins with; none at the end of the input.
+/// Returns the length of the next line, with which the window then begins, or none at the end of the input.
 pub(crate) fn next_line<S: Source>(
     window: &mut Window,
     source: &mut S,
@@ -209,7 +210,7 @@ pub(crate) fn next_line<S: Source>(
     }
 }
 
-/// Takes more bytes from the source, and asks again as long as it wants that and has turns left.
+/// Reads more bytes from the source. Retries while it is interrupted, at most 10,000 times in one call.
 fn ask<S: Source>(window: &mut Window, source: &mut S, turns: &mut u32) -> Result<usize, ReadCause>
     requires window { length window.old ≤ MAX_LINE }
     requires turns { turns.old ≤ MAX_TURNS }

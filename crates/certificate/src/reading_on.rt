@@ -1,6 +1,5 @@
-//! The reader of trace files on several workers. While the whole lines of one block are judged side by
-//! side, cut into pieces, the calling thread puts together the pieces of the block before it and fills the
-//! next one.
+//! The reader of trace files on several workers. While the whole lines of one block are judged side by side,
+//! cut into pieces, the calling thread adds the pieces of the block before it and fills the next one.
 ghost use Rattle.std.specs.Prelude.{◌≡◌, ◌≢◌, ◌≤◌, ◌<◌, ◌+◌, ◌*◌, ◌^◌, ℕ, List, Option, Ok, true, false, [], length, IfOk, IfErr, IfSome, OnOk, OnErr, None, Some};
 ghost use Rattle.std.specs.Result.{result_err};
 ghost use Rattle.std.specs.Io.KnownBytes.{IsAtEnd};
@@ -16,7 +15,8 @@ ghost use Rattle.certificate.specs.Ahead.{AreJudgedOf, SameSource, IsFirst, IsIn
 use crate::ahead::Ahead;
 use crate::blocks::{Block, fill};
 use crate::device::Source;
-use crate::faults::{ReadCause, ReadFault};
+use crate::faults::ReadFault;
+use lines::ReadCause;
 use crate::pieces::{Piece, cuts, judge_all};
 use crate::reading::{LAST_LINE, NEWEST_VERSION, take_header};
 use crate::window::MAX_LINE;
@@ -27,10 +27,10 @@ use std::alloc::{AllocError, Global};
 use std::mem::swap;
 use std::thread::{Threads, join_mut};
 
-/// The bytes of a block that [`read_on`] takes.
+/// The size of a block of [`read_on`] in bytes, for each worker.
 const BLOCK: usize = 1 << 21;
 
-/// How lines are judged: on so many workers, of which each takes blocks of this size.
+/// How many workers judge lines, and the size of a worker's blocks.
 #[derive(Drop)]
 struct Hands {
     alloc: Global,
@@ -39,11 +39,10 @@ struct Hands {
     ghost some: { 1 ≤ workers },
 }
 
-/// Reads a trace file of a version up to [`NEWEST_VERSION`] to its end, on so many workers. The answer is
-/// that of [`crate::read`]. At most `workers` blocks of 2^21 bytes and two longest lines with their line
-/// feeds wait at a time, and the source is asked for no more than there is room for. The source is read
-/// ahead of the lines that are judged: where it breaks or has no turn left, the lines that it gave are
-/// judged first.
+/// Reads a trace file of a version up to [`NEWEST_VERSION`] to its end, on this many workers. Returns what
+/// [`crate::read`] returns. Has buffers of at most `workers` times 2^21 bytes, and two of the longest lines
+/// with their line feeds. The source is read ahead of the lines that are judged: if it fails or is
+/// interrupted too often, the lines before are judged first.
 pub fn read_on<R: Threads + Sync, S: Source>(
     rt: &R,
     alloc: Global,
@@ -52,12 +51,12 @@ pub fn read_on<R: Threads + Sync, S: Source>(
 ) -> Result<Trace, ReadFault>
     requires { 1 ≤ workers }
 
-    // The trace that the bytes stand for, their first fault, or a fault of the device or of memory.
+    // The trace that the bytes stand for, their first fault, or a failure of the device or of memory.
     ensures file { IfSome (S.remaining source.old)
         (λ bytes. IsAnswerOn workers result bytes (S.remaining source.new)) }
 
-    // Each answer `Again` is a turn, and the 10,001st or an answer `Broken` ends the reading. It is told,
-    // but for a fault of a line that the source gave before.
+    // The reading ends with the 10,001st answer `Again` or an answer `Broken`, which is reported unless a
+    // line before it has a fault.
     ensures device { (turns : ℕ) × ReadsAhead (cause_told result) 0 turns (S.agains source.old)
         (S.agains source.new) (S.breaks source.old) (S.breaks source.new) }
     ensures line { IfErr result (λ fault. (1 ≤ fault.line) × (fault.line ≤ LAST_LINE)) }
@@ -66,7 +65,7 @@ pub fn read_on<R: Threads + Sync, S: Source>(
     read_blocks(rt, alloc, source, workers, BLOCK)
 }
 
-/// The same with blocks of another size, from 1 byte to 2^24.
+/// Reads the same way with blocks of another size, from 1 byte to 2^24. Returns the same.
 pub fn read_blocks<R: Threads + Sync, S: Source>(
     rt: &R,
     alloc: Global,
@@ -77,12 +76,12 @@ pub fn read_blocks<R: Threads + Sync, S: Source>(
     requires workers { 1 ≤ workers }
     requires block { (1 ≤ block) × (block ≤ 2 ^ 24) }
 
-    // The trace that the bytes stand for, their first fault, or a fault of the device or of memory.
+    // The trace that the bytes stand for, their first fault, or a failure of the device or of memory.
     ensures file { IfSome (S.remaining source.old)
         (λ bytes. IsAnswerInBlocks workers block result bytes (S.remaining source.new)) }
 
-    // Each answer `Again` is a turn, and the 10,001st or an answer `Broken` ends the reading. It is told,
-    // but for a fault of a line that the source gave before.
+    // The reading ends with the 10,001st answer `Again` or an answer `Broken`, which is reported unless a
+    // line before it has a fault.
     ensures device { (turns : ℕ) × ReadsAhead (cause_told result) 0 turns (S.agains source.old)
         (S.agains source.new) (S.breaks source.old) (S.breaks source.new) }
     ensures line { IfErr result (λ fault. (1 ≤ fault.line) × (fault.line ≤ LAST_LINE)) }
@@ -126,7 +125,7 @@ pub fn read_blocks<R: Threads + Sync, S: Source>(
     }
 }
 
-/// How many bytes may wait in each of two blocks.
+/// Returns the size of each of the two blocks in bytes.
 fn limit_of(workers: u32, block: usize) -> usize
     requires { block ≤ 2 ^ 24 }
     ensures long { MAX_LINE < result }
@@ -135,7 +134,7 @@ fn limit_of(workers: u32, block: usize) -> usize
     workers as usize * block / 2 + MAX_LINE + 1
 }
 
-/// Takes the first bytes, and the header among them.
+/// Reads the first bytes, and takes the header.
 fn start<S: Source>(
     alloc: Global,
     front: &mut Block,
@@ -160,7 +159,7 @@ fn start<S: Source>(
     begin(alloc, front, ahead)
 }
 
-/// Takes the header, with which the whole lines in front begin.
+/// Takes the header from the front of the whole lines.
 fn begin(alloc: Global, front: &mut Block, ahead: &mut Ahead) -> Result<(), ReadCause>
     requires line { ahead.old.line ≡ 1 }
     requires pieces { ahead.old.pieces.items ≡ [] }
@@ -201,7 +200,7 @@ fn begin(alloc: Global, front: &mut Block, ahead: &mut Ahead) -> Result<(), Read
     Ok(())
 }
 
-/// Judges the lines in front while the pieces before them are added and the other block is filled. Says
+/// Judges the lines in front while the pieces before them are added and the other block is filled. Returns
 /// whether more may come.
 fn round<R: Threads + Sync, S: Source>(
     rt: &R,
@@ -235,8 +234,8 @@ fn round<R: Threads + Sync, S: Source>(
     Ok(false)
 }
 
-/// Judges the lines in front while the pieces before them are added and the other block is filled. Then those
-/// that were judged come next, and the block that was filled is in front.
+/// Judges the lines in front while the pieces before them are added and the other block is filled. Then the
+/// judged ones are to be added, and the block that was filled is in front.
 fn advance<R: Threads + Sync, S: Source>(
     rt: &R,
     hands: &Hands,
@@ -266,7 +265,7 @@ fn advance<R: Threads + Sync, S: Source>(
     Ok(())
 }
 
-/// Judges whole lines in a thread of their own, and does the work of this one.
+/// Judges whole lines in another thread, and meanwhile does the work of this one.
 fn side_by_side<R: Threads + Sync, S: Source>(
     rt: &R,
     hands: &Hands,
@@ -319,8 +318,8 @@ fn judge<R: Threads + Sync>(
     judge_all(rt, hands.alloc, version, text, &cuts)
 }
 
-/// How many pieces so many bytes are cut into: one for each worker, but none smaller than a sixteenth of a
-/// block.
+/// Returns how many pieces this many bytes are cut into: one for each worker, but none smaller than a
+/// sixteenth of a block.
 fn pieces_of(workers: u32, block: usize, len: usize) -> u32
     requires { 1 ≤ workers }
     ensures some { 1 ≤ result }
@@ -334,7 +333,7 @@ fn pieces_of(workers: u32, block: usize, len: usize) -> u32
     }
 }
 
-/// Adds the last pieces, behind which these bytes are in front, and tells how the reading ends.
+/// Adds the last pieces, which these bytes follow, and returns how the reading ends.
 fn finish(alloc: Global, front: &Block, ahead: &mut Ahead) -> Result<(), ReadCause>
     requires in_hand { IsInHand ahead.old }
     requires none { LineFeedAt front.now.waiting None }
@@ -352,8 +351,8 @@ fn finish(alloc: Global, front: &Block, ahead: &mut Ahead) -> Result<(), ReadCau
     end(ahead.filled, front.len(), ahead.line)
 }
 
-/// How a reading ends when these bytes are left behind all lines: a line that is too long is told before
-/// what the source has answered.
+/// Returns how a reading ends if these bytes follow all lines: a line that is too long is reported before a
+/// failure of the source.
 fn end(filled: Result<bool, ReadCause>, len: usize, line: u32) -> Result<(), ReadCause>
     requires fault { IfErr filled IsFillFault }
     requires full { filled ≡ Ok true → MAX_LINE < len }

@@ -3,16 +3,14 @@ ghost use Rattle.std.specs.Prelude.{◌≡◌, ◌≤◌, ◌+◌, ℕ, List, []
 ghost use Rattle.std.specs.Result.{result_err, result_map_both};
 ghost use Rattle.certificate.specs.Counts.{TakesTurns, breaks_told, cause_told};
 ghost use Rattle.certificate.specs.Reading.{IsAnswerIn, IsBetween, IsAfter, Grows};
-ghost use Rattle.certificate.specs.RecordLines.{IsSaid};
+ghost use Rattle.lines.specs.RecordLines.{IsSaid};
 ghost use Rattle.certificate.specs.ScriptFiles.{cause_of, is_within, script_adds, scripts, with_step};
 ghost use Rattle.scripts.specs.Scripts.{may_follow};
 
-use crate::bodies::Loose;
 use crate::device::{MAX_TURNS, Source};
-use crate::faults::{ReadCause, ReadFault};
-use crate::lines::header;
+use crate::faults::ReadFault;
+use lines::{Loose, ReadCause, SaidStep, header, step};
 use crate::reading::{LAST_LINE, next_line};
-use crate::step_lines::{SaidStep, step};
 use crate::window::Window;
 use json::Scratch;
 use scripts::{Script, ScriptFault};
@@ -21,19 +19,19 @@ use std::alloc::Global;
 /// The format of script files.
 const SCRIPTS: &str = "task-credit-script";
 
-/// Reads a script file to its end. At most 131,074 bytes wait at a time, two of the longest lines with their line
-/// feeds, and the source is asked for no more than there is room for. After a refusal nothing is said of how far
-/// the source was read.
+/// Reads a script file to its end. Fails at the first faulty line, if the source fails, or out of memory;
+/// then it is not defined how far the source was read. Has a buffer of 131,074 bytes, two of the longest
+/// lines with their line feeds.
 pub fn read_script<S: Source>(alloc: Global, source: &mut S) -> Result<Script, ReadFault>
-    // The steps that the bytes stand for, their first fault, or a fault of the device or of memory.
+    // The steps that the bytes stand for, their first fault, or a failure of the device or of memory.
     ensures file { IfSome (S.remaining source.old)
         (λ bytes. IsAnswerIn scripts result bytes (S.remaining source.new)) }
 
-    // Each answer `Again` is a turn, and the 10,001st ends the call.
+    // The call ends with the 10,001st answer `Again`.
     ensures turns { (turns : ℕ) × TakesTurns (cause_told result) 0 turns (S.agains source.old)
         (S.agains source.new) }
 
-    // `Device` is told exactly where the source broke.
+    // `Device` is reported if and only if the source has failed.
     ensures breaks { S.breaks source.new ≡ breaks_told (cause_told result) (S.breaks source.old) }
     ensures line { IfErr result (λ fault. (1 ≤ fault.line) × (fault.line ≤ LAST_LINE)) }
 {
@@ -64,7 +62,7 @@ pub fn read_script<S: Source>(alloc: Global, source: &mut S) -> Result<Script, R
     unreachable!()
 }
 
-/// Reads the line of this number and adds what it stands for. Says whether there was one.
+/// Reads the line with this number and adds its step. Returns whether there was one.
 fn read_line<S: Source>(
     alloc: Global,
     line: u32,
@@ -96,7 +94,7 @@ fn read_line<S: Source>(
     }
 }
 
-/// Takes the text of the line of this number: the header, or a step.
+/// Takes the text of the line with this number: the header, or a step.
 fn take_text(
     alloc: Global,
     line: u32,
@@ -116,7 +114,7 @@ fn take_text(
     Ok(())
 }
 
-/// Adds a step. That it may not follow is told before a limit is.
+/// Adds a step. A step that may not follow is reported before a limit.
 fn add(script: &mut Script, said: SaidStep) -> Result<(), ReadCause>
     ensures { IsSaid (result_map_both (λ _. script.new) (λ e. e) result) (with_step script.old (Ok said)) }
 {
@@ -127,7 +125,7 @@ fn add(script: &mut Script, said: SaidStep) -> Result<(), ReadCause>
     }
 }
 
-/// Whether the numbers and lists of a line are within their limits.
+/// Returns whether the numbers and lists of a line are within their limits.
 fn is_within(said: &SaidStep) -> bool
     ensures { result ≡ is_within said.now }
 {
@@ -151,7 +149,7 @@ fn add_within(script: &mut Script, said: SaidStep) -> Result<(), ReadCause>
     }
 }
 
-/// The cause of a line of which something is past its limit.
+/// Returns the cause of a line with a number or a list past its limit.
 fn past_limit(script: &Script, said: &SaidStep) -> ReadCause
     ensures { result ≡ (if may_follow script.now said.now.after said.now.loose.body
         then ReadCause.Limit
@@ -164,7 +162,7 @@ fn past_limit(script: &Script, said: &SaidStep) -> ReadCause
     }
 }
 
-/// The cause of a line whose step is refused.
+/// Returns the cause of a line whose step is refused.
 fn cause_of(fault: ScriptFault) -> ReadCause
     ensures { result ≡ cause_of fault }
 {

@@ -10,12 +10,12 @@ ghost use Rattle.certificate.specs.Counts.{agains_after, breaks_after, stalls_af
 use crate::device::{DeviceFault, Sink, Source};
 use std::io::{self, Error, ErrorKind, Read, Write};
 
-/// A reader of std, with a name for what one call of it does. Each reader of std is one.
+/// A reader of std, with a name for the effect of one call. Each reader of std is one.
 pub trait StdRead {
-    /// The bytes that are left, where they are known.
+    /// The bytes that are left, if they are known.
     ghost remaining: { Self → Option (List ℕ) };
 
-    /// What one call does: the reader and the buffer before it, its answer, and both after it.
+    /// The effect of one call: the reader and the buffer before, the answer, and both after.
     ghost reads: { Self → List ℕ → Result ℕ ErrorKind → Self → List ℕ → Type 0 };
 
     /// Calls the reader once.
@@ -35,12 +35,12 @@ impl<R: Read> StdRead for R {
     }
 }
 
-/// A writer of std, with a name for what one call of it does. Each writer of std is one.
+/// A writer of std, with a name for the effect of one call. Each writer of std is one.
 pub trait StdWrite {
-    /// The bytes that were taken so far, where they are known.
+    /// The bytes that were taken so far, if they are known.
     ghost contents: { Self → Option (List ℕ) };
 
-    /// What one call does: the writer before it, the bytes, its answer, and the writer after it.
+    /// The effect of one call: the writer before, the bytes, the answer, and the writer after.
     ghost writes: { Self → List ℕ → Result ℕ ErrorKind → Self → Type 0 };
 
     /// Calls the writer once.
@@ -71,7 +71,7 @@ pub struct FromRead<R> {
 impl<R> FromRead<R> {
     ghost use Rattle.certificate.specs.Streams.{reader_of, agains_of, source_breaks};
 
-    /// A source that gives what the reader gives. It has not failed so far.
+    /// Returns a source that gives what the reader gives. It has not failed so far.
     pub fn new(reader: R) -> FromRead<R>
         ensures reader { reader_of result ≡ reader }
         ensures agains { agains_of result ≡ 0 }
@@ -99,7 +99,7 @@ impl<R: StdRead> Source for FromRead<R> {
         ensures agains { self.new.agains ≡ agains_after result self.old.agains }
         ensures breaks { self.new.breaks ≡ breaks_after result self.old.breaks }
 
-        // The reader is called once, with the whole buffer, and its answer is told.
+        // The reader is called once, with the whole buffer, and its answer is returned.
         ensures once { (answer : Result ℕ ErrorKind) × Tells answer result
             × R.reads self.old.reader buffer.old answer self.new.reader buffer.new }
     {
@@ -121,7 +121,7 @@ pub struct ToWrite<W> {
 impl<W> ToWrite<W> {
     ghost use Rattle.certificate.specs.Streams.{writer_of, stalls_of, sink_breaks};
 
-    /// A sink that hands its bytes to the writer. It has not failed so far.
+    /// Returns a sink that passes its bytes to the writer. It has not failed so far.
     pub fn new(writer: W) -> ToWrite<W>
         ensures writer { writer_of result ≡ writer }
         ensures stalls { stalls_of result ≡ 0 }
@@ -149,7 +149,7 @@ impl<W: StdWrite> Sink for ToWrite<W> {
         ensures stalls { self.new.stalls ≡ stalls_after (length bytes.now) result self.old.stalls }
         ensures breaks { self.new.breaks ≡ breaks_after result self.old.breaks }
 
-        // The writer is called once, with all the bytes, and its answer is told.
+        // The writer is called once, with all the bytes, and its answer is returned.
         ensures once { (answer : Result ℕ ErrorKind) × Tells answer result
             × W.writes self.old.writer bytes.now answer self.new.writer }
     {
@@ -165,8 +165,8 @@ impl<W: StdWrite> Sink for ToWrite<W> {
     }
 }
 
-/// What an error of std's says to a caller here, counted: an interrupted call may be made again,
-/// and after any other error the device is broken.
+/// Returns the fault for an error of std, and counts it: an interrupted call may be repeated, and after any
+/// other error the device has failed.
 fn told(error: &Error, agains: &mut u64, breaks: &mut u64) -> DeviceFault
     ensures again { (result ≡ DeviceFault.Again) ↔ (error_kind error.now ≡ ErrorKind.Interrupted) }
     ensures agains { agains.new ≡ agains_after (Err result) agains.old }

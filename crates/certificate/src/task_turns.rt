@@ -17,7 +17,7 @@ pub(crate) struct TaskTurns {
     next: u32,
 }
 
-/// What is noted of the task.
+/// Returns what is noted of the task.
 fn noted(table: &BTreeMap<u64, TaskTurns>, task: u64) -> TaskTurns
     ensures { result ≡ noted table.now task }
 {
@@ -45,8 +45,8 @@ pub(crate) fn note_begin(
     Ok(())
 }
 
-/// Notes the thread of the task that runs after the record, if one does. Answers whether it ran on no other
-/// thread before; if it did, nothing is noted.
+/// Notes the thread of the task that runs after the record, if one does. Returns whether it ran on no other
+/// thread before; if it did, nothing is noted. Fails out of memory.
 pub(crate) fn note_start(
     table: &mut BTreeMap<u64, TaskTurns>,
     event: &Record,
@@ -70,8 +70,8 @@ pub(crate) fn note_start(
     }
 }
 
-/// The turn that the task ends where it stops running on the thread: the one that it began last, and 0 if it
-/// does not run there.
+/// Returns the turn that the task ends where it stops running on the thread: the one that it began last, and
+/// 0 if it does not run there.
 pub(crate) fn turn_ended(table: &BTreeMap<u64, TaskTurns>, task: u64, thread: u8) -> u32
     ensures { result ≡ turn_ended (noted table.now task) thread }
 {
@@ -82,7 +82,7 @@ pub(crate) fn turn_ended(table: &BTreeMap<u64, TaskTurns>, task: u64, thread: u8
     turns.next.saturating_sub(1)
 }
 
-/// Begins the next turn of the task. Takes no memory.
+/// Begins the next turn of the task, and returns it. Takes no memory.
 pub(crate) fn begin_turn(table: &mut BTreeMap<u64, TaskTurns>, task: u64) -> u32
     requires known { IsSome (get nat_cmp table.old task) }
     requires few { (noted table.old task).next < 2 ^ 31 }

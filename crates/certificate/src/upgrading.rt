@@ -1,5 +1,5 @@
-//! Version 2 of a trace of version 1. A first pass over the records notes on which thread each task runs, and
-//! which tasks are initial or implicit ones; a second one tells each record its turns, in place.
+//! Version 2 of a trace of version 1. A first pass over the records notes on which thread each task runs,
+//! and which tasks are initial or implicit ones; a second one writes its turns into each record, in place.
 ghost use Rattle.std.specs.Prelude.{ℕ, ◌≡◌, ◌<◌, ◌^◌, length, Some, IfOk, IfErr, IsSome};
 ghost use Rattle.std.specs.Ordering.{nat_cmp};
 ghost use Rattle.std.specs.BTreeMap.{get};
@@ -15,9 +15,10 @@ use ompt_events::{Body, Record, Trace, Turns};
 use std::alloc::Global;
 use std::collections::BTreeMap;
 
-/// The trace in version 2: the same records, but each record after which a task runs next tells turns. A
-/// trace of version 2 comes back as it is. A refused trace comes back as it was, with `Moved` and the place of
-/// the first record after which a task runs that ran on another thread before, or with `Memory`.
+/// Returns the trace in version 2: the same records, with turns in each record after which a task runs next.
+/// A trace of version 2 is returned as it is. Fails with `Moved` and the place of the first record after
+/// which a task runs that ran on another thread before, or out of memory; then the trace is returned as it
+/// was.
 pub fn upgrade(alloc: Global, trace: Trace) -> Result<Trace, (Trace, UpgradeFault)>
     ensures upgraded { IfOk result (IsUpgraded trace) }
     ensures back { IfErr result (λ refusal. refusal.0 ≡ trace) }
@@ -32,7 +33,7 @@ pub fn upgrade(alloc: Global, trace: Trace) -> Result<Trace, (Trace, UpgradeFaul
     }
 }
 
-/// On which thread each task runs, and its first turn.
+/// Returns on which thread each task runs, and its first turn.
 fn find_homes(alloc: Global, records: &[Record]) -> Result<BTreeMap<u64, TaskTurns>, UpgradeFault>
     ensures stay { IfOk result (λ table. MovesNowhere records.now) }
     ensures homes { IfOk result (AreHomesNoted records.now (length records.now)) }
@@ -54,7 +55,7 @@ fn find_homes(alloc: Global, records: &[Record]) -> Result<BTreeMap<u64, TaskTur
     Ok(table)
 }
 
-/// The trace of version 2 of these records, each told its turns.
+/// Returns the trace of version 2 of these records, each with its turns.
 fn tell_all(mut records: Vec<Record>, mut table: BTreeMap<u64, TaskTurns>) -> Trace
     requires trace { IsTraceOf 1 records.items }
     requires homes { AreHomesNoted records.items (length records.items) table }
@@ -70,7 +71,7 @@ fn tell_all(mut records: Vec<Record>, mut table: BTreeMap<u64, TaskTurns>) -> Tr
     }
 }
 
-/// Tells the record its turns, if a task runs after it.
+/// Writes its turns into the record, if a task runs after it.
 fn tell(event: &mut Record, table: &mut BTreeMap<u64, TaskTurns>)
     requires known { (task : ℕ) → started event.old.body ≡ Some task → IsSome (get nat_cmp table.old task) }
     requires few { (task : ℕ) → (noted table.old task).next < 2 ^ 31 }
@@ -82,7 +83,7 @@ fn tell(event: &mut Record, table: &mut BTreeMap<u64, TaskTurns>)
     }
 }
 
-/// The turns of the record, if a task runs after it: that task begins its next one.
+/// Returns the turns of the record, if a task runs after it, and begins the next turn of that task.
 fn turns_of(event: &Record, table: &mut BTreeMap<u64, TaskTurns>) -> Option<Turns>
     requires known { (task : ℕ) → started event.now.body ≡ Some task → IsSome (get nat_cmp table.old task) }
     requires few { (task : ℕ) → (noted table.old task).next < 2 ^ 31 }
@@ -102,7 +103,7 @@ fn turns_of(event: &Record, table: &mut BTreeMap<u64, TaskTurns>) -> Option<Turn
     Some(Turns { prior, next })
 }
 
-/// Tells a schedule event these turns.
+/// Writes these turns into a task_schedule.
 fn set_turns(body: &mut Body, told: Turns)
     ensures { body.new ≡ telling told body.old }
 {

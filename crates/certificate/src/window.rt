@@ -1,4 +1,4 @@
-//! The bytes that a source gave and that were not read yet.
+//! The bytes of a source that no line has yet.
 ghost use Rattle.std.specs.Prelude.{◌≡◌, ℕ, ◌≤◌, ◌<◌, ◌+◌, ◌-◌, [], length, take, drop, slice_range, Ok, OnErr, IfOk, IfSome, vec_len};
 ghost use Rattle.std.specs.Io.{ReadsAtMost};
 ghost use Rattle.std.specs.Io.KnownBytes.{ReadConsumes, Keeps, IsAtEnd, prepend_known};
@@ -14,15 +14,15 @@ use std::marker::Model;
 /// The most bytes that a line may have before its line feed.
 pub(crate) const MAX_LINE: usize = 65_536;
 
-/// Twice what the longest line needs with its line feed: when it is full, half of it is free or gets free.
+/// Twice the longest line with its line feed: if it is full, half of it is or becomes free.
 const SIZE: usize = 2 * (MAX_LINE + 1);
 
-/// A stretch of bytes that goes on at its end, as the source gives more, and is read from its front.
+/// A buffer of bytes that grows at its end by reading the source, and is read from its front.
 #[derive(Drop)]
 pub(crate) struct Window {
     bytes: Vec<u8>,
     start: usize,
-    // No line feed stands from `start` up to here.
+    // There is no line feed from `start` up to here.
     searched: usize,
     end: usize,
 }
@@ -39,7 +39,7 @@ impl Model for Window {
 }
 
 impl Window {
-    /// An empty window.
+    /// Returns an empty window. Fails out of memory.
     pub(crate) fn new(alloc: Global) -> Result<Window, AllocError>
         ensures { IfOk result (λ window. window ≡ []) }
     {
@@ -51,14 +51,14 @@ impl Window {
         })
     }
 
-    /// How many bytes wait.
+    /// Returns how many bytes the window has.
     pub(crate) fn len(&self) -> usize
         ensures { result ≡ length self.now }
     {
         self.end - self.start
     }
 
-    /// The place of the first line feed. No byte is looked at twice.
+    /// Returns the place of the first line feed, if there is one. No byte is searched twice.
     pub(crate) fn line_feed(&mut self) -> Option<usize>
         ensures same { self.new ≡ self.old }
         ensures first { IsFirstByte (is_byte 10) self.old result }
@@ -72,7 +72,7 @@ impl Window {
         }
     }
 
-    /// The first bytes. At most two of the longest lines wait.
+    /// Returns the first bytes. The window has at most two of the longest lines.
     pub(crate) fn front(&self, count: usize) -> &[u8]
         requires { count ≤ length self.now }
         ensures bytes { result.now ≡ take count self.now }
@@ -81,7 +81,7 @@ impl Window {
         &self.bytes[self.start..self.start + count]
     }
 
-    /// Lets the first bytes go.
+    /// Removes the first bytes.
     pub(crate) fn skip(&mut self, count: usize)
         requires { count ≤ length self.old }
         ensures { self.new ≡ drop count self.old }
@@ -90,7 +90,7 @@ impl Window {
         self.searched = self.start;
     }
 
-    /// Takes more bytes from the source, and says how many: none only at its end.
+    /// Reads more bytes from the source. Returns how many: none only at its end.
     pub(crate) fn fill<S: Source>(&mut self, source: &mut S) -> Result<usize, DeviceFault>
         requires { length self.old ≤ MAX_LINE }
         ensures bytes { Keeps (prepend_known self.old (S.remaining source.old))
@@ -117,7 +117,7 @@ impl Window {
     }
 }
 
-/// Moves the bytes that wait to the front, where nothing is free behind them.
+/// Moves the bytes to the front, if nothing is free after them.
 fn make_room(
     bytes: &mut Vec<u8>,
     start: usize,
@@ -137,7 +137,7 @@ fn make_room(
     (0, searched - start, end - start)
 }
 
-/// Reads into the bytes from a place on.
+/// Reads into the buffer from a place on. Returns how many bytes.
 pub(crate) fn read_at<S: Source>(
     bytes: &mut Vec<u8>,
     at: usize,

@@ -2,29 +2,30 @@
 ghost use Rattle.std.specs.Prelude.{◌≡◌, ◌≢◌, ◌<◌, ◌≤◌, ◌++◌, ◌∷◌, [], ℕ, length, take, Ok, Err, OnOk, OnErr, IfOk, IfErr};
 ghost use Rattle.std.specs.Io.KnownBytes.{Appends, Keeps};
 ghost use Rattle.certificate.specs.Counts.{TakesStalls, breaks_written, count_more, next_count, stalls_after};
-ghost use Rattle.certificate.specs.Texts.{header_line, line_of, trace_text};
+ghost use Rattle.lines.specs.Texts.{header_line, line_of};
+ghost use Rattle.certificate.specs.TraceTexts.{trace_text};
 
 use crate::device::{DeviceFault, MAX_TURNS, Sink};
 use crate::faults::WriteFault;
-use crate::texts::{put_header, put_record};
+use lines::{put_header, put_record};
 use ompt_events::{Record, Trace};
 use std::alloc::Global;
 
-/// The lines that wait are handed over once they have so many bytes.
+/// Lines are written as soon as they have this many bytes together.
 const BLOCK: usize = 65_536;
 
-/// Writes the text of the trace: the header of its version, then the line of each record. After a fault a
-/// prefix of it went out. The lines are put together in blocks of some 64 KiB.
+/// Writes the text of the trace: the header of its version, then the line of each record, in blocks of some
+/// 64 KiB. Fails if the sink fails, or out of memory; then a prefix of the text was written.
 pub fn write<S: Sink>(alloc: Global, trace: &Trace, sink: &mut S) -> Result<(), WriteFault>
     ensures ok { OnOk result
         (Appends (S.contents sink.old) (S.contents sink.new) (trace_text trace.now)) }
     ensures prefix { OnErr result
         ((n : ℕ) × Appends (S.contents sink.old) (S.contents sink.new) (take n (trace_text trace.now))) }
 
-    // Each answer `Again` or that no byte was taken of some is a turn, and the 10,001st ends the call.
+    // The call ends with the 10,001st answer `Again` or write that took none of some bytes.
     ensures turns { (turns : ℕ) × TakesStalls result turns (S.stalls sink.old) (S.stalls sink.new) }
 
-    // `Device` is told exactly where the sink broke.
+    // `Device` is reported if and only if the sink has failed.
     ensures breaks { S.breaks sink.new ≡ breaks_written result (S.breaks sink.old) }
 {
     let mut block = header(alloc, trace.version())?;
@@ -40,7 +41,7 @@ pub fn write<S: Sink>(alloc: Global, trace: &Trace, sink: &mut S) -> Result<(), 
     Ok(())
 }
 
-/// The header line of a file of this version, with its line feed.
+/// Returns the header line of a file of this version, with its line feed.
 fn header(alloc: Global, version: u32) -> Result<Vec<u8>, WriteFault>
     ensures line { IfOk result (λ block. block.items ≡ header_line version ++ 10 ∷ []) }
     ensures fault { IfErr result (λ fault. fault ≡ WriteFault.Memory) }
@@ -61,16 +62,16 @@ fn add_line(block: &mut Vec<u8>, event: &Record) -> Result<(), WriteFault>
     Ok(())
 }
 
-/// Writes just these bytes. After a fault a prefix of them went out. Takes no memory.
+/// Writes exactly these bytes. Fails if the sink fails; then a prefix of them was written. Takes no memory.
 pub fn write_bytes<S: Sink>(bytes: &[u8], sink: &mut S) -> Result<(), WriteFault>
     ensures ok { OnOk result (Appends (S.contents sink.old) (S.contents sink.new) bytes.now) }
     ensures prefix { OnErr result
         ((n : ℕ) × Appends (S.contents sink.old) (S.contents sink.new) (take n bytes.now)) }
 
-    // Each answer `Again` or that no byte was taken of some is a turn, and the 10,001st ends the call.
+    // The call ends with the 10,001st answer `Again` or write that took none of some bytes.
     ensures turns { (turns : ℕ) × TakesStalls result turns (S.stalls sink.old) (S.stalls sink.new) }
 
-    // `Device` is told exactly where the sink broke.
+    // `Device` is reported if and only if the sink has failed.
     ensures breaks { S.breaks sink.new ≡ breaks_written result (S.breaks sink.old) }
     ensures memory { result ≢ Err WriteFault.Memory }
 {
@@ -78,8 +79,8 @@ pub fn write_bytes<S: Sink>(bytes: &[u8], sink: &mut S) -> Result<(), WriteFault
     Ok(())
 }
 
-/// Hands all the bytes to the sink, in a call that has taken so many turns already. Says how many it has
-/// taken then.
+/// Writes all the bytes to the sink, in a call that was interrupted `turns` times before. Returns how often
+/// it was then.
 fn send<S: Sink>(bytes: &[u8], sink: &mut S, before: u32) -> Result<u32, WriteFault>
     requires { before ≤ MAX_TURNS }
     ensures ok { OnOk result (Appends (S.contents sink.old) (S.contents sink.new) bytes.now) }
@@ -110,7 +111,7 @@ fn send<S: Sink>(bytes: &[u8], sink: &mut S, before: u32) -> Result<u32, WriteFa
     Ok(turns)
 }
 
-/// Hands some bytes to the sink once, and says how many it took: none too where it wants to be asked again.
+/// Writes some bytes to the sink once. Returns how many it took: none also if it was interrupted.
 fn offer<S: Sink>(bytes: &[u8], sink: &mut S) -> Result<usize, WriteFault>
     requires { 0 < length bytes.now }
     ensures bound { IfOk result (λ n. n ≤ length bytes.now) }

@@ -1,6 +1,6 @@
 -- What an audit or a recording tells of the failures of its source and its sink.
 use Rattle.std.specs.Prelude.{◌≡◌, ℕ, Option, Some, None, Result, Ok, Err}
-use Rattle.certificate.specs.declared.faults.ReadCause.{ReadCause}
+use Rattle.lines.specs.declared.cause.ReadCause.{ReadCause}
 use Rattle.certificate.specs.declared.faults.WriteFault.{WriteFault}
 use Rattle.certificate.specs.Counts.{TakesTurns, TakesStalls, breaks_told, breaks_written}
 use Rattle.certificate.specs.ReadingOn.{ReadsAhead}

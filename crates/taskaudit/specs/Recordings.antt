@@ -5,7 +5,7 @@ use Rattle.ompt_events.specs.Traces.{TraceView}
 use Rattle.certificate.specs.Formats.{said}
 use Rattle.certificate.specs.Reading.{IsToldIn}
 use Rattle.certificate.specs.ScriptFiles.{scripts}
-use Rattle.certificate.specs.Texts.{trace_text}
+use Rattle.certificate.specs.TraceTexts.{trace_text}
 use Rattle.checker.specs.declared.verdict.CheckFault.TheVariants as check
 use Rattle.recorder.specs.declared.fault.CallFault.{CallFault}
 use Rattle.scripts.specs.declared.script.Step.{Step}

@@ -11,13 +11,14 @@ use Rattle.ompt_events.specs.Causes.{entries_in}
 use Rattle.checker.specs.declared.verdict.Verdict.{Verdict}
 use Rattle.checker.specs.declared.verdict.Verdict.TheVariants.{Yes, No, Malformed}
 use Rattle.checker.specs.declared.verdict.Why.TheVariants.{Unfinished, Predecessor}
-use Rattle.certificate.specs.declared.faults.ReadCause.{ReadCause}
-use Rattle.certificate.specs.declared.faults.ReadCause.TheVariants as read
+use Rattle.lines.specs.declared.cause.ReadCause.{ReadCause}
+use Rattle.lines.specs.declared.cause.ReadCause.TheVariants as read
 use Rattle.certificate.specs.declared.faults.WriteFault.{WriteFault}
 use Rattle.certificate.specs.declared.faults.WriteFault.TheVariants as write
 use Rattle.certificate.specs.declared.faults.UpgradeFault.{UpgradeFault}
 use Rattle.certificate.specs.declared.faults.UpgradeFault.TheVariants as upgrade
-use Rattle.certificate.specs.FaultNames.{read_cause_number, read_cause_name, write_fault_number}
+use Rattle.certificate.specs.FaultNames.{write_fault_number}
+use Rattle.lines.specs.CauseNames.{read_cause_number, read_cause_name}
 use Rattle.certificate.specs.FaultNames.{write_fault_name, upgrade_fault_number, upgrade_fault_name}
 use Rattle.checker.specs.declared.verdict.CheckFault.TheVariants as check
 use Rattle.recorder.specs.declared.fault.CallFault.{CallFault}

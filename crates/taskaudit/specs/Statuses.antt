@@ -1,7 +1,7 @@
 -- The exit statuses of the program.
 use Rattle.std.specs.Prelude.{ℕ, Result, Ok, Err}
-use Rattle.certificate.specs.declared.faults.ReadCause.{ReadCause}
-use Rattle.certificate.specs.declared.faults.ReadCause.TheVariants as read
+use Rattle.lines.specs.declared.cause.ReadCause.{ReadCause}
+use Rattle.lines.specs.declared.cause.ReadCause.TheVariants as read
 use Rattle.certificate.specs.declared.faults.WriteFault.{WriteFault}
 use Rattle.certificate.specs.declared.faults.WriteFault.TheVariants as write
 use Rattle.certificate.specs.declared.faults.UpgradeFault.{UpgradeFault}

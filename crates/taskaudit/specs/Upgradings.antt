@@ -4,7 +4,7 @@ use Rattle.std.specs.Io.KnownBytes.{Appends, Keeps}
 use Rattle.ompt_events.specs.Traces.{TraceView}
 use Rattle.ompt_events.specs.Upgrades.{MovesFirst}
 use Rattle.certificate.specs.Files.{file_says}
-use Rattle.certificate.specs.Texts.{trace_text}
+use Rattle.certificate.specs.TraceTexts.{trace_text}
 use Rattle.certificate.specs.Upgrading.{IsUpgraded}
 use Rattle.certificate.specs.declared.faults.UpgradeFault.{UpgradeFault}
 use Rattle.certificate.specs.declared.faults.UpgradeFault.TheVariants as upgrade

@@ -1,5 +1,5 @@
 use Rattle.std.proofs.Common.{sym}
-use Rattle.certificate.proofs.SoundLemmas.{line_says-sound}
+use Rattle.lines.proofs.SoundLemmas.{line_says-sound}
 use Rattle.certificate.proofs.laws.lines_are_sound.Goals as goal
 
 pub returns : goal.returns

@@ -1,7 +1,7 @@
 use Rattle.std.proofs.Common.{◌∙◌, sym}
-use Rattle.certificate.specs.Texts.{trace_text}
+use Rattle.certificate.specs.TraceTexts.{trace_text}
 use Rattle.certificate.proofs.LawLemmas.{said_stands}
-use Rattle.certificate.proofs.LineLemmas.{trace_said-text}
+use Rattle.certificate.proofs.TraceTextLemmas.{trace_said-text}
 use Rattle.certificate.proofs.laws.text_stands_for_its_trace.Goals as goal
 
 pub returns : goal.returns

@@ -1,7 +1,8 @@
 use Rattle.std.proofs.Common.{◌+◌, ◌≡◌, ◌-◌, ◌≤◌, length}
 use Rattle.std.specs.Prelude.{None}
 use Rattle.std.specs.Io.KnownBytes.{Keeps, prepend_known}
-use Rattle.certificate.specs.Limits.{max_turns, max_line}
+use Rattle.certificate.specs.Limits.{max_turns}
+use Rattle.lines.specs.Limits.{max_line}
 use Rattle.certificate.specs.Counts.{TakesTurns}
 use Rattle.certificate.proofs.reading.next_line.Given as goal
 

@@ -1,6 +1,6 @@
 use Rattle.std.proofs.Common.{length, refl, arith, ap, ◌∙◌, Some, Ok, Err}
 use Rattle.ompt_events.specs.Traces.{TraceView}
-use Rattle.certificate.specs.declared.faults.ReadCause.TheVariants.{Memory}
+use Rattle.lines.specs.declared.cause.ReadCause.TheVariants.{Memory}
 use Rattle.certificate.specs.Formats.{fault_in}
 use Rattle.certificate.specs.Files.{traces}
 use Rattle.certificate.proofs.CountLemmas.{TakesTurns-none, TakesTurns-more, TakesTurns-other}

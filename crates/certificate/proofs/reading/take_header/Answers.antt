@@ -1,5 +1,5 @@
-use Rattle.certificate.specs.declared.faults.ReadCause.TheVariants.{Memory}
-use Rattle.certificate.proofs.RecordLemmas.{ok_not_err}
+use Rattle.lines.specs.declared.cause.ReadCause.TheVariants.{Memory}
+use Rattle.lines.proofs.RecordLemmas.{ok_not_err}
 use Rattle.certificate.proofs.TraceLemmas.{header_says-known}
 use Rattle.certificate.proofs.reading.take_header.Goals as goal
 

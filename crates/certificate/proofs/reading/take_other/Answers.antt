@@ -1,6 +1,6 @@
-use Rattle.certificate.specs.declared.faults.ReadCause.TheVariants.{Memory}
-use Rattle.certificate.proofs.RecordLemmas.{ok_not_err}
-use Rattle.certificate.proofs.SoundLemmas.{line_says-sound}
+use Rattle.lines.specs.declared.cause.ReadCause.TheVariants.{Memory}
+use Rattle.lines.proofs.RecordLemmas.{ok_not_err}
+use Rattle.lines.proofs.SoundLemmas.{line_says-sound}
 use Rattle.certificate.proofs.reading.take_other.Goals as goal
 
 pub keep-requires : goal.keep-requires

@@ -1,5 +1,5 @@
 use Rattle.std.proofs.Common.{sym}
-use Rattle.certificate.proofs.SoundLemmas.{line_says-sound}
+use Rattle.lines.proofs.SoundLemmas.{line_says-sound}
 use Rattle.certificate.proofs.reading.take_text.Goals as goal
 
 pub keep-requires : goal.keep-requires

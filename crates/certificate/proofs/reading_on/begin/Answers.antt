@@ -1,14 +1,14 @@
 use Rattle.std.proofs.Common.{◌≡◌, ◌+◌, ◌++◌, [], ◌≤◌, List, ℕ, Some, None, length, drop, arith, rules, refl}
 use Rattle.std.proofs.Common.{sym, ap, ◌∙◌, subst, length-append, length-drop}
 use Rattle.std.proofs.lemmas.Result.{err_from_is_err_and}
-use Rattle.certificate.specs.declared.faults.ReadCause.TheVariants.{Memory}
+use Rattle.lines.specs.declared.cause.ReadCause.TheVariants.{Memory}
 use Rattle.certificate.specs.declared.pieces.Piece.{Piece}
 use Rattle.certificate.specs.Limits.{newest_version}
 use Rattle.certificate.specs.Pieces.{AreJudged}
 use Rattle.certificate.specs.ReadingOn.{IsLineCounted}
 use Rattle.certificate.specs.Windows.{LineFeedAt}
 use Rattle.certificate.proofs.BlockLemmas.{whole_drop}
-use Rattle.certificate.proofs.RecordLemmas.{ok_not_err}
+use Rattle.lines.proofs.RecordLemmas.{ok_not_err}
 use Rattle.certificate.proofs.PieceLemmas.{begins_long, long_line, header_taken, header_fault}
 use Rattle.certificate.proofs.AheadLemmas.{waits_first, whole_none, ended_step}
 use Rattle.certificate.proofs.reading_on.begin.Goals as goal

@@ -1,7 +1,7 @@
 use Rattle.std.proofs.Common.{sym, ◌∙◌}
 use Rattle.std.proofs.lemmas.Result.{err_from_is_err_and}
-use Rattle.certificate.specs.declared.faults.ReadCause.TheVariants.{Memory}
-use Rattle.certificate.proofs.RecordLemmas.{ok_not_err}
+use Rattle.lines.specs.declared.cause.ReadCause.TheVariants.{Memory}
+use Rattle.lines.proofs.RecordLemmas.{ok_not_err}
 use Rattle.certificate.specs.ScriptFiles.{scripts}
 use Rattle.certificate.proofs.ReadingLemmas.{IsBetween-keeps, IsBetween-line, IsAfter-no_line}
 use Rattle.certificate.proofs.ReadingLemmas.{IsAfter-text_fault, IsAfter-none_first, IsAfter-none}

@@ -1,6 +1,6 @@
 use Rattle.std.proofs.Common.{List, length, refl, arith, ap, ◌∙◌, Some, Ok}
 use Rattle.scripts.specs.declared.script.Step.{Step}
-use Rattle.certificate.specs.declared.faults.ReadCause.TheVariants.{Memory}
+use Rattle.lines.specs.declared.cause.ReadCause.TheVariants.{Memory}
 use Rattle.certificate.specs.ScriptFiles.{scripts}
 use Rattle.certificate.proofs.CountLemmas.{TakesTurns-none, TakesTurns-more, TakesTurns-other}
 use Rattle.certificate.proofs.ReadingLemmas.{IsAnswerIn-no_window, IsBetween-start}

@@ -1,6 +1,6 @@
 use Rattle.std.proofs.Common.{◌+◌, ◌++◌, ◌∷◌, [], arith, refl, sym, ◌∙◌, append-nil}
 use Rattle.std.proofs.lemmas.Result.{err_from_is_err_and}
-use Rattle.certificate.specs.Texts.{header_line}
+use Rattle.lines.specs.Texts.{header_line}
 use Rattle.certificate.proofs.CountLemmas.{count_more-zero, TakesStalls-memory}
 use Rattle.certificate.proofs.WritingLemmas.{Appends-none, Appends-both, text-more, part-out, sent-out}
 use Rattle.certificate.proofs.WritingLemmas.{whole-out, on_err}

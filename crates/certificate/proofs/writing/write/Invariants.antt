@@ -2,7 +2,8 @@ use Rattle.std.proofs.Common.{◌≡◌, ◌≤◌, ◌∷◌, ◌++◌, List, �
 use Rattle.std.specs.Io.KnownBytes.{Appends}
 use Rattle.certificate.specs.Limits.{max_turns}
 use Rattle.certificate.specs.Counts.{count_more}
-use Rattle.certificate.specs.Texts.{ended_lines, header_line, line_of}
+use Rattle.lines.specs.Texts.{header_line, line_of}
+use Rattle.certificate.specs.TraceTexts.{ended_lines}
 use Rattle.certificate.proofs.writing.write.Given as goal
 
 -- what went out and what waits are the header and the lines of the records so far

@@ -4,8 +4,8 @@ use Rattle.std.specs.Vec.Iter.{into_iter_items}
 use Rattle.std.proofs.lemmas.List.Elements.{All-head, All-tail, All-same}
 use Rattle.ompt_events.specs.declared.records.Record.{Record}
 use Rattle.ompt_events.specs.Traces.{IsSoundIn, TraceView}
-use Rattle.certificate.specs.declared.faults.ReadCause.TheVariants.{Memory}
-use Rattle.certificate.proofs.RecordLemmas.{ok_not_err}
+use Rattle.lines.specs.declared.cause.ReadCause.TheVariants.{Memory}
+use Rattle.lines.proofs.RecordLemmas.{ok_not_err}
 use Rattle.certificate.proofs.RoomLemmas.{HaveRoom-length, HaveRoom-push, with_record-ok, kept_more}
 use Rattle.certificate.proofs.kept.Kept.keep_each.Goals as goal
 

@@ -1,7 +1,0 @@
-use Rattle.std.proofs.Common.{◌≡◌, map, take}
-use Rattle.certificate.specs.LooseBodies.{cut_short}
-use Rattle.certificate.proofs.bodies.cut_path.Given as goal
-
--- the numbers so far are kept, each cut short
-abbrev pub invariant-numbers : goal.invariant-numbers
-invariant-numbers l = l.path.items ≡ map cut_short (take l.number-index l.numbers.items)

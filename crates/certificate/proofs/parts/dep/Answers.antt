@@ -1,9 +1,0 @@
-use Rattle.certificate.proofs.PartLemmas.{text-dep}
-use Rattle.certificate.proofs.TakeLemmas.{Takes-both, Takes-same}
-use Rattle.certificate.proofs.parts.dep.Goals as goal
-
-pub returns : goal.returns
-returns c =
-    Takes-same _ _ _ _ (text-dep (record { var = c.in_ok-var.var; kind = c.in_ok-kind.kind }))
-    (Takes-both _ _ _ _ _ c.in_ok-kind.ensures
-    (Takes-both _ _ _ _ _ c.in_ok-var.ensures c.in_ok-behind.ensures))

@@ -1,8 +1,0 @@
-use Rattle.std.proofs.Common.{[]}
-use Rattle.certificate.specs.Texts.{whole_number}
-use Rattle.certificate.proofs.TakeLemmas.{AreItemsTaken}
-use Rattle.certificate.proofs.parts.path_alone.Given as goal
-
--- the items so far
-abbrev pub invariant-numbers : goal.invariant-numbers
-invariant-numbers l = AreItemsTaken whole_number l.numbers.items l.later l.fn.rest l.rest []

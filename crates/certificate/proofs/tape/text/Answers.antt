@@ -1,6 +1,0 @@
-use Rattle.std.proofs.Common.{◌∙◌}
-use Rattle.certificate.proofs.MeaningLemmas.{text-says}
-use Rattle.certificate.proofs.tape.text.Goals as goal
-
-pub returns : goal.returns
-returns c = c.as_str.ensures c.requires.0 c.requires.1 ∙ text-says c.args.item.now c.requires

@@ -1,7 +1,0 @@
-use Rattle.certificate.specs.Objects.{rows}
-use Rattle.certificate.proofs.WrittenLemmas.{AreMembersTaken}
-use Rattle.certificate.proofs.written.take_members.Given as goal
-
--- the members so far
-abbrev pub invariant-members : goal.invariant-members
-invariant-members l = AreMembersTaken (rows l.members.items) l.later l.fn.line l.rest

@@ -1,0 +1,16 @@
+mod MemberLemmas
+mod MeaningLemmas
+mod NumberLemmas
+pub mod RecordLemmas
+mod LooseLemmas
+pub mod SoundLemmas
+pub mod JsonLemmas
+mod ObjectLemmas
+mod ItemLemmas
+mod TakeLemmas
+mod PartLemmas
+mod FlagLemmas
+pub mod TextLemmas
+mod SaysLemmas
+pub mod LineLemmas
+mod WrittenLemmas

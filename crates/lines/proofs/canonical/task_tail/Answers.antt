@@ -1,0 +1,9 @@
+use Rattle.lines.proofs.TakeLemmas.{Takes-both}
+use Rattle.lines.proofs.canonical.task_tail.Goals as goal
+
+pub returns : goal.returns
+returns c =
+    Takes-both _ _ _ _ _ c.in-Some.ensures
+    (Takes-both _ _ _ _ _ c.in-Some-short.ensures
+    (Takes-both _ _ _ _ _ c.in-Some-id.ensures
+    (Takes-both _ _ _ _ _ c.in-Some-byte.ensures c.in-Some-end.ensures)))

@@ -1,0 +1,8 @@
+use Rattle.std.proofs.Common.{[]}
+use Rattle.lines.specs.Texts.{whole_number}
+use Rattle.lines.proofs.TakeLemmas.{AreItemsTaken}
+use Rattle.lines.proofs.parts.path_alone.Given as goal
+
+-- the items so far
+abbrev pub invariant-numbers : goal.invariant-numbers
+invariant-numbers l = AreItemsTaken whole_number l.numbers.items l.later l.fn.rest l.rest []

@@ -1,0 +1,12 @@
+use Rattle.lines.proofs.PartLemmas.{line-parallel_begin}
+use Rattle.lines.proofs.ItemLemmas.{Puts-both, Puts-same, on_ok}
+use Rattle.lines.proofs.texts.put_parallel_begin.Goals as goal
+
+pub returns : goal.returns
+returns c =
+    on_ok _
+    (λ last.
+    Puts-same _ _ _ _
+    (line-parallel_begin c.args.head c.args.requested c.args.task c.args.parallel)
+    (Puts-both _ _ _ _ _ c.in-Ok.ensures (Puts-both _ _ _ _ _ c.in-Ok-put_short.ensures last)))
+    c.put_task_tail.ensures
