@@ -3,7 +3,6 @@ use Rattle.std.proofs.Common.{◌≡◌, ◌≢◌, ℕ, ◌+◌, ◌<◌, ◌�
 use Rattle.std.proofs.Common.{Some, None, Result, Ok, Err, true, false, cond, arith, refl, sym, ap, ◌∙◌}
 use Rattle.std.proofs.Common.{eqb-true, eq-eqb, suc, append-nil, length-append, length-take}
 use Rattle.std.specs.Prelude.{◌==◌}
-use Rattle.std.specs.List.{AllByRecursion}
 use Rattle.lines.specs.declared.cause.ReadCause.{ReadCause}
 use Rattle.certificate.specs.declared.faults.ReadFault.{ReadFault}
 use Rattle.lines.specs.declared.cause.ReadCause.TheVariants.{LineTooLong}

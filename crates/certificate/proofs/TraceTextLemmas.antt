@@ -1,6 +1,6 @@
 -- Why a file of the lines of a trace stands for that trace.
-use Rattle.std.proofs.Common.{◌≡◌, ℕ, suc, ◌+◌, ◌*◌, ◌<◌, ◌≤◌, ◌^◌, Bool, true, false, not, cond, ◌||◌, List}
-use Rattle.std.proofs.Common.{[], ◌∷◌, ◌++◌, length, map, Option, Some, is_some, Ok, arith, refl, sym, ap}
+use Rattle.std.proofs.Common.{◌≡◌, ℕ, ◌+◌, ◌<◌, ◌≤◌, Bool, true, false, not, cond, ◌||◌, List}
+use Rattle.std.proofs.Common.{[], ◌∷◌, ◌++◌, length, map, is_some, Ok, arith, refl, sym, ap}
 use Rattle.std.proofs.Common.{◌∙◌, append_assoc, append-nil, length-append}
 use Rattle.std.specs.Prelude.{◌==◌, nat_lt, All}
 use Rattle.std.specs.List.{AllByRecursion}
@@ -10,21 +10,14 @@ use Rattle.ompt_events.specs.declared.records.Record.{Record}
 use Rattle.ompt_events.specs.Records.{made}
 use Rattle.ompt_events.specs.Limits.{max_records, max_tasks}
 use Rattle.ompt_events.specs.Traces.{TraceView, tasks_in, IsTrace}
-use Rattle.serde_json.specs.Data.{Data, number, unsigned}
-use Rattle.serde_json.specs.Read.{max_depth}
-use Rattle.serde_json.specs.View.{items_of}
-use Rattle.serde_json.specs.Written.{compact_text}
-use Rattle.lines.specs.Texts.{whole_number}
 use Rattle.certificate.specs.TraceTexts.{ended_lines}
 use Rattle.lines.specs.Limits.{max_line}
-use Rattle.lines.specs.Members.{each, whole_of}
-use Rattle.lines.specs.RecordLines.{line_says, header_says, said_of}
+use Rattle.lines.specs.RecordLines.{header_says}
 use Rattle.certificate.specs.Formats.{Cut, cut, is_long, from_line}
 use Rattle.certificate.specs.Files.{has_room, no_trace, traces, trace_said}
 use Rattle.certificate.proofs.FileLemmas.{cut-line}
 use Rattle.lines.proofs.JsonLemmas.{IsUnbroken}
-use Rattle.lines.proofs.JsonLemmas.{IsPlain, ArePlain, size, items_size, value_of-compact_text}
-use Rattle.lines.proofs.JsonLemmas.{unbroken-compact_text, length-compact_text}
+use Rattle.lines.proofs.JsonLemmas.{unbroken-compact_text}
 use Rattle.std.proofs.Common.{get_or, ◌⊎◌, inl, inr}
 use Rattle.ompt_events.specs.Traces.{IsTraceOf}
 use Rattle.certificate.specs.TraceTexts.{trace_text}

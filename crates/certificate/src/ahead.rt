@@ -11,11 +11,11 @@ ghost use Rattle.certificate.specs.Ahead.{IsFirst, IsInHand, CanAsk, ArePiecesAd
 
 use crate::blocks::{Block, fill};
 use crate::device::Source;
-use lines::ReadCause;
 use crate::kept::Kept;
 use crate::pieces::Piece;
 use crate::reading::LAST_LINE;
 use crate::window::MAX_LINE;
+use lines::ReadCause;
 use std::alloc::{AllocError, Global};
 use std::mem::replace;
 

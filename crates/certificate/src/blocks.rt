@@ -8,8 +8,8 @@ ghost use Rattle.certificate.specs.Pieces.{IsWholeLines};
 ghost use Rattle.certificate.specs.Blocks.{AreWholeLines, IsFillFault};
 
 use crate::device::{DeviceFault, MAX_TURNS, Source};
-use lines::ReadCause;
 use crate::window::read_at;
+use lines::ReadCause;
 use memchr::memrchr;
 use std::alloc::{AllocError, Global};
 use std::marker::Model;

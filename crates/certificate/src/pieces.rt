@@ -4,9 +4,9 @@ ghost use Rattle.std.specs.Prelude.{◌≡◌, ◌≤◌, ◌<◌, ◌+◌, ◌-
 ghost use Rattle.certificate.specs.Pieces.{IsWholeLines, IsPieceJudged, AreJudged, TakesLine, TakesText, WithRecord, SamePiece};
 ghost use Rattle.certificate.specs.Blocks.{AreCuts, IsPiece};
 
-use lines::{ReadCause, record, record_as_written};
 use crate::window::MAX_LINE;
 use json::Scratch;
+use lines::{ReadCause, record, record_as_written};
 use memchr::memchr;
 use ompt_events::Record;
 use std::alloc::{AllocError, Global};

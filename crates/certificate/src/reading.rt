@@ -10,10 +10,10 @@ ghost use Rattle.certificate.specs.Windows.{ShowsLine, ShowsFault, IsDeviceFault
 
 use crate::device::{DeviceFault, MAX_TURNS, Source};
 use crate::faults::ReadFault;
-use lines::{ReadCause, TRACES, header, record, record_as_written};
 use crate::kept::Kept;
 use crate::window::{MAX_LINE, Window};
 use json::Scratch;
+use lines::{ReadCause, TRACES, header, record, record_as_written};
 use ompt_events::{MAX_RECORDS, Trace};
 use std::alloc::Global;
 

@@ -9,10 +9,10 @@ ghost use Rattle.scripts.specs.Scripts.{may_follow};
 
 use crate::device::{MAX_TURNS, Source};
 use crate::faults::ReadFault;
-use lines::{Loose, ReadCause, SaidStep, header, step};
 use crate::reading::{LAST_LINE, next_line};
 use crate::window::Window;
 use json::Scratch;
+use lines::{Loose, ReadCause, SaidStep, header, step};
 use scripts::{Script, ScriptFault};
 use std::alloc::Global;
 

@@ -1,6 +1,6 @@
 -- The line of each record is plain and short, within the reader's bounds, and says the record.
 use Rattle.std.proofs.Common.{◌≡◌, ℕ, get_or, Ok, Err, ◌+◌, ◌≤◌, length, ◌<◌, ◌^◌, Bool, cond, map, arith}
-use Rattle.std.proofs.Common.{Option, Some, None, List, [], ◌∷◌, ◌++◌, ◌⊎◌, inl, inr, true, false, refl, ap}
+use Rattle.std.proofs.Common.{Option, Some, None, List, [], ◌∷◌, ◌++◌, true, false, refl, ap}
 use Rattle.std.proofs.Common.{◌∙◌}
 use Rattle.std.specs.Prelude.{IfSome, All, ok_or, option_and_then}
 use Rattle.std.specs.List.{AllByRecursion, list_all}
@@ -36,7 +36,7 @@ use Rattle.ompt_events.specs.Names.{status_name, endpoint_name, sync_kind_name, 
 use Rattle.ompt_events.specs.Names.{thread_kind_name}
 use Rattle.ompt_events.specs.Flags.{task_flags, cancel_flags, has_flag}
 use Rattle.ompt_events.specs.Limits.{max_threads, max_depth, max_dependences}
-use Rattle.ompt_events.specs.Traces.{TraceView, IsTraceOf, IsSound, IsSoundIn, ClaimInRange, TurnsInRange}
+use Rattle.ompt_events.specs.Traces.{IsSound, IsSoundIn, ClaimInRange, TurnsInRange}
 use Rattle.ompt_events.specs.Traces.{BodyInRange, IsInRange}
 use Rattle.lines.specs.declared.cause.ReadCause.TheVariants.{Header, Limit}
 use Rattle.lines.specs.Limits.{max_line}
@@ -47,7 +47,7 @@ use Rattle.lines.specs.Texts.{with_member, whole_number, data_of, number_or_null
 use Rattle.lines.specs.Texts.{claim_members, turn_members, body_members, record_members, line_of}
 use Rattle.lines.specs.Texts.{header_members, header_data, header_line}
 use Rattle.lines.proofs.JsonLemmas.{is_plain_text, IsPlain, ArePlain, size, items_size}
-use Rattle.lines.proofs.JsonLemmas.{value_of-compact_text, unbroken-compact_text, length-compact_text}
+use Rattle.lines.proofs.JsonLemmas.{value_of-compact_text, length-compact_text}
 use Rattle.lines.proofs.ObjectLemmas.{IsPlainMember, IsPlain-object_of, added_size, size-object_of}
 use Rattle.lines.proofs.TextLemmas.{AllByRecursion-from, IsLineOf-plain}
 use Rattle.lines.proofs.TextLemmas.{items_size-items_of, items_size-wholes, ArePlain-items_of}

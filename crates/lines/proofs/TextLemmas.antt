@@ -1,15 +1,10 @@
 -- What a line of plain JSON is, and lists in it.
-use Rattle.std.proofs.Common.{◌≡◌, ℕ, suc, ◌+◌, ◌*◌, ◌<◌, ◌≤◌, ◌^◌, Bool, true, false, not, cond, ◌||◌, List}
-use Rattle.std.proofs.Common.{[], ◌∷◌, ◌++◌, length, map, Option, Some, is_some, Ok, arith, refl, sym, ap}
-use Rattle.std.proofs.Common.{◌∙◌, append_assoc, append-nil, length-append}
-use Rattle.std.specs.Prelude.{◌==◌, nat_lt, All}
+use Rattle.std.proofs.Common.{◌≡◌, ℕ, suc, ◌+◌, ◌*◌, ◌<◌, ◌≤◌, ◌^◌, List}
+use Rattle.std.proofs.Common.{[], ◌∷◌, length, map, Option, Some, Ok, arith, refl, ap}
+use Rattle.std.proofs.Common.{◌∙◌}
+use Rattle.std.specs.Prelude.{All}
 use Rattle.std.specs.List.{AllByRecursion}
-use Rattle.std.proofs.lemmas.Bool.{ne_eqb, lt-ltb}
-use Rattle.std.proofs.lemmas.List.Sums.{sum_by-cons, sum_by-append}
 use Rattle.ompt_events.specs.declared.records.Record.{Record}
-use Rattle.ompt_events.specs.Records.{made}
-use Rattle.ompt_events.specs.Limits.{max_records, max_tasks}
-use Rattle.ompt_events.specs.Traces.{TraceView, tasks_in, IsTrace}
 use Rattle.serde_json.specs.Data.{Data, number, unsigned}
 use Rattle.serde_json.specs.Read.{max_depth}
 use Rattle.serde_json.specs.View.{items_of}
@@ -17,7 +12,7 @@ use Rattle.serde_json.specs.Written.{compact_text}
 use Rattle.lines.specs.Texts.{whole_number}
 use Rattle.lines.specs.Limits.{max_line}
 use Rattle.lines.specs.Members.{each, whole_of}
-use Rattle.lines.specs.RecordLines.{line_says, header_says, said_of}
+use Rattle.lines.specs.RecordLines.{line_says, said_of}
 use Rattle.lines.proofs.JsonLemmas.{IsUnbroken}
 use Rattle.lines.proofs.JsonLemmas.{IsPlain, ArePlain, size, items_size, value_of-compact_text}
 use Rattle.lines.proofs.JsonLemmas.{unbroken-compact_text, length-compact_text}

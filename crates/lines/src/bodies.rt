@@ -8,13 +8,13 @@ ghost use Rattle.lines.specs.Objects.{IsReadable, object_data};
 ghost use Rattle.lines.specs.RecordLines as spec;
 ghost use Rattle.lines.specs.RecordLines.{IsSaid};
 
-use crate::tables::members;
 use crate::cause::ReadCause;
 use crate::members::Member;
 use crate::objects::{
     Object, begin_or_end, dependences as deps, endpoint, flags, id, id_or_null, numbers, sync_kind,
     thread_kind, truth,
 };
+use crate::tables::members;
 use ompt_events::{Body, Claim, Deps, MAX_DEPENDENCES, MAX_DEPTH, Path, Turns};
 use std::alloc::Global;
 
@@ -268,7 +268,7 @@ fn cut_short(number: u64) -> u32
 }
 
 /// Returns whether the number has at most 32 bits.
-pub(crate) fn is_short(number: u64) -> bool
+fn is_short(number: u64) -> bool
     ensures { result ≡ spec.is_short number }
 {
     number <= u64::from(u32::MAX)

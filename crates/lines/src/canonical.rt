@@ -2,11 +2,11 @@
 ghost use Rattle.std.specs.Prelude.{◌≡◌, [], IfSome};
 ghost use Rattle.lines.specs.Texts.{Takes, line_of, task_tail, status_tail};
 
-use crate::tables::line_parts;
 use crate::parts::{
     byte, cancel_flags, deps, end, endpoint, id, id_or_null, path, short, status, sync_kind,
     task_flags, thread_kind, truth,
 };
+use crate::tables::line_parts;
 use ompt_events::{Body, Claim, Record, Status, Turns};
 use std::alloc::Global;
 

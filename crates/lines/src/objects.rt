@@ -1,8 +1,8 @@
 //! The object of a line in either form, and the kinds of values that its members have. A look-up fails with
 //! `Field` if the member is missing or its value is of another kind.
-ghost use Rattle.std.specs.Prelude.{◌≡◌, Some, IfSome, is_some, ok_or, option_and_then, option_map};
+ghost use Rattle.std.specs.Prelude.{◌≡◌, Some, IfSome, is_some, ok_or, option_map};
 ghost use Rattle.std.specs.Result.{result_map_both};
-ghost use Rattle.serde_json.specs.Find.{as_array, as_bool, as_str, get};
+ghost use Rattle.serde_json.specs.Find.{as_bool, as_str, get};
 ghost use Rattle.lines.specs.MemberNames.{member_name};
 ghost use Rattle.lines.specs.Members as spec;
 ghost use Rattle.lines.specs.Objects.{IsFoundReadable, IsReadable, found_data, object_data};

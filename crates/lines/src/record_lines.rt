@@ -8,14 +8,14 @@ ghost use Rattle.lines.specs.RecordLines as spec;
 ghost use Rattle.lines.specs.RecordLines.{IsSaid, bounded};
 
 use crate::bodies::{
-    Loose, both, claim_if, dependences, found, implicit_task, is_short, parallel_begin,
-    parallel_end, sync_region, task_create, thread_begin, thread_end, turns_if,
+    Loose, both, claim_if, dependences, found, implicit_task, parallel_begin, parallel_end,
+    sync_region, task_create, thread_begin, thread_end, turns_if,
 };
-use crate::tables::{each_callback, members};
 use crate::canonical::canonical;
 use crate::cause::ReadCause;
 use crate::members::Member;
 use crate::objects::{Object, flags, id, next, status, text};
+use crate::tables::{each_callback, members};
 use crate::values::tape_of;
 use crate::written;
 use bitflags::Flags;

@@ -9,10 +9,10 @@ use crate::bodies::{
     Loose, dependences, found, implicit_task, parallel_begin, parallel_end, sync_region,
     task_create, thread_begin, thread_end,
 };
-use crate::tables::{each_callback, members};
 use crate::cause::ReadCause;
 use crate::members::Member;
 use crate::objects::{Object, flags, has, id, next, numbers, status, text};
+use crate::tables::{each_callback, members};
 use crate::values::tape_of;
 use crate::written;
 use json::Scratch;

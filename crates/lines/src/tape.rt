@@ -7,9 +7,9 @@ ghost use Rattle.lines.specs.Meanings.{meant_at};
 ghost use Rattle.lines.specs.Members as spec;
 ghost use Rattle.lines.specs.RecordLines.{IsSaid};
 
-use crate::tables::members;
 use crate::cause::ReadCause;
 use crate::members::Member;
+use crate::tables::members;
 use crate::values::whole_number;
 use bitflags::Flags;
 use json::Element;

@@ -6,4 +6,4 @@ use Rattle.certificate.proofs.reading.take_other.Goals as goal
 pub keep-requires : goal.keep-requires
 keep-requires c =
     rw (← c.version.ensures)
-    (line_says-sound _ c.args.text.now _ (c.in_ok-other.ensures (ok_not_err _ Memory)))
+    (line_says-sound _ c.args.text.now _ (c.in_ok-record.ensures (ok_not_err _ Memory)))
