@@ -84,6 +84,7 @@ macro_rules! name_of {
 
 impl Member {
     /// Returns the name in a file.
+    #[inline(always)]
     pub(crate) fn name(self) -> &'static str
         ensures is { result.now ≡ member_name self }
         ensures plain { is_plain_text result.now ≡ true }

@@ -33,6 +33,7 @@ enum Found<'o, 't, 'l> {
 }
 
 /// Returns the value of the member, the last one if it is there several times.
+#[inline(always)]
 fn member<'o, 't, 'l>(object: &'o Object<'t, 'l>, member: Member) -> Option<Found<'o, 't, 'l>>
     requires { IsReadable object.now }
     ensures says { option_map found_data result ≡ get (member_name member) (object_data object.now) }
@@ -51,6 +52,7 @@ fn member<'o, 't, 'l>(object: &'o Object<'t, 'l>, member: Member) -> Option<Foun
 }
 
 /// Returns whether the member is there.
+#[inline(always)]
 pub(crate) fn has(object: &Object<'_, '_>, name: Member) -> bool
     requires { IsReadable object.now }
     ensures { result ≡ is_some (get (member_name name) (object_data object.now)) }
@@ -59,6 +61,7 @@ pub(crate) fn has(object: &Object<'_, '_>, name: Member) -> bool
 }
 
 /// Returns a whole number from 0 to 2^64 - 1.
+#[inline(always)]
 pub(crate) fn id(object: &Object<'_, '_>, name: Member) -> Result<u64, ReadCause>
     requires { IsReadable object.now }
     ensures { result ≡ ok_or (spec.whole (member_name name) (object_data object.now)) ReadCause.Field }
@@ -70,6 +73,7 @@ pub(crate) fn id(object: &Object<'_, '_>, name: Member) -> Result<u64, ReadCause
 }
 
 /// Returns the whole number that was found, if it is one.
+#[inline(always)]
 fn whole(found: &Found<'_, '_, '_>) -> Option<u64>
     requires { IsFoundReadable found.now }
     ensures { result ≡ spec.whole_of (found_data found.now) }
@@ -81,6 +85,7 @@ fn whole(found: &Found<'_, '_, '_>) -> Option<u64>
 }
 
 /// Returns a whole number, or none if the member is missing or `null`.
+#[inline(always)]
 pub(crate) fn id_or_null(object: &Object<'_, '_>, name: Member) -> Result<Option<u64>, ReadCause>
     requires { IsReadable object.now }
     ensures { result ≡ ok_or (spec.whole_or_null (member_name name) (object_data object.now)) ReadCause.Field }
@@ -92,6 +97,7 @@ pub(crate) fn id_or_null(object: &Object<'_, '_>, name: Member) -> Result<Option
 }
 
 /// Returns the whole number that was found, or none if it is `null`.
+#[inline(always)]
 fn nullable(found: &Found<'_, '_, '_>) -> Option<Option<u64>>
     requires { IsFoundReadable found.now }
     ensures { result ≡ spec.nullable (Some (found_data found.now)) }
@@ -103,6 +109,7 @@ fn nullable(found: &Found<'_, '_, '_>) -> Option<Option<u64>>
 }
 
 /// Returns a text.
+#[inline(always)]
 pub(crate) fn text<'l>(object: &Object<'_, 'l>, name: Member) -> Result<&'l str, ReadCause>
     requires { IsReadable object.now }
     ensures { result_map_both (λ s. s.now) (λ e. e) result
@@ -115,6 +122,7 @@ pub(crate) fn text<'l>(object: &Object<'_, 'l>, name: Member) -> Result<&'l str,
 }
 
 /// Returns the text that was found, if it is one.
+#[inline(always)]
 fn text_of<'l>(found: &Found<'_, '_, 'l>) -> Option<&'l str>
     requires { IsFoundReadable found.now }
     ensures { option_map (λ s. s.now) result ≡ as_str (found_data found.now) }
@@ -126,6 +134,7 @@ fn text_of<'l>(found: &Found<'_, '_, 'l>) -> Option<&'l str>
 }
 
 /// Returns a truth value.
+#[inline(always)]
 pub(crate) fn truth(object: &Object<'_, '_>, name: Member) -> Result<bool, ReadCause>
     requires { IsReadable object.now }
     ensures { result ≡ ok_or (spec.truth (member_name name) (object_data object.now)) ReadCause.Field }
@@ -137,6 +146,7 @@ pub(crate) fn truth(object: &Object<'_, '_>, name: Member) -> Result<bool, ReadC
 }
 
 /// Returns the truth value that was found, if it is one.
+#[inline(always)]
 fn truth_of(found: &Found<'_, '_, '_>) -> Option<bool>
     requires { IsFoundReadable found.now }
     ensures { result ≡ as_bool (found_data found.now) }

@@ -189,6 +189,7 @@ fn record_in(alloc: Global, version: u32, object: &Object<'_, '_>) -> Result<Rec
 }
 
 /// Returns the record of these, if none is past its limit.
+#[inline(always)]
 fn within(thread: u64, seq: u64, seen: u64, loose: Loose) -> Result<Record, ReadCause>
     ensures { (body : SpecBody) → loose ≡ loose_body body → result ≡ bounded spec.record_fits
         (Some (record { thread = thread; seq = seq; seen = seen; body = body })) }
@@ -205,6 +206,7 @@ fn within(thread: u64, seq: u64, seen: u64, loose: Loose) -> Result<Record, Read
 }
 
 /// Returns the number, if it has at most 8 bits.
+#[inline(always)]
 fn byte(number: u64) -> Result<u8, ReadCause>
     ensures { result ≡ (if nat_lt number 256 then Ok number else Err ReadCause.Limit) }
 {
@@ -212,6 +214,7 @@ fn byte(number: u64) -> Result<u8, ReadCause>
 }
 
 /// Returns the number, if it has at most 32 bits.
+#[inline(always)]
 fn short(number: u64) -> Result<u32, ReadCause>
     ensures { result ≡ (if spec.is_short number then Ok number else Err ReadCause.Limit) }
 {
@@ -237,6 +240,7 @@ fn task_schedule(alloc: Global, version: u32, object: &Object<'_, '_>) -> Result
 }
 
 /// Returns whether a record with this status has turns in a file of this version.
+#[inline(always)]
 fn tells_turns(version: u32, status: Status) -> bool
     ensures { result ≡ spec.tells_turns version status }
 {

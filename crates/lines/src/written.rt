@@ -24,6 +24,9 @@ use std::str;
 /// The most members of a line that is read so.
 const MAX_MEMBERS: usize = 32;
 
+/// Few lines have more members.
+const USUAL_MEMBERS: usize = 16;
+
 /// A value that is no list. An object is only read if it is a dependence.
 #[derive(Clone, Copy, Debug)]
 pub(crate) enum Item<'l> {
@@ -49,6 +52,7 @@ pub(crate) struct Members<'l> {
 
 impl<'l> Members<'l> {
     /// Returns the value of this member, the last one if it is there several times.
+    #[inline(always)]
     pub(crate) fn find(&self, member: Member) -> Option<&Value<'l>>
         ensures { option_map (λ v. value_data v.now) result
             ≡ get (member_name member) (object_of (rows self.now.members.items)) }
@@ -69,7 +73,7 @@ impl<'l> Members<'l> {
 pub(crate) fn take_members(alloc: Global, line: &[u8]) -> Option<Members<'_>>
     ensures { IfSome result (λ found. value_of line.now ≡ Some (object_of (rows found.members.items))) }
 {
-    let mut members = Vec::with_capacity(alloc, MAX_MEMBERS).ok()?;
+    let mut members = Vec::with_capacity(alloc, USUAL_MEMBERS).ok()?;
     let mut rest = after(line, "{")?;
     let mut later = false;
     'members: for _ in 0..MAX_MEMBERS {
@@ -92,6 +96,7 @@ pub(crate) fn take_members(alloc: Global, line: &[u8]) -> Option<Members<'_>>
 }
 
 /// Takes a member from the front.
+#[inline(always)]
 fn take_member(alloc: Global, rest: &[u8]) -> Option<(Member, Value<'_>, &[u8])>
     ensures { IfSome result (λ taken. IsMemberInFront rest.now taken.0 taken.1 taken.2.now) }
 {
@@ -103,42 +108,56 @@ fn take_member(alloc: Global, rest: &[u8]) -> Option<(Member, Value<'_>, &[u8])>
 }
 
 /// Guesses the member that is named, by letters in which the names differ.
+#[inline(always)]
 fn guess_member(rest: &[u8]) -> Member {
-    match (rest.get(1), rest.get(2), rest.get(3)) {
-        (Some(b'a'), Some(b'c'), _) => Member::Actual,
-        (Some(b'a'), _, _) => Member::After,
-        (Some(b'c'), Some(b'b'), _) => Member::Callback,
-        (Some(b'c'), _, _) => Member::Child,
-        (Some(b'd'), _, _) => Member::Deps,
-        (Some(b'e'), _, _) => Member::Endpoint,
-        (Some(b'f'), _, _) => Member::Flags,
-        (Some(b'i'), _, _) => Member::Index,
-        (Some(b'k'), Some(b'e'), _) => Member::Kept,
-        (Some(b'k'), _, _) => Member::Kind,
-        (Some(b'l'), _, _) => Member::List,
-        (Some(b'n'), _, _) => guess_turn(rest, 5, Member::Next, Member::NextTurn),
-        (Some(b'p'), _, Some(b't')) => Member::Path,
-        (Some(b'p'), _, Some(b'r')) => Member::Parallel,
-        (Some(b'p'), _, _) => guess_turn(rest, 6, Member::Prior, Member::PriorTurn),
-        (Some(b'r'), Some(b'o'), _) => Member::Root,
-        (Some(b'r'), _, _) => Member::Requested,
-        (Some(b's'), _, Some(b'e')) => Member::Seen,
-        (Some(b's'), _, Some(b'q')) => Member::Seq,
-        (Some(b's'), _, _) => Member::Status,
-        (Some(b't'), Some(b'h'), _) => Member::Thread,
-        _ => Member::Task,
+    if rest.len() < 8 {
+        return Member::Task;
+    }
+    match rest[1] {
+        b's' => guess_s(rest[3]),
+        b't' => either(rest[2] == b'h', Member::Thread, Member::Task),
+        b'p' => guess_p(rest[3], rest[6]),
+        b'c' => either(rest[2] == b'b', Member::Callback, Member::Child),
+        b'k' => either(rest[2] == b'e', Member::Kept, Member::Kind),
+        b'n' => either(rest[5] == b'_', Member::NextTurn, Member::Next),
+        b'r' => either(rest[2] == b'o', Member::Root, Member::Requested),
+        b'a' => either(rest[2] == b'c', Member::Actual, Member::After),
+        b'd' => Member::Deps,
+        b'e' => Member::Endpoint,
+        b'f' => Member::Flags,
+        b'i' => Member::Index,
+        _ => Member::List,
     }
 }
 
-/// Guesses a task or its turn.
-fn guess_turn(rest: &[u8], len: usize, task: Member, turn: Member) -> Member {
-    match rest.get(len) {
-        Some(b'_') => turn,
-        _ => task,
+/// Guesses a member whose name begins with `s`, by its third letter.
+#[inline(always)]
+fn guess_s(third: u8) -> Member {
+    match third {
+        b'e' => Member::Seen,
+        b'q' => Member::Seq,
+        _ => Member::Status,
     }
+}
+
+/// Guesses a member whose name begins with `p`, by its third and sixth letter.
+#[inline(always)]
+fn guess_p(third: u8, sixth: u8) -> Member {
+    match third {
+        b'i' => either(sixth == b'_', Member::PriorTurn, Member::Prior),
+        b't' => Member::Path,
+        _ => Member::Parallel,
+    }
+}
+
+/// Returns the one member or the other.
+#[inline(always)]
+fn either(first: bool, one: Member, other: Member) -> Member {
+    if first { one } else { other }
 }
 
 /// Takes the value of a member from the front.
+#[inline(always)]
 fn take_value(alloc: Global, rest: &[u8]) -> Option<(Value<'_>, &[u8])>
     ensures { IfSome result (λ taken. IsValueInFront rest.now taken.0 taken.1.now) }
 {
@@ -149,6 +168,7 @@ fn take_value(alloc: Global, rest: &[u8]) -> Option<(Value<'_>, &[u8])>
 }
 
 /// Takes a value that is no list from the front.
+#[inline(always)]
 fn take_single(rest: &[u8]) -> Option<(Value<'_>, &[u8])>
     ensures { IfSome result (λ taken. IsValueInFront rest.now taken.0 taken.1.now) }
 {
@@ -187,6 +207,7 @@ fn take_listed(rest: &[u8], later: bool) -> Option<(Item<'_>, &[u8])>
 }
 
 /// Takes an item from the front.
+#[inline(always)]
 fn take_item(rest: &[u8]) -> Option<(Item<'_>, &[u8])>
     ensures { IfSome result (λ taken. IsItemInFront rest.now taken.0 taken.1.now) }
 {
@@ -201,6 +222,7 @@ fn take_item(rest: &[u8]) -> Option<(Item<'_>, &[u8])>
 }
 
 /// Takes the word of this item from the front.
+#[inline(always)]
 fn take_word<'l>(rest: &'l [u8], word: &str, item: Item<'l>) -> Option<(Item<'l>, &'l [u8])>
     requires text { word.now ≡ compact_text (item_data item) }
     requires plain { IsPlain (item_data item) 1 }
@@ -211,6 +233,7 @@ fn take_word<'l>(rest: &'l [u8], word: &str, item: Item<'l>) -> Option<(Item<'l>
 }
 
 /// Takes a whole number from the front.
+#[inline(always)]
 fn take_number(rest: &[u8]) -> Option<(Item<'_>, &[u8])>
     ensures { IfSome result (λ taken. IsItemInFront rest.now taken.0 taken.1.now) }
 {
@@ -219,6 +242,7 @@ fn take_number(rest: &[u8]) -> Option<(Item<'_>, &[u8])>
 }
 
 /// Takes a text from the front.
+#[inline(always)]
 fn take_text(rest: &[u8]) -> Option<(Item<'_>, &[u8])>
     ensures { IfSome result (λ taken. IsItemInFront rest.now taken.0 taken.1.now) }
 {
@@ -227,6 +251,7 @@ fn take_text(rest: &[u8]) -> Option<(Item<'_>, &[u8])>
 }
 
 /// Takes a dependence from the front.
+#[inline(always)]
 fn take_dependence(rest: &[u8]) -> Option<(Item<'_>, &[u8])>
     ensures { IfSome result (λ taken. IsItemInFront rest.now taken.0 taken.1.now) }
 {
@@ -235,6 +260,7 @@ fn take_dependence(rest: &[u8]) -> Option<(Item<'_>, &[u8])>
 }
 
 /// Takes a text without escapes from the front.
+#[inline(always)]
 fn take_plain_text(rest: &[u8]) -> Option<(&str, &[u8])>
     ensures plain { IfSome result (λ taken. is_plain_text taken.0.now ≡ true) }
     ensures takes { IfSome result (λ taken. Takes rest.now (quoted taken.0.now) taken.1.now) }
@@ -249,6 +275,7 @@ fn take_plain_text(rest: &[u8]) -> Option<(&str, &[u8])>
 }
 
 /// Returns how many bytes in front stand for themselves in a string of JSON.
+#[inline(always)]
 fn plain_len(rest: &[u8]) -> usize
     ensures within { result ≤ length rest.now }
     ensures plain { is_plain_text (take result rest.now) ≡ true }
@@ -261,13 +288,15 @@ fn plain_len(rest: &[u8]) -> usize
 }
 
 /// Returns whether the byte stands for itself in a string of JSON.
+#[inline(always)]
 fn is_plain(byte: u8) -> bool
     ensures { result ≡ is_plain_byte byte }
 {
-    (32..127).contains(&byte) && byte != b'"' && byte != b'\\'
+    byte >= 32 && byte < 127 && byte != b'"' && byte != b'\\'
 }
 
 /// Returns the whole number, if this is one.
+#[inline(always)]
 pub(crate) fn whole(value: &Value<'_>) -> Option<u64>
     ensures { result ≡ spec.whole_of (value_data value.now) }
 {
@@ -278,6 +307,7 @@ pub(crate) fn whole(value: &Value<'_>) -> Option<u64>
 }
 
 /// Returns the whole number, if the item is one.
+#[inline(always)]
 fn whole_in(item: &Item<'_>) -> Option<u64>
     ensures { result ≡ spec.whole_of (item_data item.now) }
 {
@@ -291,6 +321,7 @@ fn whole_in(item: &Item<'_>) -> Option<u64>
 }
 
 /// Returns the whole number, or none if this is `null`.
+#[inline(always)]
 pub(crate) fn nullable(value: &Value<'_>) -> Option<Option<u64>>
     ensures { result ≡ spec.nullable (Some (value_data value.now)) }
 {
@@ -305,6 +336,7 @@ pub(crate) fn nullable(value: &Value<'_>) -> Option<Option<u64>>
 }
 
 /// Returns the text, if this is one.
+#[inline(always)]
 pub(crate) fn text_of<'l>(value: &Value<'l>) -> Option<&'l str>
     ensures { option_map (λ s. s.now) result ≡ as_str (value_data value.now) }
 {
@@ -315,6 +347,7 @@ pub(crate) fn text_of<'l>(value: &Value<'l>) -> Option<&'l str>
 }
 
 /// Returns the text, if the item is one.
+#[inline(always)]
 fn text_in<'l>(item: &Item<'l>) -> Option<&'l str>
     ensures { option_map (λ s. s.now) result ≡ as_str (item_data item.now) }
 {
@@ -328,6 +361,7 @@ fn text_in<'l>(item: &Item<'l>) -> Option<&'l str>
 }
 
 /// Returns the truth value, if this is one.
+#[inline(always)]
 pub(crate) fn truth(value: &Value<'_>) -> Option<bool>
     ensures { result ≡ as_bool (value_data value.now) }
 {
@@ -355,6 +389,7 @@ fn dependence_in(item: &Item<'_>) -> Option<Dep>
 }
 
 /// Returns the items, if this is a list.
+#[inline(always)]
 fn items<'o, 'l>(value: &'o Value<'l>) -> Option<&'o [Item<'l>]>
     ensures { option_map (λ s. items_of (map item_data s.now)) result ≡ as_array (value_data value.now) }
 {
