@@ -8,10 +8,10 @@ use Rattle.std.proofs.lemmas.List.{length_push, length-set, append-nil}
 use Rattle.std.proofs.lemmas.List.Elements.{filter-append, filter_map-append, Contains-push}
 use Rattle.std.proofs.lemmas.List.Elements.{Contains-push_cases, Contains-append_left}
 use Rattle.std.proofs.Math.ListN.{set}
-use Rattle.std.specs.Ordering.{nat_cmp}
-use Rattle.std.specs.BTreeMap.{BTreeMap, get}
+use Rattle.indexmap.specs.IndexMap.{get}
 use Rattle.std.specs.List.{filter_map, range_with_len, cons_option}
-use Rattle.std.specs.Prelude.{◌==◌, slice_get, filter, Contains, MatchOption, option_and_then, if◌then◌else◌}
+use Rattle.std.specs.Prelude.{◌==◌, nat_eq, slice_get, filter, Contains, MatchOption, option_and_then}
+use Rattle.std.specs.Prelude.{if◌then◌else◌}
 use Rattle.ompt_events.specs.declared.records.Record.{Record}
 use Rattle.ompt_events.specs.declared.records.Body.{Body}
 use Rattle.ompt_events.specs.declared.records.Body.TheVariants.{ImplicitTask}
@@ -29,7 +29,7 @@ use Rattle.ompt_events.proofs.PlaceLemmas.{range_more, at_within}
 use Rattle.ompt_events.proofs.RecordLemmas.{at_through, member_made, initial_made, member_begun}
 use Rattle.ompt_events.proofs.RecordLemmas.{initial_begun}
 use Rattle.task_tree.specs.Makers.{AreNoted}
-use Rattle.task_tree.specs.Numbering.{AreApart}
+use Rattle.index_tables.specs.Numbering.{AreApart}
 use Rattle.task_tree.specs.Subjects.{subject}
 use Rattle.task_tree.proofs.LinkLemmas.{get_set_same, get_set_other}
 use Rattle.task_tree.proofs.NamedLemmas.{joined_subject, begun_initial_subject}
@@ -38,7 +38,7 @@ use Rattle.task_tree.specs.Runs.{RunView}
 use Rattle.teams.specs.declared.members.Members.{Members}
 use Rattle.teams.specs.Members.{AreMembers, IsLead, AreLeads, IsLeadOf, old_lead, new_lead, IsTeamThere}
 use Rattle.teams.specs.Members.{there_alone, there_joined, IsInTeam, in_own, in_joined, IsInNone, AreInTeams}
-use Rattle.teams.specs.Members.{IsLeadAt, AreSizes}
+use Rattle.teams.specs.Members.{IsLeadAt, AreSizes, Leads}
 use Rattle.teams.specs.Teams.{AreTeams}
 
 -- ---- the record by which a task begins
@@ -309,9 +309,9 @@ lead_other rs tasks parallel other lead free lp lq =
     (same_Some lp.first.member lq.first.member (sym lp.here ∙ lq.here)) in
     sym lp.same ∙ ap (λ (m : Membership). m.parallel) same.1 ∙ lq.same
 
-lead_new : (rs : List Record) (n : ℕ) (tasks : List ℕ) (leads : BTreeMap ℕ ℕ) (m : Membership) (index : ℕ)
+lead_new : (rs : List Record) (n : ℕ) (tasks : List ℕ) (leads : Leads) (m : Membership) (index : ℕ)
     → AreLeads rs n tasks leads → at joined rs n ≡ Some m → slice_get tasks index ≡ Some m.member
-    → get nat_cmp leads m.parallel ≡ None → IsLead rs tasks m.parallel index
+    → get nat_eq leads m.parallel ≡ None → IsLead rs tasks m.parallel index
 lead_new rs n tasks leads m index are joins here missing = record {
   place = n;
   first = m;
@@ -321,7 +321,7 @@ lead_new rs n tasks leads m index are joins here missing = record {
   here = here;
 }
 
-pub lead_of_is : (rs : List Record) (n : ℕ) (tasks : List ℕ) (old new : BTreeMap ℕ ℕ) (m : Membership)
+pub lead_of_is : (rs : List Record) (n : ℕ) (tasks : List ℕ) (old new : Leads) (m : Membership)
     (index lead : ℕ)
     → AreLeads rs n tasks old → at joined rs n ≡ Some m → slice_get tasks index ≡ Some m.member
     → IsLeadOf old new m.parallel index lead → IsLead rs tasks m.parallel lead
