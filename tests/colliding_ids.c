@@ -1,12 +1,14 @@
-/* Prints 2^14 task ids that collide in the kit's hash maps, whose seed is fixed: they lie in one group of slots under
-   one tag, so that a map would look through all of them. tests/verdicts/colliding_ids.txt is what this prints:
+/* Prints 2^14 task ids that collide in the kit's IndexSet and IndexMap with the seed that they have by default: they
+   lie in one group of slots under one tag, so that such a set would look through all of them. The tables of the check
+   have a seed made from all ids (crates/index_tables/src/seeded.rt), under which these collide no more than others, and
+   a file of them must cost no more than another. tests/verdicts/colliding_ids.txt is what this prints:
 
        cc -O2 -o colliding_ids colliding_ids.c && ./colliding_ids > verdicts/colliding_ids.txt */
 #include <stdint.h>
 #include <stdio.h>
 
 static const uint64_t SEED = 0x243f6a8885a308d3, FACTOR = 0x9e3779b97f4a7c15 ^ 16;
-/* the tag, and the group in a table of 2^14 entries */
+/* the tag, and the group in a table of up to 9 * 2^12 entries: a group is for nine */
 static const uint32_t MATTERS = 0xff000fff;
 
 static uint32_t hash_of(uint64_t id)

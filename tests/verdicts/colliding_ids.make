@@ -1,4 +1,5 @@
-"""An initial task with 2^14 - 1 children, whose ids all meet in the kit's hash maps (see tests/colliding_ids.c)."""
+"""An initial task with 2^14 - 1 children, whose ids all collide in the kit's hash tables with the seed that they
+have by default (see tests/colliding_ids.c)."""
 import os
 
 with open(os.path.join(os.path.dirname(os.path.abspath(__file__)), 'colliding_ids.txt')) as it:

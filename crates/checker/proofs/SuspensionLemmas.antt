@@ -11,7 +11,7 @@ use Rattle.ompt_events.specs.Places.{at}
 use Rattle.ompt_events.specs.HappensBefore.{IsResumption}
 use Rattle.ompt_events.specs.Tree.{IsExplicit}
 use Rattle.ompt_events.proofs.PlaceLemmas.{at_within}
-use Rattle.task_tree.specs.Numbering.{AreApart}
+use Rattle.index_tables.specs.Numbering.{AreApart}
 use Rattle.task_tree.specs.Subjects.{Calls}
 use Rattle.task_tree.proofs.SubjectLemmas.{call_task}
 use Rattle.task_tree.specs.Family.{FamilyView, IsFamilyOf}

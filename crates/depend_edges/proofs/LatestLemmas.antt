@@ -20,7 +20,7 @@ use Rattle.ompt_events.proofs.TreeLemmas.{child_place}
 use Rattle.ompt_events.proofs.PlaceLemmas.{at_within}
 use Rattle.ompt_events.specs.Records.{creation, dependences}
 use Rattle.task_tree.specs.Family.{FamilyView, IsFamilyOf}
-use Rattle.task_tree.specs.Numbering.{AreApart}
+use Rattle.index_tables.specs.Numbering.{AreApart}
 use Rattle.task_tree.proofs.FamilyLemmas.{parent_noted}
 use Rattle.task_tree.proofs.OnceLemmas.{one_number, creation_made}
 use Rattle.depend_edges.specs.declared.maxima.Maxima.{Maxima}

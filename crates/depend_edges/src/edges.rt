@@ -11,10 +11,11 @@ ghost use Rattle.depend_edges.specs.Edges.{ArePredecessors, ArePredecessorLength
 use crate::latest::{Lengths, find_latest};
 use crate::lists::find_lists;
 use crate::predecessors::select;
+use index_tables::Slot;
 use ompt_events::{Fault, Trace};
 use std::alloc::Global;
 use std::marker::Model;
-use task_tree::{Own, Run, Slot, Tree};
+use task_tree::{Own, Run, Tree};
 
 /// The fault of a call on edges: Memory or DepsPlace.
 pub type EdgeFault = Fault;

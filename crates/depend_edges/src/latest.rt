@@ -11,11 +11,12 @@ ghost use Rattle.depend_edges.specs.Latest.{IsChildOf, AreMaximaOf, AreLatestUpT
 
 use crate::edges::Edges;
 use crate::maxima::{Maxima, enter, greatest};
+use index_tables::Slot;
 use ompt_events::{Dep, Fault};
 use std::alloc::{AllocError, Global};
 use std::collections::BTreeMap;
 use std::marker::Model;
-use task_tree::{Run, Slot};
+use task_tree::Run;
 
 /// The edges between the tasks, and a length of each task.
 #[derive(Drop)]

@@ -7,9 +7,10 @@ ghost use Rattle.task_tree.specs.Families.{IsOwnOf};
 ghost use Rattle.depend_edges.specs.Lists.{AreListed, AreListedOnce};
 
 use crate::placement::{find_marks, has_none, no_places};
+use index_tables::Slot;
 use ompt_events::{Cause, Fault, exclude};
 use std::alloc::{AllocError, Global};
-use task_tree::{Own, Run, Slot};
+use task_tree::{Own, Run};
 
 /// Returns by index of the task in its own order the number of its list in that order. Fails with DepsPlace
 /// at the first record of the file whose dependences are misplaced there, or when out of memory.

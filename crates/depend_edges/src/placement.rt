@@ -7,9 +7,10 @@ ghost use Rattle.ompt_events.specs.Causes.{IsNextInThread, HasMisplacedDeps};
 ghost use Rattle.ompt_events.specs.Faults.{FindsFirst};
 ghost use Rattle.depend_edges.specs.Placement.{AreLastOfThreads, AreListsMarked, BelongTogether, HasDependences, HasNoneAt};
 
+use index_tables::Slot;
 use std::alloc::{AllocError, Global};
 use std::marker::Model;
-use task_tree::{Run, Slot};
+use task_tree::Run;
 
 /// The number of threads: a thread's number has 8 bits.
 const THREADS: usize = 256;

@@ -20,7 +20,7 @@ use Rattle.ompt_events.specs.Threads.{other_parent, MisfitsAt}
 use Rattle.ompt_events.specs.Causes.{HasCause, not_current, IsFirstWith, IsFreeOf}
 use Rattle.ompt_events.proofs.ListLemmas.{contains_get, get_within}
 use Rattle.ompt_events.proofs.PlaceLemmas.{some_and}
-use Rattle.task_tree.specs.Numbering.{AreApart}
+use Rattle.index_tables.specs.Numbering.{AreApart}
 use Rattle.task_tree.specs.Subjects.{Calls}
 use Rattle.task_tree.specs.Lineage.{parent_index}
 use Rattle.task_tree.specs.Runs.{RunView, IsRun, IsThreadEvent, IsNoThreadEvent}

@@ -17,7 +17,7 @@ use Rattle.ompt_events.specs.Causes.{IsMoved, HasCause, moved, IsFirstWith, IsFr
 use Rattle.ompt_events.proofs.PlaceLemmas.{at_within, contains_place, none_from_test, is_the_task, the_task}
 use Rattle.ompt_events.proofs.RecordLemmas.{created_at_made}
 use Rattle.ompt_events.proofs.ListLemmas.{contains_get}
-use Rattle.task_tree.specs.Numbering.{AreApart}
+use Rattle.index_tables.specs.Numbering.{AreApart}
 use Rattle.task_tree.specs.Family.{FamilyView, IsFamilyOf}
 use Rattle.task_tree.specs.Runs.{RunView, IsRun, IsIndexOf}
 use Rattle.task_tree.proofs.SubjectLemmas.{call_task}

@@ -15,7 +15,7 @@ use Rattle.ompt_events.specs.declared.state.State.{State}
 use Rattle.ompt_events.specs.States.{Move, Nature, nature_of, state_of, state_after}
 use Rattle.ompt_events.proofs.ListLemmas.{get_pushed, get_last, pushed_cases}
 use Rattle.task_states.specs.declared.progress.Pass.{Pass}
-use Rattle.task_tree.specs.Numbering.{AreApart}
+use Rattle.index_tables.specs.Numbering.{AreApart}
 use Rattle.task_tree.proofs.LinkLemmas.{get_set_same, get_set_other}
 use Rattle.task_states.specs.declared.moves.Nature as code
 use Rattle.task_states.specs.declared.moves.Move as steps

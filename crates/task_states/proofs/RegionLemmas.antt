@@ -21,7 +21,7 @@ use Rattle.ompt_events.specs.Regions.{IsRegion, ended, at_once}
 use Rattle.ompt_events.specs.Causes.{HasCause, region_order, barrier_order, IsFreeOf}
 use Rattle.ompt_events.proofs.RegionLemmas.{open_none, open_other, open_own, same_says}
 use Rattle.ompt_events.proofs.PlaceLemmas.{at_within}
-use Rattle.task_tree.specs.Numbering.{AreApart}
+use Rattle.index_tables.specs.Numbering.{AreApart}
 use Rattle.task_tree.proofs.LinkLemmas.{get_set_same, get_set_other}
 use Rattle.task_tree.specs.OwnOrder.{AreAllPlaces}
 use Rattle.task_tree.specs.Own.{OwnView, HasCauseAt, IsFirstPlaceWith}

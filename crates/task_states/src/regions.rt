@@ -10,10 +10,11 @@ ghost use Rattle.task_tree.specs.Runs.{IsRegionEvent};
 ghost use Rattle.task_tree.specs.Own.{IsOwnFault};
 ghost use Rattle.task_states.specs.Regions.{AreLinked, AreRegions, IsRegionBegin, IsEarliest, IsInnermost, IsPlaceJudged, top_after};
 
+use index_tables::Slot;
 use ompt_events::{Cause, Endpoint, Fault, SyncKind};
 use std::alloc::{AllocError, Global};
 use std::marker::Model;
-use task_tree::{Own, RegionEvent, Run, Slot};
+use task_tree::{Own, RegionEvent, Run};
 
 /// The regions of a run in its tasks' own order: which begin the end of each belongs to.
 #[derive(Debug, Drop)]

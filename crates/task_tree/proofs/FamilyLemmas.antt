@@ -20,7 +20,7 @@ use Rattle.task_tree.specs.Makers.{AreNoted, AreMade}
 use Rattle.task_tree.specs.Family.{FamilyView, IsFamilyOf, AreInFileOrder, IsLinkOf, IsStandingOf}
 use Rattle.task_tree.specs.declared.roots.Standing.{Standing}
 use Rattle.task_tree.proofs.OnceLemmas.{made_once, creation_made, one_number}
-use Rattle.task_tree.proofs.NumberingLemmas.{contains_or_not}
+use Rattle.index_tables.proofs.NumberingLemmas.{contains_or_not}
 use Rattle.task_tree.proofs.RootLemmas.{rooted_made}
 use Rattle.task_tree.proofs.RootlessLemmas.{path_rooted}
 

@@ -1,5 +1,3 @@
-pub mod RankingLemmas
-pub mod NumberingLemmas
 pub mod SubjectLemmas
 pub mod MakerLemmas
 pub mod OnceLemmas

@@ -24,7 +24,7 @@ use Rattle.task_tree.specs.declared.links.Link.{Link}
 use Rattle.task_tree.specs.Makers.{AreNoted}
 use Rattle.task_tree.specs.Subjects.{subject, object, Calls, AreFound}
 use Rattle.task_tree.specs.Family.{FamilyView, IsFamilyOf}
-use Rattle.task_tree.proofs.NumberingLemmas.{contains_or_not}
+use Rattle.index_tables.proofs.NumberingLemmas.{contains_or_not}
 use Rattle.task_tree.proofs.SubjectLemmas.{finds_calls}
 use Rattle.task_tree.proofs.OnceLemmas.{made_once}
 use Rattle.task_tree.proofs.FamilyLemmas.{link_found, link_child}

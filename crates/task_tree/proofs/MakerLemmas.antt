@@ -1,11 +1,12 @@
--- How what is noted of the records grows, and when a record makes something again.
-use Rattle.std.proofs.Common.{get_or, ◌≡◌, ◌∙◌, ℕ, ◌<◌, ◌≤◌, ◌+◌, List, [], ◌∷◌, length, Option, Some, None}
-use Rattle.std.proofs.Common.{Bool, true, false, refl, sym, ap, subst, arith, inl, inr, ◌⊎◌}
-use Rattle.std.proofs.lemmas.Bool.{cases_eq, false≢true, true≢false}
+-- What the records name is gathered, and when a record makes something again.
+use Rattle.std.proofs.Common.{get_or, ◌≡◌, ◌∙◌, ℕ, ◌<◌, ◌+◌, List, [], ◌∷◌, length, Option, Some, None}
+use Rattle.std.proofs.Common.{Result, Ok, Err, refl, sym, ap, arith, inl, inr, ◌⊎◌, ◌≤◌}
+use Rattle.std.proofs.Math.Nat.{min-eq_left, min-eq_right}
+use Rattle.std.proofs.lemmas.Bool.{cases_eq, cases_order, cases_lt}
 use Rattle.std.proofs.lemmas.Option.{none-some, same_Some, slice_get_within, slice_get-get_or}
-use Rattle.std.proofs.lemmas.List.Elements.{Contains-push, Contains-push_cases, Contains-append_left}
 use Rattle.std.proofs.lemmas.List.{length_push}
-use Rattle.std.specs.Prelude.{◌++◌, is_some, slice_get, option_and_then, option_map, Contains}
+use Rattle.std.specs.Result.{result_err}
+use Rattle.std.specs.Prelude.{◌++◌, slice_get, option_and_then, option_map, IfOk, IfErr}
 use Rattle.ompt_events.specs.declared.records.Record.{Record}
 use Rattle.ompt_events.specs.declared.records.Body.{Body}
 use Rattle.ompt_events.specs.declared.cause.Cause.TheVariants.{CreatedTwice}
@@ -14,60 +15,14 @@ use Rattle.ompt_events.specs.Places.{at}
 use Rattle.ompt_events.specs.Causes.{HasCause, created_twice, forked_twice, IsFirstWith, IsFreeOf}
 use Rattle.ompt_events.proofs.PlaceLemmas.{at_within}
 use Rattle.ompt_events.proofs.ListLemmas.{get_pushed, get_last, get_contains, contains_get, pushed_cases}
-use Rattle.task_tree.specs.Numbering.{IsNoted, AreApart}
-use Rattle.task_tree.specs.Makers.{AreNoted, ArePlacesBelow, AreMade, AreGathered, AreForkedOnce, AreMadeOnce}
-use Rattle.task_tree.specs.Makers.{forked_region}
-use Rattle.task_tree.proofs.NumberingLemmas.{apart_pushed}
-
--- one record more
-pub noted_more : (says : Body → Option ℕ) (rs : List Record) (i : ℕ) (old new : List ℕ) (found : Option ℕ)
-    (again : Bool)
-    → AreNoted says rs i old → at says rs i ≡ found → IsNoted old new found again
-    → AreNoted says rs (i + 1) new
-noted_more says rs i old new None again are is (same, none) = record {
-  each = λ k id below says_it. elim (cases_eq k i) [
-    | inl here ↦ absurd (none-some id (sym is ∙ ap (at says rs) (sym here) ∙ says_it))
-    | inr apart ↦ rw same (are.each k id (omega arith) says_it)
-  ];
-  only = λ id noted. let from = are.only id (rw same at noted) in (from.0, omega (arith, from.1), from.2);
-}
-noted_more says rs i old new (Some new_id) true are is (same, there) = record {
-  each = λ k id below says_it. elim (cases_eq k i) [
-    | inl here ↦ rw (same, same_Some id new_id (sym says_it ∙ ap (at says rs) here ∙ is)) there
-    | inr apart ↦ rw same (are.each k id (omega arith) says_it)
-  ];
-  only = λ id noted. let from = are.only id (rw same at noted) in (from.0, omega (arith, from.1), from.2);
-}
-noted_more says rs i old new (Some new_id) false are is (same, fresh) = record {
-  each = λ k id below says_it. elim (cases_eq k i) [
-    | inl here ↦
-        rw (same, same_Some id new_id (sym says_it ∙ ap (at says rs) here ∙ is)) (Contains-push old new_id)
-    | inr apart ↦ rw same (Contains-append_left old (new_id ∷ []) id (are.each k id (omega arith) says_it))
-  ];
-  only = λ id noted. elim (Contains-push_cases old new_id id (rw same at noted)) [
-    | inl before ↦ let from = are.only id before in (from.0, omega (arith, from.1), from.2)
-    | inr last ↦ (i, omega arith, is ∙ ap Some last)
-  ];
-}
+use Rattle.index_tables.specs.Numbering.{AreApart}
+use Rattle.task_tree.specs.declared.makers.Names.{Names}
+use Rattle.task_tree.specs.Makers.{AreNoted, ArePlacesBelow, AreMade, AreGathered, AddsName, IsPlaceAgain}
+use Rattle.task_tree.specs.Makers.{forked_region, least_of}
 
 -- an earlier record says the same id
 abbrev pub Repeats : (Body → Option ℕ) → List Record → ℕ → Type 0
 Repeats says rs i = (id k : ℕ) × (k < i) × (at says rs k ≡ Some id) × (at says rs i ≡ Some id)
-
--- so it is where the id was noted before
-pub noted_again : (says : Body → Option ℕ) (rs : List Record) (i : ℕ) (old new : List ℕ) (found : Option ℕ)
-    → AreNoted says rs i old → at says rs i ≡ found → IsNoted old new found true → Repeats says rs i
-noted_again says rs i old new None are is (same, none) = absurd (false≢true (sym none))
-noted_again says rs i old new (Some id) are is (same, there) =
-    let from = are.only id there in (id, from.0, from.1, from.2, is)
-
-pub noted_new : (says : Body → Option ℕ) (rs : List Record) (i : ℕ) (old new : List ℕ) (found : Option ℕ)
-    → AreNoted says rs i old → at says rs i ≡ found → IsNoted old new found false → Repeats says rs i → ⊥
-noted_new says rs i old new None are is (same, none) (id, k, below, there, here) =
-    none-some id (sym is ∙ here)
-noted_new says rs i old new (Some new_id) are is (same, fresh) (id, k, below, there, here) =
-    let P : ℕ → Type 0 = Contains old in
-    fresh (subst P (same_Some id new_id (sym here ∙ is)) (are.each k id below there))
 
 -- a region that begins is begun by a task
 forked_by : (region : ℕ) (b : Body) → forked_region b ≡ Some region
@@ -125,10 +80,6 @@ pub first_here : (rs : List Record) (i : ℕ) → ((k : ℕ) → k < i → HasCa
     → HasCause rs i CreatedTwice → IsFirstWith rs CreatedTwice i
 first_here rs i before has = record { within = twice_within rs i has; has = has; first = before }
 
-pub free_of_twice : (rs : List Record) (n : ℕ) → ((k : ℕ) → k < n → HasCause rs k CreatedTwice → ⊥)
-    → length rs ≤ n → IsFreeOf rs CreatedTwice
-free_of_twice rs n none all i has = none i (let inside = twice_within rs i has in omega arith) has
-
 -- ---- places in their order
 
 in_order_still : (n : ℕ) (places : List ℕ) → ArePlacesBelow n places → ArePlacesBelow (n + 1) places
@@ -157,145 +108,207 @@ in_order_more n places are = record {
   ];
 }
 
--- ---- where each task is made
-
--- a record that makes none
-pub made_other : (rs : List Record) (i : ℕ) (found : Option ℕ) (old new places : List ℕ)
-    → AreMade rs i old places → at made rs i ≡ found → is_some found ≡ false → IsNoted old new found false
-    → AreMade rs (i + 1) new places
-made_other rs i (Some task) old new places are makes none noted = absurd (true≢false none)
-made_other rs i None old new places are makes none (same, new_one) = rw same (record {
-  all = are.all;
-  few = let few = are.few in omega (arith, few);
-  apart = are.apart;
-  each =
-      λ index task is.
-      let place = are.each index task is in (place.0, place.1, omega (arith, place.2), place.3);
-  in_order = in_order_still i places are.in_order;
-})
-
--- one that does
-pub made_more : (rs : List Record) (i : ℕ) (found : Option ℕ) (old new places : List ℕ)
-    → AreMade rs i old places → at made rs i ≡ found → is_some found ≡ true → IsNoted old new found false
-    → AreMade rs (i + 1) new (places ++ i ∷ [])
-made_more rs i None old new places are makes some noted = absurd (false≢true some)
-made_more rs i (Some task) old new places are makes some (same, fresh) = rw same (record {
-  all = length_push places i ∙ ap (λ n. n + 1) are.all ∙ sym (length_push old task);
-  few = let few = are.few in let longer = length_push old task in omega (arith, few, longer);
-  apart = apart_pushed old task are.apart fresh;
-  each = λ index other is. elim (pushed_cases old task other index is) [
-    | inl before ↦
-        let place = are.each index other before in
-        (place.0, get_pushed places i place.0 index place.1, omega (arith, place.2), place.3)
-    | inr last ↦ (i, get_last places i index (last.0 ∙ sym are.all), omega arith, makes ∙ ap Some last.1)
-  ];
-  in_order = in_order_more i places are.in_order;
-})
-
--- ---- tasks that are gathered before it is known whether one is made again
-
-pub gathered_other : (rs : List Record) (n : ℕ) (tasks places : List ℕ) → AreGathered rs n tasks places
-    → at made rs n ≡ None → AreGathered rs (n + 1) tasks places
-gathered_other rs n tasks places are none = record {
-  all = are.all;
-  few = let few = are.few in omega (arith, few);
-  each = λ i task below makes. elim (cases_eq i n) [
-    | inl same ↦ absurd (none-some task (sym none ∙ ap (at made rs) (sym same) ∙ makes))
-    | inr apart ↦ are.each i task (omega arith) makes
-  ];
-  only =
-      λ index task place is stands.
-      let old = are.only index task place is stands in (omega (arith, old.0), old.1);
-  in_order = in_order_still n places are.in_order;
-}
-
-pub gathered_more : (rs : List Record) (n task : ℕ) (tasks places : List ℕ) → AreGathered rs n tasks places
-    → at made rs n ≡ Some task → AreGathered rs (n + 1) (tasks ++ task ∷ []) (places ++ n ∷ [])
-gathered_more rs n task tasks places are makes = record {
-  all = length_push places n ∙ ap (λ k. k + 1) are.all ∙ sym (length_push tasks task);
-  few = let few = are.few in let longer = length_push tasks task in omega (arith, few, longer);
-  each = λ i other below makes_it. elim (cases_eq i n) [
-    | inl same ↦
-        let is_task : task ≡ other =
-        same_Some task other (sym makes ∙ ap (at made rs) (sym same) ∙ makes_it) in (
-          length tasks,
-          get_last tasks task (length tasks) refl ∙ ap Some is_task,
-          get_last places n (length tasks) (sym are.all) ∙ ap Some (sym same),
-        )
-    | inr apart ↦
-        let old = are.each i other (omega arith) makes_it in
-        (old.0, get_pushed tasks task other old.0 old.1, get_pushed places n i old.0 old.2)
-  ];
-  only = λ index other place is stands. elim (pushed_cases tasks task other index is) [
-    | inl before ↦ elim (pushed_cases places n place index stands) [
-      | inl there ↦ let old = are.only index other place before there in (omega (arith, old.0), old.1)
-      | inr last ↦
-          absurd
-          (let inside = slice_get_within tasks index other before in
-          let long = last.0 in let all = are.all in omega (arith, inside, long, all))
-    ]
-    | inr last ↦ elim (pushed_cases places n place index stands) [
-      | inl there ↦
-          absurd
-          (let inside = slice_get_within places index place there in
-          let long = last.0 in let all = are.all in omega (arith, inside, long, all))
-      | inr too ↦ (omega (arith, too.1), ap (at made rs) (sym too.1) ∙ makes ∙ ap Some last.1)
-    ]
-  ];
-  in_order = in_order_more n places are.in_order;
-}
-
-pub forked_more : (rs : List Record) (n : ℕ) → AreForkedOnce rs n → (Repeats forked_region rs n → ⊥)
-    → AreForkedOnce rs (n + 1)
-forked_more rs n once never i k region below within there here = elim (cases_eq i n) [
-  | inr apart ↦ once i k region below (omega arith) there here
+-- a record with a lesser place is named at a lesser index
+index_before : (n : ℕ) (places : List ℕ) (a b place later : ℕ) → ArePlacesBelow n places
+    → slice_get places a ≡ Some place → slice_get places b ≡ Some later → place < later → a < b
+index_before n places a b place later are at_a at_b less = elim (cases_order a b) [
   | inl same ↦
-      never (region, k, omega (arith, below, same), there, ap (at forked_region rs) (sym same) ∙ here)
+      let equal = same_Some place later (sym at_a ∙ ap (slice_get places) same ∙ at_b) in
+      omega (arith, equal, less)
+  | inr (inl before) ↦ before
+  | inr (inr after) ↦ let more = are.rising b a later place after at_b at_a in omega (arith, more, less)
 ]
 
--- where no task stands twice among them, none is made again
-pub made_once_each : (rs : List Record) (tasks places regions : List ℕ)
-    → AreGathered rs (length rs) tasks places → AreApart tasks → AreNoted forked_region rs (length rs) regions
-    → AreForkedOnce rs (length rs) → AreMadeOnce rs tasks places regions
-made_once_each rs tasks places regions are apart begun forked_once = record {
-  noted = record {
-    each =
-        λ i task below makes.
-        let there = are.each i task below makes in get_contains tasks task there.0 there.1;
-    only =
-        λ task has.
-        let index = contains_get tasks task has in
-        let place = place_of index.0 task index.1 in (place.0, place.2, place.3);
-  };
-  made_there = record {
+-- ---- the ids that the records name in one way
+
+module _ (says : Body → Option ℕ) (rs : List Record) where
+  gathered_other : (n : ℕ) (ids places : List ℕ) → AreGathered says rs n ids places → at says rs n ≡ None
+      → AreGathered says rs (n + 1) ids places
+  gathered_other n ids places are none = record {
     all = are.all;
-    few = are.few;
-    apart = apart;
-    each = place_of;
-    in_order = are.in_order;
-  };
-  begun = begun;
-  once = λ i has. elim (twice_cases rs i has) [
-    | inl (task, k, below, there, here) ↦
-        let first = are.each k task (at_within made rs k task there) there in
-        let second = are.each i task (at_within made rs i task here) here in
-        let same : k ≡ i =
-        same_Some k i
-        (sym first.2 ∙ ap (slice_get places) (apart first.0 second.0 task first.1 second.1)
-        ∙ second.2) in
-        omega (arith, below, same)
-    | inr (region, k, below, there, here) ↦
-        forked_once i k region below (at_within forked_region rs i region here) there here
-  ];
+    few = let few = are.few in omega (arith, few);
+    each = λ i id below names. elim (cases_eq i n) [
+      | inl same ↦ absurd (none-some id (sym none ∙ ap (at says rs) (sym same) ∙ names))
+      | inr apart ↦ are.each i id (omega arith) names
+    ];
+    only =
+        λ index id place is stands.
+        let old = are.only index id place is stands in (omega (arith, old.0), old.1);
+    in_order = in_order_still n places are.in_order;
+  }
+
+  gathered_more : (n id : ℕ) (ids places : List ℕ) → AreGathered says rs n ids places
+      → at says rs n ≡ Some id → AreGathered says rs (n + 1) (ids ++ id ∷ []) (places ++ n ∷ [])
+  gathered_more n id ids places are names = record {
+    all = length_push places n ∙ ap (λ k. k + 1) are.all ∙ sym (length_push ids id);
+    few = let few = are.few in let longer = length_push ids id in omega (arith, few, longer);
+    each = λ i other below names_it. elim (cases_eq i n) [
+      | inl same ↦
+          let is_id : id ≡ other =
+          same_Some id other (sym names ∙ ap (at says rs) (sym same) ∙ names_it) in (
+            length ids,
+            get_last ids id (length ids) refl ∙ ap Some is_id,
+            get_last places n (length ids) (sym are.all) ∙ ap Some (sym same),
+          )
+      | inr apart ↦
+          let old = are.each i other (omega arith) names_it in
+          (old.0, get_pushed ids id other old.0 old.1, get_pushed places n i old.0 old.2)
+    ];
+    only = λ index other place is stands. elim (pushed_cases ids id other index is) [
+      | inl before ↦ elim (pushed_cases places n place index stands) [
+        | inl there ↦ let old = are.only index other place before there in (omega (arith, old.0), old.1)
+        | inr last ↦
+            absurd
+            (let inside = slice_get_within ids index other before in
+            let long = last.0 in let all = are.all in omega (arith, inside, long, all))
+      ]
+      | inr last ↦ elim (pushed_cases places n place index stands) [
+        | inl there ↦
+            absurd
+            (let inside = slice_get_within places index place there in
+            let long = last.0 in let all = are.all in omega (arith, inside, long, all))
+        | inr too ↦ (omega (arith, too.1), ap (at says rs) (sym too.1) ∙ names ∙ ap Some last.1)
+      ]
+    ];
+    in_order = in_order_more n places are.in_order;
+  }
+
+  -- one record more
+  pub gathered_step : (n : ℕ) (old new : Names) (found : Option ℕ)
+      → AreGathered says rs n old.ids.items old.places.items → at says rs n ≡ found → AddsName old new found n
+      → AreGathered says rs (n + 1) new.ids.items new.places.items
+  gathered_step n old new None are names (same, still) =
+      rw (same, still) (gathered_other n old.ids.items old.places.items are names)
+  gathered_step n old new (Some id) are names (more, one) =
+      rw (more, one) (gathered_more n id old.ids.items old.places.items are names)
+
+  place_of : (ids places : List ℕ) → AreGathered says rs (length rs) ids places → (index id : ℕ)
+      → slice_get ids index ≡ Some id
+      → (place : ℕ) × (slice_get places index ≡ Some place) × (place < length rs)
+      × (at says rs place ≡ Some id)
+  place_of ids places are index id is =
+      let inside = slice_get_within ids index id is in
+      let all = are.all in
+      let stands : slice_get places index ≡ Some (get_or places index 0) =
+      slice_get-get_or places index 0 (omega (arith, inside, all)) in
+      let found = are.only index id (get_or places index 0) is stands in
+      (get_or places index 0, stands, found.0, found.1)
+
+  pub gathered_noted : (ids places : List ℕ) → AreGathered says rs (length rs) ids places
+      → AreNoted says rs (length rs) ids
+  gathered_noted ids places are = record {
+    each =
+        λ i id below names.
+        let there = are.each i id below names in get_contains ids id there.0 there.1;
+    only =
+        λ id has.
+        let index = contains_get ids id has in
+        let place = place_of ids places are index.0 id index.1 in (place.0, place.2, place.3);
+  }
+
+  -- if each id is there once, no record names one again
+  pub never_again : (ids places : List ℕ) → AreGathered says rs (length rs) ids places → AreApart ids
+      → (i : ℕ) → Repeats says rs i → ⊥
+  never_again ids places are apart i (id, k, below, there, here) =
+      let first = are.each k id (at_within says rs k id there) there in
+      let second = are.each i id (at_within says rs i id here) here in
+      let same : k ≡ i =
+      same_Some k i
+      (sym first.2 ∙ ap (slice_get places) (apart first.0 second.0 id first.1 second.1) ∙ second.2) in
+      omega (arith, below, same)
+
+  -- and else the record at the place of the first id that is there again is the first that does
+  pub place_again : (ids places : List ℕ) (place : ℕ) → AreGathered says rs (length rs) ids places
+      → IsPlaceAgain ids places place → Repeats says rs place
+  place_again ids places place are (index, first, stands) =
+      let again = first.again in
+      let id = again.1 in
+      let before = place_of ids places are again.0 id again.3 in
+      let here = are.only index id place again.4 stands in (
+        id,
+        before.0,
+        are.in_order.rising again.0 index before.0 place again.2 before.1 stands,
+        before.3,
+        here.1,
+      )
+
+  pub not_before : (ids places : List ℕ) (place : ℕ) → AreGathered says rs (length rs) ids places
+      → IsPlaceAgain ids places place → (k : ℕ) → k < place → Repeats says rs k → ⊥
+  not_before ids places place are (index, first, stands) k less (id, j, below, there, here) =
+      let one = are.each j id (at_within says rs j id there) there in
+      let other = are.each k id (at_within says rs k id here) here in
+      first.first other.0
+      (index_before (length rs) places other.0 index k place are.in_order other.2 stands less) (
+        one.0,
+        id,
+        index_before (length rs) places one.0 other.0 j k are.in_order one.2 other.2 below,
+        one.1,
+        other.1,
+      )
+
+-- where each task is made, if none is made again
+pub gathered_made : (rs : List Record) (tasks places : List ℕ) → AreGathered made rs (length rs) tasks places
+    → AreApart tasks → AreMade rs (length rs) tasks places
+gathered_made rs tasks places are apart = record {
+  all = are.all;
+  few = are.few;
+  apart = apart;
+  each = place_of made rs tasks places are;
+  in_order = are.in_order;
 }
-  where
-    place_of : (index task : ℕ) → slice_get tasks index ≡ Some task
-        → (place : ℕ) × (slice_get places index ≡ Some place) × (place < length rs)
-        × (at made rs place ≡ Some task)
-    place_of index task is =
-        let inside = slice_get_within tasks index task is in
-        let all = are.all in
-        let stands : slice_get places index ≡ Some (get_or places index 0) =
-        slice_get-get_or places index 0 (omega (arith, inside, all)) in
-        let found = are.only index task (get_or places index 0) is stands in
-        (get_or places index 0, stands, found.0, found.1)
+
+-- ---- records that make nothing again, and the first that does
+
+pub never_twice : (rs : List Record) → ((i : ℕ) → Repeats made rs i → ⊥)
+    → ((i : ℕ) → Repeats forked_region rs i → ⊥) → IsFreeOf rs CreatedTwice
+never_twice rs tasks regions i has = elim (twice_cases rs i has) [
+  | inl again ↦ tasks i again
+  | inr again ↦ regions i again
+]
+
+pub first_twice : (rs : List Record) (i : ℕ) → Repeats made rs i ⊎ Repeats forked_region rs i
+    → ((k : ℕ) → k < i → Repeats made rs k → ⊥) → ((k : ℕ) → k < i → Repeats forked_region rs k → ⊥)
+    → IsFirstWith rs CreatedTwice i
+first_twice rs i here tasks regions = first_here rs i (λ k less has. elim (twice_cases rs k has) [
+  | inl again ↦ tasks k less again
+  | inr again ↦ regions k less again
+]) (elim here [
+  | inl again ↦ twice_task rs i again
+  | inr again ↦ twice_region rs i again
+])
+
+-- a task is made again, and perhaps a region
+pub task_again : {X : Type 0} (rs : List Record) (tasks places regions begins : List ℕ) (task : ℕ)
+    (found : Result X ℕ)
+    → AreGathered made rs (length rs) tasks places → AreGathered forked_region rs (length rs) regions begins
+    → IsPlaceAgain tasks places task → IfOk found (λ _. AreApart regions)
+    → IfErr found (IsPlaceAgain regions begins)
+    → IsFirstWith rs CreatedTwice (least_of task (result_err found))
+task_again rs tasks places regions begins task (Ok x) are begun again apart none =
+    first_twice rs task (inl (place_again made rs tasks places task are again))
+    (not_before made rs tasks places task are again)
+    (λ k _. never_again forked_region rs regions begins begun apart k)
+task_again rs tasks places regions begins task (Err region) are begun again none too =
+    elim (cases_lt region task) [
+      | inl less ↦
+          let low : region ≤ task = omega (arith, less) in
+          rw (min-eq_right low)
+          (first_twice rs region (inr (place_again forked_region rs regions begins region begun too))
+          (λ k before. not_before made rs tasks places task are again k (omega (arith, before, less)))
+          (not_before forked_region rs regions begins region begun too))
+      | inr low ↦
+          rw (min-eq_left low)
+          (first_twice rs task (inl (place_again made rs tasks places task are again))
+          (not_before made rs tasks places task are again)
+          (λ k before.
+          not_before forked_region rs regions begins region begun too k (omega (arith, before, low))))
+    ]
+
+-- or no task, and a region
+pub region_again : (rs : List Record) (tasks places regions begins : List ℕ) (region : ℕ)
+    → AreGathered made rs (length rs) tasks places → AreGathered forked_region rs (length rs) regions begins
+    → AreApart tasks → IsPlaceAgain regions begins region → IsFirstWith rs CreatedTwice region
+region_again rs tasks places regions begins region are begun apart again =
+    first_twice rs region (inr (place_again forked_region rs regions begins region begun again))
+    (λ k _. never_again made rs tasks places are apart k)
+    (not_before forked_region rs regions begins region begun again)

@@ -25,7 +25,7 @@ use Rattle.ompt_events.proofs.PlaceLemmas.{read_get, at_within}
 use Rattle.ompt_events.proofs.RecordLemmas.{made_cases}
 use Rattle.ompt_events.proofs.TurnLemmas.{begun_zero}
 use Rattle.ompt_events.proofs.ListLemmas.{get_contains}
-use Rattle.task_tree.specs.Numbering.{AreApart}
+use Rattle.index_tables.specs.Numbering.{AreApart}
 use Rattle.task_tree.specs.Family.{FamilyView, IsFamilyOf}
 use Rattle.task_tree.proofs.LinkLemmas.{get_set_same, get_set_other}
 use Rattle.task_tree.specs.declared.rising.Latest.{Latest}

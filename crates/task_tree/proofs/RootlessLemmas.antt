@@ -26,7 +26,7 @@ use Rattle.ompt_events.specs.declared.records.Body.TheVariants.{ParallelBegin, P
 use Rattle.ompt_events.specs.declared.records.Body.TheVariants.{TaskCreate, Dependences, TaskSchedule}
 use Rattle.ompt_events.specs.declared.records.Body.TheVariants.{SyncRegion, Cancel}
 use Rattle.ompt_events.specs.declared.records.Claim.{Claim}
-use Rattle.task_tree.specs.Numbering.{AreApart}
+use Rattle.index_tables.specs.Numbering.{AreApart}
 use Rattle.task_tree.specs.Subjects.{subject, object, Finds, AreFound}
 use Rattle.task_tree.specs.Rootless.{AreRootsMade, CreatesUnrooted, NamesNoRegion, IsRootless, NamesKnown}
 use Rattle.task_tree.specs.Rootless.{AllNameKnown}

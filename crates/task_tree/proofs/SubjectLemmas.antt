@@ -12,9 +12,9 @@ use Rattle.ompt_events.specs.Records.{creation}
 use Rattle.ompt_events.specs.Places.{at}
 use Rattle.ompt_events.proofs.ListLemmas.{contains_get, get_contains}
 use Rattle.task_tree.proofs.LinkLemmas.{get_set_same, get_set_other}
-use Rattle.task_tree.specs.Numbering.{AreApart}
+use Rattle.index_tables.specs.Numbering.{AreApart}
 use Rattle.task_tree.specs.Links.{IsSlotOf}
-use Rattle.task_tree.proofs.NumberingLemmas.{index_is}
+use Rattle.index_tables.proofs.NumberingLemmas.{index_is}
 use Rattle.task_tree.specs.Subjects.{subject, object, Finds, Calls, AreFound, AreFoundUpTo}
 
 pub finds_none : (tasks : List ℕ) (task : ℕ) (index : Option ℕ)

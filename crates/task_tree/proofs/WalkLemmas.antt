@@ -12,7 +12,7 @@ use Rattle.ompt_events.specs.Records.{running, begun_turn}
 use Rattle.ompt_events.specs.Places.{at, thread_at, places}
 use Rattle.ompt_events.specs.Turns.{turn_after, turn_in, turn_at}
 use Rattle.ompt_events.proofs.PlaceLemmas.{read_get}
-use Rattle.task_tree.specs.Numbering.{AreApart}
+use Rattle.index_tables.specs.Numbering.{AreApart}
 use Rattle.task_tree.proofs.LinkLemmas.{get_set_same, get_set_other}
 use Rattle.task_tree.specs.Chains.{IsFirstFrom}
 use Rattle.task_tree.specs.declared.turn_table.Mark.{Mark}

@@ -10,7 +10,8 @@ use Rattle.task_tree.specs.declared.links.Link.{Link}
 use Rattle.task_tree.specs.declared.roots.Standing.{Standing}
 use Rattle.task_tree.specs.Makers.{AreNoted, AreMade}
 use Rattle.task_tree.specs.Links.{AreLinks}
-use Rattle.task_tree.specs.Rows.{RowsView, AreChildren}
+use Rattle.index_tables.specs.Rows.{RowsView}
+use Rattle.task_tree.specs.Rows.{AreChildren}
 use Rattle.task_tree.specs.Roots.{AreRoots}
 
 -- the view of a family: the tasks in the order in which they are made; by index of the task the place of

@@ -9,9 +9,6 @@ pub mod Family
 pub mod Runs
 pub mod Own
 pub mod Paths
-pub mod Ranking
-pub mod Numbering
-pub mod Slots
 pub mod LinkSlots
 pub mod StandingSlots
 pub mod Makers

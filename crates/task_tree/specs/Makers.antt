@@ -1,12 +1,12 @@
 -- What is noted of the records while they are visited.
-use Rattle.std.specs.Prelude.{ℕ, ◌≡◌, ◌<◌, ◌≤◌, List, length, Option, Some, Contains, option_map, slice_get}
+use Rattle.std.specs.Prelude.{ℕ, ◌≡◌, ◌<◌, ◌≤◌, ◌++◌, ◌∷◌, [], List, length, Option, Some, None}
+use Rattle.std.specs.Prelude.{Contains, option_map, slice_get, min}
 use Rattle.ompt_events.specs.declared.records.Record.{Record}
 use Rattle.ompt_events.specs.declared.records.Body.{Body}
 use Rattle.ompt_events.specs.Records.{made, forked}
 use Rattle.ompt_events.specs.Places.{at}
-use Rattle.ompt_events.specs.declared.cause.Cause.TheVariants.{CreatedTwice}
-use Rattle.ompt_events.specs.Causes.{IsFreeOf}
-use Rattle.task_tree.specs.Numbering.{AreApart}
+use Rattle.index_tables.specs.Numbering.{AreApart, IsFirstAgain}
+use Rattle.task_tree.specs.declared.makers.Names.{Names}
 
 -- the parallel region that begins
 abbrev pub forked_region : Body → Option ℕ
@@ -33,25 +33,29 @@ pub record AreNoted (says : Body → Option ℕ) (rs : List Record) (n : ℕ) (i
   pub each : (i id : ℕ) → i < n → at says rs i ≡ Some id → Contains ids id
   pub only : (id : ℕ) → Contains ids id → (i : ℕ) × (i < n) × (at says rs i ≡ Some id)
 
--- a region is begun at most once by the first n records
-abbrev pub AreForkedOnce : List Record → ℕ → Type 0
-AreForkedOnce rs n =
-    (i k region : ℕ) → k < i → i < n → at forked_region rs k ≡ Some region
-    → at forked_region rs i ≡ Some region → ⊥
-
--- the tasks that the first n records make, each as often as it is made, and the places of these records
-pub record AreGathered (rs : List Record) (n : ℕ) (tasks places : List ℕ) : Type 0 where
-  pub all : length places ≡ length tasks
-  pub few : length tasks ≤ n
-  pub each : (i task : ℕ) → i < n → at made rs i ≡ Some task
-      → (index : ℕ) × (slice_get tasks index ≡ Some task) × (slice_get places index ≡ Some i)
-  pub only : (index task place : ℕ) → slice_get tasks index ≡ Some task
-      → slice_get places index ≡ Some place → (place < n) × (at made rs place ≡ Some task)
+-- the ids that the first n records name in this way, each as often as it is named, and the places of these
+-- records
+pub record AreGathered (says : Body → Option ℕ) (rs : List Record) (n : ℕ) (ids places : List ℕ)
+    : Type 0 where
+  pub all : length places ≡ length ids
+  pub few : length ids ≤ n
+  pub each : (i id : ℕ) → i < n → at says rs i ≡ Some id
+      → (index : ℕ) × (slice_get ids index ≡ Some id) × (slice_get places index ≡ Some i)
+  pub only : (index id place : ℕ) → slice_get ids index ≡ Some id → slice_get places index ≡ Some place
+      → (place < n) × (at says rs place ≡ Some id)
   pub in_order : ArePlacesBelow n places
 
--- all that is known if nothing is made twice
-pub record AreMadeOnce (rs : List Record) (tasks places regions : List ℕ) : Type 0 where
-  pub noted : AreNoted made rs (length rs) tasks
-  pub made_there : AreMade rs (length rs) tasks places
-  pub begun : AreNoted forked_region rs (length rs) regions
-  pub once : IsFreeOf rs CreatedTwice
+-- the new names are the old ones and the id that the record at the place names, if it names one
+abbrev pub AddsName : Names → Names → Option ℕ → ℕ → Type 0
+AddsName old new None place = (new.ids.items ≡ old.ids.items) × (new.places.items ≡ old.places.items)
+AddsName old new (Some id) place =
+    (new.ids.items ≡ old.ids.items ++ id ∷ []) × (new.places.items ≡ old.places.items ++ place ∷ [])
+
+-- the place of the first id that is there again
+abbrev pub IsPlaceAgain : List ℕ → List ℕ → ℕ → Type 0
+IsPlaceAgain ids places place = (index : ℕ) × IsFirstAgain ids index × (slice_get places index ≡ Some place)
+
+-- the lesser of two places, if there is a second one
+abbrev pub least_of : ℕ → Option ℕ → ℕ
+least_of place None = place
+least_of place (Some other) = min place other

@@ -4,7 +4,7 @@ ghost use Rattle.ompt_events.specs.declared.cause.Cause.TheVariants.{CreatedTwic
 ghost use Rattle.ompt_events.specs.Records.{made};
 ghost use Rattle.ompt_events.specs.Causes.{IsFreeOf};
 ghost use Rattle.task_tree.specs.Makers.{AreNoted};
-ghost use Rattle.task_tree.specs.Numbering.{AreApart};
+ghost use Rattle.index_tables.specs.Numbering.{AreApart};
 ghost use Rattle.task_tree.specs.Links.{AreLinks};
 ghost use Rattle.task_tree.specs.Rows.{AreChildren};
 ghost use Rattle.task_tree.specs.Rootless.{AllNameKnown};
@@ -12,9 +12,9 @@ ghost use Rattle.task_tree.specs.Subjects.{subject, object, AreFound};
 
 use crate::link_slot::LinkSlot;
 use crate::links::Linked;
-use crate::numbering::Numbering;
-use crate::rows::{Rows, find_rows};
+use crate::rows::find_rows;
 use crate::subjects::{Lookup, Subjects, find_subjects};
+use index_tables::{Numbering, Rows};
 use ompt_events::Record;
 use std::alloc::{AllocError, Global};
 

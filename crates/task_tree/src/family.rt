@@ -13,12 +13,10 @@ use crate::children::{Children, find_children};
 use crate::link_slot::LinkSlot;
 use crate::links::Link;
 use crate::makers::{Made, find_made};
-use crate::numbering::Numbering;
 use crate::rootless::find_rootless;
 use crate::roots::{Standing, find_roots};
-use crate::rows::Rows;
-use crate::slot::Slot;
 use crate::standing_slot::StandingSlot;
+use index_tables::{Numbering, Rows, Seeded, Slot};
 use ompt_events::{Cause, Fault, Record, Trace, exclude};
 use std::alloc::Global;
 use std::marker::Model;
@@ -34,6 +32,7 @@ pub struct Family {
     rows: Rows,
     links: Vec<LinkSlot>,
     roots: Vec<StandingSlot>,
+    region_hashers: Seeded,
 }
 
 impl Model for Family {
@@ -83,6 +82,7 @@ impl Family {
             rows,
             links,
             roots,
+            region_hashers: Seeded::of(regions.as_slice()),
         })
     }
 
@@ -91,6 +91,12 @@ impl Family {
         ensures { result.now ≡ self.now.tasks }
     {
         &self.tasks
+    }
+
+    /// Returns what makes the hashers of a table of the parallel regions that the records begin. Nothing but
+    /// the time of a look-up depends on it.
+    pub fn region_hashers(&self) -> Seeded {
+        self.region_hashers
     }
 
     /// Returns the place of the record that makes the task, none if no record does.

@@ -5,9 +5,9 @@
 //! phases take: it says by place what a record is. `Own` is a run whose records are in the tasks' own
 //! order; `Families` have both, and `Tree` has the paths too. Read `run`, `own`, `family`, `families` and
 //! `tree` for what a caller sees, then the steps of a build: `makers`, `children` (after `links`,
-//! `subjects` and `rows`), `roots` (after `forward`) and `rootless`. `numbering` is the list of ids that
-//! they share (`ranking` searches it), `slot` an index or none in 32 bits, `link_slot` a link or none,
-//! `standing_slot` the root and depth of a task or none, and `hints` guesses the index of a task.
+//! `subjects` and `rows`), `roots` (after `forward`) and `rootless`. They share the tables of `index_tables`;
+//! `link_slot` is a link or none, `standing_slot` the root and depth of a task or none, and `hints` guesses
+//! the index of a task.
 //!
 //! A task that runs on on another thread has its records in turns. `laws` says what follows from the
 //! definitions of turns alone. `rising` checks in one pass whether file order is the tasks' own order
@@ -32,17 +32,14 @@ mod lineage;
 mod link_slot;
 mod links;
 mod makers;
-mod numbering;
 mod own;
 mod own_order;
 mod paths;
-mod ranking;
 mod rising;
 mod rootless;
 mod roots;
 mod rows;
 mod run;
-mod slot;
 mod standing_slot;
 mod subjects;
 mod tree;
@@ -52,11 +49,9 @@ mod turn_table;
 pub use families::Families;
 pub use family::Family;
 pub use gaps::find_gap;
-pub use numbering::Numbering;
 pub use own::Own;
 pub use own_order::{OwnOrder, arrange};
 pub use rising::turns_rise;
 pub use run::{Creation, Finishing, RegionEvent, Run, Schedule, ThreadEvent, WaitEvent};
-pub use slot::Slot;
 pub use tree::{Tree, TreeFault};
 pub use turn_table::{RecordTurns, turns_of};

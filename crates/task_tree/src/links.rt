@@ -3,7 +3,7 @@ ghost use Rattle.std.specs.Prelude.{ℕ, ◌≡◌, ◌<◌, ◌≤◌, ◌^◌,
 ghost use Rattle.task_tree.specs.Links.{IsChildLinked, IsSlotOf};
 
 use crate::link_slot::LinkSlot;
-use crate::slot::Slot;
+use index_tables::Slot;
 use std::alloc::{AllocError, Global};
 
 /// A created task's index of its parent, and its number among the parent's children.

@@ -1,12 +1,14 @@
 //! Which tasks and parallel regions the records make.
-ghost use Rattle.std.specs.Prelude.{◌≡◌, ◌<◌, ◌≤◌, ◌^◌, ◌++◌, ◌∷◌, [], IfOk, IfSome, OnOk, IfErr, length};
+ghost use Rattle.std.specs.Prelude.{◌≡◌, ◌<◌, ◌≤◌, ◌^◌, ◌∷◌, [], IfOk, OnOk, IfErr, length};
 ghost use Rattle.ompt_events.specs.declared.cause.Cause.TheVariants.{CreatedTwice};
+ghost use Rattle.ompt_events.specs.declared.fault.Fault.TheVariants.{Malformed};
 ghost use Rattle.ompt_events.specs.Records.{made};
 ghost use Rattle.ompt_events.specs.Causes.{IsFreeOf};
-ghost use Rattle.task_tree.specs.Makers.{AreNoted, AreMade, AreMadeOnce, AreGathered, AreForkedOnce, forked_region};
+ghost use Rattle.index_tables.specs.Numbering.{AreApart};
+ghost use Rattle.task_tree.specs.Makers.{AreNoted, AreMade, AreGathered, AddsName, IsPlaceAgain, forked_region, least_of};
 ghost use Rattle.ompt_events.specs.Faults.{IsFault};
 
-use crate::numbering::Numbering;
+use index_tables::Numbering;
 use ompt_events::{Body, Cause, Fault, Record};
 use std::alloc::{AllocError, Global};
 
@@ -18,11 +20,49 @@ pub(crate) struct Made {
     pub(crate) regions: Numbering,
 }
 
-/// The same, before it is known whether a task is made twice.
+/// What the records make, before it is known whether they make a task or a region again.
 struct Gathered {
+    tasks: Names,
+    regions: Names,
+}
+
+/// Ids in file order, each as often as a record names it, and the places of these records.
+#[derive(Drop)]
+struct Names {
     ids: Vec<u64>,
     places: Vec<u32>,
-    regions: Numbering,
+}
+
+/// Ids in file order, each once, and the places of the records that name them.
+#[derive(Drop)]
+struct Numbered {
+    ids: Numbering,
+    places: Vec<u32>,
+}
+
+impl Names {
+    fn new(alloc: Global) -> Names
+        ensures ids { result.ids.items ≡ [] }
+        ensures places { result.places.items ≡ [] }
+    {
+        Names {
+            ids: Vec::new(alloc),
+            places: Vec::new(alloc),
+        }
+    }
+
+    /// Adds the id that the record at a place names, if it names one.
+    fn add(&mut self, found: Option<u64>, at: usize) -> Result<(), AllocError>
+        requires { at < 2 ^ 32 }
+        ensures { OnOk result (AddsName self.old self.new found at) }
+    {
+        let Some(id) = found else {
+            return Ok(());
+        };
+        self.ids.push(id)?;
+        self.places.push(at as u32)?;
+        Ok(())
+    }
 }
 
 /// Returns what the records make. Fails with CreatedTwice at the first record that makes a task or a region
@@ -37,123 +77,69 @@ pub(crate) fn find_made(alloc: Global, records: &[Record]) -> Result<Made, Fault
     ensures free { IfOk result (λ _. IsFreeOf records.now CreatedTwice) }
     ensures found { IfErr result (IsFault records.now (CreatedTwice ∷ [])) }
 {
-    match made_at_once(alloc, records)? {
-        Some(made) => Ok(made),
-        None => made_in_turn(alloc, records),
-    }
-}
-
-/// Returns what the records make, none if one makes a task or a region again.
-fn made_at_once(alloc: Global, records: &[Record]) -> Result<Option<Made>, AllocError>
-    requires few { length records.now ≤ 2 ^ 22 }
-    ensures { IfOk result (λ found. IfSome found (λ made.
-        AreMadeOnce records.now made.tasks made.places.items made.regions)) }
-{
-    let Some(gathered) = gather(alloc, records)? else {
-        return Ok(None);
+    let Gathered { tasks, regions } = gather(alloc, records)?;
+    let tasks = match number(alloc, tasks)? {
+        Ok(tasks) => tasks,
+        Err(task) => {
+            let region = number(alloc, regions)?.err();
+            return Err(made_again(task, region));
+        }
     };
-    let Gathered {
-        ids,
-        places,
-        regions,
-    } = gathered;
+    match number(alloc, regions)? {
+        Ok(regions) => Ok(Made {
+            tasks: tasks.ids,
+            places: tasks.places,
+            regions: regions.ids,
+        }),
+        Err(region) => Err(made_again(region, None)),
+    }
+}
+
+/// Returns the tasks and the regions that the records make, each as often as it is made.
+fn gather(alloc: Global, records: &[Record]) -> Result<Gathered, AllocError>
+    requires few { length records.now ≤ 2 ^ 22 }
+    ensures tasks { IfOk result (λ found. AreGathered made records.now
+        (length records.now) found.tasks.ids.items found.tasks.places.items) }
+    ensures regions { IfOk result (λ found. AreGathered forked_region records.now
+        (length records.now) found.regions.ids.items found.regions.places.items) }
+{
+    let mut tasks = Names::new(alloc);
+    let mut regions = Names::new(alloc);
+    for (at, event) in records.iter().enumerate() {
+        tasks.add(event.body.made(), at)?;
+        regions.add(forked_region(&event.body), at)?;
+    }
+    Ok(Gathered { tasks, regions })
+}
+
+/// Returns the ids, each once, or the place of the first record that names one again.
+fn number(alloc: Global, names: Names) -> Result<Result<Numbered, usize>, AllocError>
+    requires { length names.places.items ≡ length names.ids.items }
+    ensures ids { IfOk result (λ found. IfOk found (λ numbered. numbered.ids ≡ names.ids.items)) }
+    ensures places { IfOk result (λ found. IfOk found (λ numbered. numbered.places ≡ names.places)) }
+    ensures apart { IfOk result (λ found. IfOk found (λ _. AreApart names.ids.items)) }
+    ensures again { IfOk result (λ found. IfErr found (IsPlaceAgain names.ids.items names.places.items)) }
+{
+    let Names { ids, places } = names;
     match Numbering::of(alloc, ids)? {
-        Some(tasks) => Ok(Some(Made {
-            tasks,
-            places,
-            regions,
-        })),
-        None => Ok(None),
+        Ok(ids) => Ok(Ok(Numbered { ids, places })),
+        Err(again) => Ok(Err(places[again] as usize)),
     }
 }
 
-/// Returns each task that is made, as often as it is made; none if a region begins again.
-fn gather(alloc: Global, records: &[Record]) -> Result<Option<Gathered>, AllocError>
-    requires few { length records.now ≤ 2 ^ 22 }
-    ensures tasks { IfOk result (λ found. IfSome found (λ gathered. AreGathered records.now
-        (length records.now) gathered.ids.items gathered.places.items)) }
-    ensures regions { IfOk result (λ found. IfSome found (λ gathered. AreNoted forked_region records.now
-        (length records.now) gathered.regions)) }
-    ensures once { IfOk result (λ found. IfSome found (λ _. AreForkedOnce records.now
-        (length records.now))) }
+/// Returns the fault of the first record that makes something again: of the one at this place, or of the
+/// other if that is before it.
+fn made_again(at: usize, other: Option<usize>) -> Fault
+    ensures { result ≡ Malformed (least_of at other) CreatedTwice }
 {
-    let mut ids: Vec<u64> = Vec::new(alloc);
-    let mut places: Vec<u32> = Vec::new(alloc);
-    let mut regions = Numbering::new(alloc);
-    for (at, event) in records.iter().enumerate() {
-        if let Some(task) = event.body.made() {
-            add_task(&mut ids, &mut places, task, at)?;
-        }
-        if let Some(region) = forked_region(&event.body) {
-            let region_again = regions.note_id(region)?;
-            if region_again {
-                return Ok(None);
-            }
-        }
+    let first = match other {
+        Some(other) => at.min(other),
+        None => at,
+    };
+    Fault::Malformed {
+        at: first,
+        cause: Cause::CreatedTwice,
     }
-    Ok(Some(Gathered {
-        ids,
-        places,
-        regions,
-    }))
-}
-
-/// Adds a task and the place of the record that makes it.
-fn add_task(
-    ids: &mut Vec<u64>,
-    places: &mut Vec<u32>,
-    task: u64,
-    at: usize,
-) -> Result<(), AllocError>
-    requires { at < 2 ^ 32 }
-    ensures ids { OnOk result (ids.new.items ≡ ids.old.items ++ task ∷ []) }
-    ensures places { OnOk result (places.new.items ≡ places.old.items ++ at ∷ []) }
-{
-    ids.push(task)?;
-    add_place(places, at)
-}
-
-/// Returns the same as `find_made`, record by record up to the first that makes a task or a region again.
-fn made_in_turn(alloc: Global, records: &[Record]) -> Result<Made, Fault>
-    requires few { length records.now ≤ 2 ^ 22 }
-    ensures tasks { IfOk result (λ found. AreNoted made records.now (length records.now) found.tasks) }
-    ensures places { IfOk result (λ found. AreMade records.now
-        (length records.now) found.tasks found.places.items) }
-    ensures regions { IfOk result (λ found. AreNoted forked_region records.now
-        (length records.now) found.regions) }
-    ensures free { IfOk result (λ _. IsFreeOf records.now CreatedTwice) }
-    ensures found { IfErr result (IsFault records.now (CreatedTwice ∷ [])) }
-{
-    let mut tasks = Numbering::new(alloc);
-    let mut places: Vec<u32> = Vec::new(alloc);
-    let mut regions = Numbering::new(alloc);
-    for (at, event) in records.iter().enumerate() {
-        let task = event.body.made();
-        let task_again = tasks.note(task)?;
-        let region_again = regions.note(forked_region(&event.body))?;
-        if task_again || region_again {
-            return Err(Fault::Malformed {
-                at,
-                cause: Cause::CreatedTwice,
-            });
-        }
-        if task.is_some() {
-            add_place(&mut places, at)?;
-        }
-    }
-    Ok(Made {
-        tasks,
-        places,
-        regions,
-    })
-}
-
-fn add_place(places: &mut Vec<u32>, at: usize) -> Result<(), AllocError>
-    requires { at < 2 ^ 32 }
-    ensures { OnOk result (places.new.items ≡ places.old.items ++ at ∷ []) }
-{
-    places.push(at as u32)?;
-    Ok(())
 }
 
 /// Returns the parallel region that begins.

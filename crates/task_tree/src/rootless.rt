@@ -4,16 +4,15 @@ ghost use Rattle.ompt_events.specs.declared.cause.Cause.TheVariants.{Rootless};
 ghost use Rattle.ompt_events.specs.Records.{made};
 ghost use Rattle.ompt_events.specs.Causes.{IsFreeOf, IsFirstWith};
 ghost use Rattle.task_tree.specs.Makers.{AreNoted, forked_region};
-ghost use Rattle.task_tree.specs.Numbering.{AreApart};
+ghost use Rattle.index_tables.specs.Numbering.{AreApart};
 ghost use Rattle.task_tree.specs.Roots.{AreRoots};
 ghost use Rattle.task_tree.specs.Subjects.{subject, object, Finds, AreFound};
 ghost use Rattle.task_tree.specs.Rootless.{AllNameKnown, AreRootsMade, NamesNoRegion, IsRootless};
 ghost use Rattle.task_tree.specs.declared.roots.Standing.{Standing};
 
-use crate::numbering::Numbering;
-use crate::slot::Slot;
 use crate::standing_slot::StandingSlot;
 use crate::subjects::Subjects;
+use index_tables::{Numbering, Slot};
 use ompt_events::{Body, Claim, Record};
 
 /// Returns the place of the first record that names a task which no record makes, creates one whose chain

@@ -8,9 +8,8 @@ ghost use Rattle.task_tree.specs.Roots.{AreRoots, Reaches, Spreads, IsSeeded};
 
 use crate::forward::find_forward;
 use crate::link_slot::LinkSlot;
-use crate::numbering::Numbering;
-use crate::rows::Rows;
 use crate::standing_slot::StandingSlot;
+use index_tables::{Numbering, Rows};
 use ompt_events::Record;
 use std::alloc::{AllocError, Global};
 

@@ -1,40 +1,11 @@
 //! The children of all tasks in one array, with one row for each task.
-ghost use Rattle.std.specs.Prelude.{ℕ, ◌≡◌, ◌<◌, ◌≤◌, ◌+◌, ◌^◌, IfOk, length, slice_index, sum, replicate};
-ghost use Rattle.task_tree.specs.Rows.{row, AreRising, AreWithin, AreOffsets, AreCounted, AreFitting, AreSingle, AreFilled};
+ghost use Rattle.std.specs.Prelude.{ℕ, ◌≡◌, ◌<◌, ◌≤◌, ◌^◌, IfOk, length, slice_index, sum, replicate};
+ghost use Rattle.index_tables.specs.Rows.{AreRising, AreWithin, AreOffsets};
+ghost use Rattle.task_tree.specs.Rows.{AreCounted, AreFitting, AreSingle, AreFilled};
 
 use crate::link_slot::LinkSlot;
+use index_tables::{Rows, find_offsets};
 use std::alloc::{AllocError, Global};
-use std::marker::Model;
-
-/// The children of all tasks: by index of the task where its row begins, and after the last one where that
-/// ends.
-#[derive(Debug, Drop)]
-pub(crate) struct Rows {
-    offsets: Vec<u32>,
-    ids: Vec<u64>,
-}
-
-impl Model for Rows {
-    ghost use Rattle.task_tree.specs.Rows.{RowsView, AreWithin};
-
-    ghost Value = { RowsView };
-
-    ghost view = { λ rows. record { offsets = rows.offsets.items; ids = rows.ids.items } };
-
-    ghost invariant = { λ rows. AreWithin rows.offsets.items rows.ids.items };
-}
-
-impl Rows {
-    /// Returns the children of the task at this index, in the order of their numbers.
-    pub(crate) fn row(&self, index: usize) -> &[u64]
-        requires { index + 1 < length self.now.offsets }
-        ensures { result.now ≡ row self.now index }
-    {
-        let begin = self.offsets[index] as usize;
-        let end = self.offsets[index + 1] as usize;
-        &self.ids[begin..end]
-    }
-}
 
 /// Returns the rows, with each created task in the row of its parent, at its number.
 pub(crate) fn find_rows(
@@ -57,23 +28,7 @@ pub(crate) fn find_rows(
     let total = offsets[counts.len()];
     let mut ids = no_ids(alloc, total as usize)?;
     fill(tasks, links, offsets.as_slice(), &mut ids);
-    Ok(Rows { offsets, ids })
-}
-
-/// Returns where the row of each task begins, and where the last one ends.
-fn find_offsets(alloc: Global, counts: &[u32]) -> Result<Vec<u32>, AllocError>
-    requires few { sum counts.now ≤ 2 ^ 22 }
-    requires short { length counts.now ≤ 2 ^ 22 }
-    ensures { IfOk result (λ offsets. AreOffsets counts.now offsets.items) }
-{
-    let mut offsets = Vec::with_capacity(alloc, counts.len() + 1)?;
-    let mut end = 0u32;
-    offsets.push(end)?;
-    for count in counts {
-        end += *count;
-        offsets.push(end)?;
-    }
-    Ok(offsets)
+    Ok(Rows::of(offsets, ids))
 }
 
 /// Returns this many ids, all 0.

@@ -489,7 +489,7 @@ impl<'a> Run<'a> {
         self.family.tasks().as_slice()[index]
     }
 
-    /// Returns the index of the task, if a record makes it. Takes logarithmic time.
+    /// Returns the index of the task, if a record makes it.
     pub fn index_of(&self, task: u64) -> Option<usize>
         ensures { (index : ℕ) → (result ≡ Some index) ↔ (slice_get self.now.family.tasks index ≡ Some task) }
     {

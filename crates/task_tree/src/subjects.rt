@@ -4,16 +4,15 @@ ghost use Rattle.ompt_events.specs.declared.cause.Cause.TheVariants.{CreatedTwic
 ghost use Rattle.ompt_events.specs.Records.{made};
 ghost use Rattle.ompt_events.specs.Causes.{IsFreeOf};
 ghost use Rattle.task_tree.specs.Makers.{AreNoted};
-ghost use Rattle.task_tree.specs.Numbering.{AreApart};
+ghost use Rattle.index_tables.specs.Numbering.{AreApart};
 ghost use Rattle.task_tree.specs.Links.{AreChildCounts, AreLinks};
 ghost use Rattle.task_tree.specs.Rootless.{NamesNoRegion, NamesKnown, AllNameKnown};
 ghost use Rattle.task_tree.specs.Subjects.{subject, object, Finds, AreFound};
 
 use crate::hints::Hints;
 use crate::links::{Linked, link_child, no_counts, no_links};
-use crate::numbering::Numbering;
 use crate::rootless::names_no_region;
-use crate::slot::Slot;
+use index_tables::{Numbering, Slot};
 use ompt_events::{Body, Claim, Record};
 use std::alloc::{AllocError, Global};
 

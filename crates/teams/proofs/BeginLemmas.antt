@@ -20,7 +20,7 @@ use Rattle.ompt_events.specs.Regions.{is_barrier, barrier_begun, begins_barrier,
 use Rattle.ompt_events.proofs.ListLemmas.{get_pushed, get_last}
 use Rattle.ompt_events.proofs.PlaceLemmas.{own_more}
 use Rattle.ompt_events.proofs.RecordLemmas.{at_through, region_running}
-use Rattle.task_tree.specs.Numbering.{AreApart}
+use Rattle.index_tables.specs.Numbering.{AreApart}
 use Rattle.task_tree.proofs.LinkLemmas.{get_set_same, get_set_other}
 use Rattle.teams.specs.Begins.{AreBeginsNumbered, IsBeginAdded}
 use Rattle.task_states.specs.Rows.{row_at}

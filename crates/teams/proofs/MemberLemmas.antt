@@ -4,14 +4,14 @@ use Rattle.std.proofs.Common.{Option, Some, None, Bool, true, false, cond, refl,
 use Rattle.std.proofs.Common.{inr, ◌⊎◌, add-one}
 use Rattle.std.proofs.lemmas.Bool.{cases_eq, cases_order, eq-eqb, ne_eqb}
 use Rattle.std.proofs.lemmas.Option.{none-some, same_Some, slice_get_within, slice_get-get_or}
-use Rattle.std.proofs.lemmas.List.{length_push, length-set, append-nil}
+use Rattle.std.proofs.lemmas.List.{length_push, length-set, length-replicate, append-nil}
 use Rattle.std.proofs.lemmas.List.Elements.{filter-append, filter_map-append, Contains-push}
 use Rattle.std.proofs.lemmas.List.Elements.{Contains-push_cases, Contains-append_left}
 use Rattle.std.proofs.Math.ListN.{set}
-use Rattle.std.specs.Ordering.{nat_cmp}
-use Rattle.std.specs.BTreeMap.{BTreeMap, get}
+use Rattle.indexmap.specs.IndexMap.{get, IsEmpty}
 use Rattle.std.specs.List.{filter_map, range_with_len, cons_option}
-use Rattle.std.specs.Prelude.{◌==◌, slice_get, filter, Contains, MatchOption, option_and_then, if◌then◌else◌}
+use Rattle.std.specs.Prelude.{◌==◌, nat_eq, slice_get, filter, Contains, MatchOption, option_and_then}
+use Rattle.std.specs.Prelude.{if◌then◌else◌, replicate}
 use Rattle.ompt_events.specs.declared.records.Record.{Record}
 use Rattle.ompt_events.specs.declared.records.Body.{Body}
 use Rattle.ompt_events.specs.declared.records.Body.TheVariants.{ImplicitTask}
@@ -29,8 +29,9 @@ use Rattle.ompt_events.proofs.PlaceLemmas.{range_more, at_within}
 use Rattle.ompt_events.proofs.RecordLemmas.{at_through, member_made, initial_made, member_begun}
 use Rattle.ompt_events.proofs.RecordLemmas.{initial_begun}
 use Rattle.task_tree.specs.Makers.{AreNoted}
-use Rattle.task_tree.specs.Numbering.{AreApart}
+use Rattle.index_tables.specs.Numbering.{AreApart}
 use Rattle.task_tree.specs.Subjects.{subject}
+use Rattle.task_tree.proofs.ChainLemmas.{replicate_get}
 use Rattle.task_tree.proofs.LinkLemmas.{get_set_same, get_set_other}
 use Rattle.task_tree.proofs.NamedLemmas.{joined_subject, begun_initial_subject}
 use Rattle.task_tree.proofs.OnceLemmas.{made_once}
@@ -38,7 +39,7 @@ use Rattle.task_tree.specs.Runs.{RunView}
 use Rattle.teams.specs.declared.members.Members.{Members}
 use Rattle.teams.specs.Members.{AreMembers, IsLead, AreLeads, IsLeadOf, old_lead, new_lead, IsTeamThere}
 use Rattle.teams.specs.Members.{there_alone, there_joined, IsInTeam, in_own, in_joined, IsInNone, AreInTeams}
-use Rattle.teams.specs.Members.{IsLeadAt, AreSizes}
+use Rattle.teams.specs.Members.{IsLeadAt, AreSizes, Leads}
 use Rattle.teams.specs.Teams.{AreTeams}
 
 -- ---- the record by which a task begins
@@ -309,9 +310,41 @@ lead_other rs tasks parallel other lead free lp lq =
     (same_Some lp.first.member lq.first.member (sym lp.here ∙ lq.here)) in
     sym lp.same ∙ ap (λ (m : Membership). m.parallel) same.1 ∙ lq.same
 
-lead_new : (rs : List Record) (n : ℕ) (tasks : List ℕ) (leads : BTreeMap ℕ ℕ) (m : Membership) (index : ℕ)
+-- no team and no member by no record
+pub members_start : (run : RunView) (count : ℕ) (members : Members) → count ≡ length run.family.tasks
+    → members.teams.items ≡ replicate count None → members.sizes.items ≡ replicate count 0
+    → AreMembers run 0 members
+members_start run count members all teams sizes = record {
+  teams = record {
+    all = ap length teams ∙ length-replicate count None ∙ all;
+    known =
+        λ index task team is stands.
+        absurd (none-some team (sym (replicate_get count index None (Some team) (rw teams at stands))));
+    none = λ index task is stands. record {
+      not_initial = λ i below. absurd (omega (arith, below));
+      not_joined = λ i m below. absurd (omega (arith, below));
+    };
+  };
+  sizes = record {
+    all = ap length sizes ∙ length-replicate count 0 ∙ all;
+    each = λ parallel lead size leads stands. replicate_get count lead 0 size (rw sizes at stands);
+    only =
+        λ index size stands some.
+        let zero_size = replicate_get count index 0 size (rw sizes at stands) in
+        absurd (omega (arith, zero_size, some));
+  };
+}
+
+pub leads_start : (rs : List Record) (tasks : List ℕ) (leads : Leads) → IsEmpty leads
+    → AreLeads rs 0 tasks leads
+leads_start rs tasks leads empty = record {
+  known = λ parallel lead found. absurd (none-some lead (rw empty at found));
+  none = λ parallel k m missing below. absurd (omega (arith, below));
+}
+
+lead_new : (rs : List Record) (n : ℕ) (tasks : List ℕ) (leads : Leads) (m : Membership) (index : ℕ)
     → AreLeads rs n tasks leads → at joined rs n ≡ Some m → slice_get tasks index ≡ Some m.member
-    → get nat_cmp leads m.parallel ≡ None → IsLead rs tasks m.parallel index
+    → get nat_eq leads m.parallel ≡ None → IsLead rs tasks m.parallel index
 lead_new rs n tasks leads m index are joins here missing = record {
   place = n;
   first = m;
@@ -321,7 +354,7 @@ lead_new rs n tasks leads m index are joins here missing = record {
   here = here;
 }
 
-pub lead_of_is : (rs : List Record) (n : ℕ) (tasks : List ℕ) (old new : BTreeMap ℕ ℕ) (m : Membership)
+pub lead_of_is : (rs : List Record) (n : ℕ) (tasks : List ℕ) (old new : Leads) (m : Membership)
     (index lead : ℕ)
     → AreLeads rs n tasks old → at joined rs n ≡ Some m → slice_get tasks index ≡ Some m.member
     → IsLeadOf old new m.parallel index lead → IsLead rs tasks m.parallel lead

@@ -17,7 +17,7 @@ use Rattle.ompt_events.specs.Teams.{members_before, IsInitial}
 use Rattle.ompt_events.proofs.ListLemmas.{pushed_cases, contains_get}
 use Rattle.ompt_events.proofs.PlaceLemmas.{at_within}
 use Rattle.task_tree.specs.Makers.{AreNoted}
-use Rattle.task_tree.specs.Numbering.{AreApart}
+use Rattle.index_tables.specs.Numbering.{AreApart}
 use Rattle.task_tree.proofs.LinkLemmas.{get_set_same, get_set_other}
 use Rattle.task_tree.proofs.OnceLemmas.{made_once}
 use Rattle.teams.specs.Members.{IsLead, IsLeadAt, AreSizes}

@@ -20,7 +20,7 @@ use Rattle.ompt_events.specs.Causes.{IsShort, outside, same_index, other_size, f
 use Rattle.ompt_events.specs.Causes.{team_short, IsFreeOf}
 use Rattle.ompt_events.specs.Teams.{IsInitial}
 use Rattle.ompt_events.proofs.PlaceLemmas.{at_within}
-use Rattle.task_tree.specs.Numbering.{AreApart}
+use Rattle.index_tables.specs.Numbering.{AreApart}
 use Rattle.task_tree.specs.Own.{OwnView, IsOwn, HasCauseAt, IsFirstPlaceWith}
 use Rattle.task_tree.proofs.RenamedCauseLemmas.{short_within}
 use Rattle.teams.specs.Tables.{TablesView, AreTables, tables_own}

@@ -1,8 +1,8 @@
 -- Teams by index of the task, and how many members each has, while the records are visited. The number of a
 -- team is the index of its first member.
-use Rattle.std.specs.Prelude.{ℕ, ◌≡◌, ◌<◌, List, length, Option, Some, None, slice_get}
-use Rattle.std.specs.Ordering.{nat_cmp}
-use Rattle.std.specs.BTreeMap.{BTreeMap, get, Updates}
+use Rattle.std.specs.Prelude.{ℕ, ◌≡◌, ◌<◌, List, length, Option, Some, None, nat_eq, slice_get}
+use Rattle.indexmap.specs.IndexMap.{IndexMap, get, Updates}
+use Rattle.index_tables.specs.declared.seeded.Seeded.{Seeded}
 use Rattle.ompt_events.specs.declared.records.Record.{Record}
 use Rattle.ompt_events.specs.declared.records.Membership.{Membership}
 use Rattle.ompt_events.specs.Records.{joined, begun_initial}
@@ -10,6 +10,10 @@ use Rattle.ompt_events.specs.Places.{at}
 use Rattle.ompt_events.specs.Teams.{members_before}
 use Rattle.task_tree.specs.Runs.{RunView}
 use Rattle.teams.specs.declared.members.Members.{Members}
+
+-- by parallel region the lead of its team
+abbrev pub Leads : Type 0
+Leads = IndexMap ℕ ℕ Seeded
 
 -- the index is that of the first member, in file order, of the parallel region's team
 pub record IsLead (rs : List Record) (tasks : List ℕ) (parallel lead : ℕ) : Type 0 where
@@ -21,15 +25,15 @@ pub record IsLead (rs : List Record) (tasks : List ℕ) (parallel lead : ℕ) : 
   pub here : slice_get tasks lead ≡ Some first.member
 
 -- by parallel region the lead of its team, if a member begins by the first n records
-pub record AreLeads (rs : List Record) (n : ℕ) (tasks : List ℕ) (leads : BTreeMap ℕ ℕ) : Type 0 where
-  pub known : (parallel lead : ℕ) → get nat_cmp leads parallel ≡ Some lead → IsLead rs tasks parallel lead
-  pub none : (parallel k : ℕ) (m : Membership) → get nat_cmp leads parallel ≡ None → k < n
+pub record AreLeads (rs : List Record) (n : ℕ) (tasks : List ℕ) (leads : Leads) : Type 0 where
+  pub known : (parallel lead : ℕ) → get nat_eq leads parallel ≡ Some lead → IsLead rs tasks parallel lead
+  pub none : (parallel k : ℕ) (m : Membership) → get nat_eq leads parallel ≡ None → k < n
       → at joined rs k ≡ Some m → m.parallel ≡ parallel → ⊥
 
 -- the lead that a map has for a parallel region, or else this index from now on
-pub data IsLeadOf (old new : BTreeMap ℕ ℕ) (parallel index lead : ℕ) : Type 0 where
-  old_lead : get nat_cmp old parallel ≡ Some lead → new ≡ old → IsLeadOf old new parallel index lead
-  new_lead : get nat_cmp old parallel ≡ None → lead ≡ index → Updates nat_cmp old new parallel (Some index)
+pub data IsLeadOf (old new : Leads) (parallel index lead : ℕ) : Type 0 where
+  old_lead : get nat_eq old parallel ≡ Some lead → new ≡ old → IsLeadOf old new parallel index lead
+  new_lead : get nat_eq old parallel ≡ None → lead ≡ index → Updates nat_eq old new parallel (Some index)
       → IsLeadOf old new parallel index lead
 
 -- the number of the team that the task at the index is in by the record at a place

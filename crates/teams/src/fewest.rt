@@ -2,9 +2,9 @@
 ghost use Rattle.std.specs.Prelude.{◌≡◌, ◌^◌, IfOk, length, min, replicate};
 ghost use Rattle.teams.specs.Fewest.{AreFewest, AreTeamsWithin, AreShort};
 
+use index_tables::Slot;
 use std::alloc::{AllocError, Global};
 use task_states::row;
-use task_tree::Slot;
 
 /// Returns by number of the team the least number of barriers that a member begins.
 pub(crate) fn find_fewest(

@@ -3,9 +3,10 @@
 ghost use Rattle.std.specs.Prelude.{◌≡◌, ◌<◌, ◌+◌, None, IfOk, OnOk, length, replicate};
 ghost use Rattle.teams.specs.Members.{AreLeads, IsLeadOf, AreMembers};
 
+use index_tables::{Seeded, Slot};
+use indexmap::IndexMap;
 use std::alloc::{AllocError, Global};
-use std::collections::BTreeMap;
-use task_tree::{Run, Slot};
+use task_tree::Run;
 
 /// By index of the task the number of its team, and by number of the team how many members it has.
 #[derive(Drop)]
@@ -14,12 +15,14 @@ pub(crate) struct Members {
     pub(crate) sizes: Vec<u32>,
 }
 
-/// Returns the team of each task, and how many members each has. Looks up each member's parallel region, in
-/// logarithmic time.
+/// By parallel region the lead of its team.
+type Leads = IndexMap<u64, usize, Seeded>;
+
+/// Returns the team of each task, and how many members each has. Looks up each member's parallel region.
 pub(crate) fn find_members(alloc: Global, run: &Run) -> Result<Members, AllocError>
     ensures { IfOk result (AreMembers run.now (length run.now.records)) }
 {
-    let mut leads: BTreeMap<u64, usize> = BTreeMap::new(alloc);
+    let mut leads: Leads = IndexMap::with_hasher(alloc, run.family().region_hashers());
     let mut members = no_members(alloc, run.task_count())?;
     for at in 0..run.len() {
         note_member(run, &mut leads, &mut members, at)?;
@@ -41,7 +44,7 @@ fn no_members(alloc: Global, tasks: usize) -> Result<Members, AllocError>
 /// Notes the team of the task that begins at a place, if an initial task or a member of a team does.
 fn note_member(
     run: &Run,
-    leads: &mut BTreeMap<u64, usize>,
+    leads: &mut Leads,
     members: &mut Members,
     at: usize,
 ) -> Result<(), AllocError>
@@ -66,11 +69,7 @@ fn note_member(
 }
 
 /// Returns the lead that is noted for the parallel region, or else notes and returns this index.
-fn lead_of(
-    leads: &mut BTreeMap<u64, usize>,
-    parallel: u64,
-    index: usize,
-) -> Result<usize, AllocError>
+fn lead_of(leads: &mut Leads, parallel: u64, index: usize) -> Result<usize, AllocError>
     ensures { IfOk result (IsLeadOf leads.old leads.new parallel index) }
 {
     match leads.get(&parallel).copied() {

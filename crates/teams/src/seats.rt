@@ -7,9 +7,10 @@ ghost use Rattle.teams.specs.Members.{IsJoining};
 ghost use Rattle.teams.specs.Seats.{AreFirstSeats, AreSeated, IsFitting, IsWholeBefore, TakesSeat, IsSeating};
 
 use crate::tables::Tables;
+use index_tables::Slot;
 use ompt_events::Membership;
 use std::alloc::{AllocError, Global};
-use task_tree::{Run, Slot};
+use task_tree::Run;
 
 /// Returns by number of the team an empty seat for each of its members. An initial task is in its own seat.
 pub(crate) fn empty_rosters(alloc: Global, tables: &Tables) -> Result<Vec<Vec<Slot>>, AllocError>

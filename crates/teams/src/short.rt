@@ -7,7 +7,7 @@ ghost use Rattle.teams.specs.Short.{AreAllSeated, FindsMissed, IsSearched};
 use crate::missed::is_missed;
 use crate::seats::lacks_member;
 use crate::tables::Tables;
-use task_tree::Slot;
+use index_tables::Slot;
 
 /// Returns the first place in the file at which a record shows a team or a barrier that lacks a member. If
 /// there is none, each member has its seat.

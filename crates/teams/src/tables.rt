@@ -5,10 +5,11 @@ ghost use Rattle.teams.specs.Tables.{tables_own, AreTables};
 use crate::begins::{Begins, find_begins};
 use crate::fewest::find_fewest;
 use crate::members::{Members, find_members};
+use index_tables::Slot;
 use std::alloc::{AllocError, Global};
 use std::marker::Model;
 use task_states::Regions;
-use task_tree::{Own, Run, Slot};
+use task_tree::{Own, Run};
 
 /// The team of each task, how many members each team has, and which barriers they begin.
 #[derive(Drop)]
@@ -54,8 +55,8 @@ impl<'a> Model for Tables<'a> {
 }
 
 impl<'a> Tables<'a> {
-    /// Returns the tables of the run. Takes a few steps for each record, and a look-up of logarithmic time
-    /// for each member.
+    /// Returns the tables of the run. Takes a few steps for each record, and a look-up of its region for each
+    /// member.
     pub(crate) fn in_own(alloc: Global, regions: &'a Regions<'a>) -> Result<Tables<'a>, AllocError>
         ensures run { IfOk result (λ tables. tables.run ≡ regions.now.own.run) }
         ensures places { IfOk result (λ tables. tables.places ≡ regions.now.own.places) }

@@ -14,11 +14,12 @@ use crate::missed::{BarrierEnd, barrier_end};
 use crate::seats::empty_rosters;
 use crate::short::find_short;
 use crate::tables::Tables;
+use index_tables::Slot;
 use ompt_events::{Cause, Fault};
 use std::alloc::Global;
 use std::marker::Model;
 use task_states::{Regions, row};
-use task_tree::{Own, Run, Slot};
+use task_tree::{Own, Run};
 
 /// The teams of a run in its tasks' own order (OpenMP 5.2, 1.2.2), and where their members begin barriers.
 #[derive(Debug, Drop)]
@@ -62,8 +63,8 @@ impl<'a> Model for Teams<'a> {
 impl<'a> Teams<'a> {
     /// Returns the teams of a run in its tasks' own order. Fails with TeamShort if a team or a barrier
     /// lacks a member (OpenMP 5.2, 10.1 and 15.3), at its first place in the file; and when out of memory.
-    /// Takes a few steps for each record, and a look-up of logarithmic time for each member; memory is
-    /// linear in the records.
+    /// Takes a few steps for each record, and a look-up of its region for each member; memory is linear in
+    /// the records.
     pub fn in_own(alloc: Global, regions: &'a Regions<'a>) -> Result<Teams<'a>, Fault>
         ensures run { IfOk result (λ teams. teams.run ≡ regions.now.own.run) }
         ensures places { IfOk result (λ teams. teams.places ≡ regions.now.own.places) }

@@ -17,7 +17,7 @@ use Rattle.ompt_events.specs.Traces.{IsTrace}
 use Rattle.credit_ledger.specs.declared.entry.Entry.{Entry}
 use Rattle.ompt_events.proofs.PlaceLemmas.{at_within}
 use Rattle.task_tree.specs.Family.{FamilyView, IsFamilyOf}
-use Rattle.task_tree.specs.Numbering.{AreApart}
+use Rattle.index_tables.specs.Numbering.{AreApart}
 use Rattle.task_tree.proofs.LinkLemmas.{get_set_same, get_set_other}
 use Rattle.task_tree.proofs.LookupLemmas.{subject_calls}
 use Rattle.task_tree.proofs.NamedLemmas.{finish_subject, subject_index}

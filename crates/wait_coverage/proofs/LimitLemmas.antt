@@ -22,7 +22,7 @@ use Rattle.ompt_events.specs.Coverage.{Covers, IsFamily, waited, grouped, synchr
 use Rattle.ompt_events.proofs.ListLemmas.{pushed_cases}
 use Rattle.ompt_events.proofs.RegionLemmas.{own_begin, same_says}
 use Rattle.ompt_events.proofs.TreeLemmas.{before_child, child_place}
-use Rattle.task_tree.specs.Numbering.{AreApart}
+use Rattle.index_tables.specs.Numbering.{AreApart}
 use Rattle.task_tree.proofs.LinkLemmas.{get_set_same, get_set_other}
 use Rattle.wait_coverage.specs.Done.{DoneView, records_of, tasks_of, IsEarly}
 use Rattle.wait_coverage.specs.Limits.{IsFamilyLimit, IsChildLimit, IsFamiliesLimit, IsLimitOfBegin}

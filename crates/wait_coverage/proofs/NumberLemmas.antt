@@ -10,7 +10,7 @@ use Rattle.ompt_events.specs.Records.{creation}
 use Rattle.ompt_events.specs.Places.{at}
 use Rattle.ompt_events.specs.Tree.{child_number, children_before}
 use Rattle.ompt_events.proofs.TreeLemmas.{children_same, children_more, child_at_none, child_at_other}
-use Rattle.task_tree.specs.Numbering.{AreApart}
+use Rattle.index_tables.specs.Numbering.{AreApart}
 use Rattle.task_tree.proofs.LinkLemmas.{get_set_same, get_set_other}
 use Rattle.wait_coverage.specs.Numbers.{AreCreationCounts}
 

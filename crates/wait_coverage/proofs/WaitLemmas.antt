@@ -38,7 +38,7 @@ use Rattle.wait_coverage.specs.declared.waits.Wait.TheVariants.{Taskwait as ForT
 use Rattle.wait_coverage.specs.declared.waits.Wait.TheVariants.{Taskgroup as ForTaskgroup}
 use Rattle.wait_coverage.specs.declared.waits.Wait.TheVariants.{Barrier as ForBarrier}
 use Rattle.teams.proofs.BarrierLemmas.{barrier_begins_at}
-use Rattle.task_tree.specs.Numbering.{AreApart}
+use Rattle.index_tables.specs.Numbering.{AreApart}
 use Rattle.ompt_events.specs.Teams.{IsTeammate}
 use Rattle.teams.proofs.EventLemmas.{barrier_kind}
 use Rattle.teams.proofs.RegionEndLemmas.{ends_at}

@@ -22,11 +22,12 @@ use crate::numbers::find_numbers;
 use crate::unfinished::{Known, unfinished_at};
 use crate::waits::{Wait, wait_at};
 use credit_ledger::{Cover, Ledger, Span};
+use index_tables::Slot;
 use ompt_events::{Fault, Path, Trace};
 use std::alloc::{AllocError, Global};
 use std::marker::Model;
 use task_states::States;
-use task_tree::{Slot, Tree};
+use task_tree::Tree;
 use teams::Teams;
 
 /// The fault of a call on the coverage of waits.

@@ -78,7 +78,7 @@ pub(crate) fn find_lengths(alloc: Global, run: &Run) -> Result<Vec<Lengths>, All
 }
 
 /// Returns by index of the task the ledger lengths from which on its parts are finished, by the entries of
-/// the ledger. Looks up the task of each entry, in logarithmic time.
+/// the ledger. Looks up the task of each entry.
 pub(crate) fn find_entered(
     alloc: Global,
     run: &Run,

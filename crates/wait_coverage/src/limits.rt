@@ -10,9 +10,10 @@ ghost use Rattle.wait_coverage.specs.Meetings.{AreMet};
 use crate::done::Done;
 use crate::limit::Limit;
 use crate::meetings::meet;
+use index_tables::Slot;
 use ompt_events::{Endpoint, WaitKind};
 use std::alloc::{AllocError, Global};
-use task_tree::{Creation, Slot, WaitEvent};
+use task_tree::{Creation, WaitEvent};
 
 /// What is noted at one record.
 #[derive(Clone, Copy, Debug, PartialEq, Eq)]

@@ -44,8 +44,8 @@ impl<'a> Model for Known<'a> {
 
 impl<'a> Known<'a> {
     /// Returns the lengths that the entries of a ledger give. They are those of `find_known` if the ledger
-    /// is that of the trace. Takes a few steps for each record, a look-up of logarithmic time for each
-    /// entry, and memory linear in the records. Fails only when out of memory.
+    /// is that of the trace. Takes a few steps for each record, a look-up of its task for each entry, and
+    /// memory linear in the records. Fails only when out of memory.
     pub fn of_ledger(
         alloc: Global,
         teams: &'a Teams<'a>,

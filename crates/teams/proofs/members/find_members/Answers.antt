@@ -1,6 +1,17 @@
 use Rattle.std.proofs.Common.{◌≡◌, ℕ, length, subst, arith}
 use Rattle.teams.specs.Members.{AreMembers}
+use Rattle.teams.proofs.MemberLemmas.{leads_start, members_start}
 use Rattle.teams.proofs.members.find_members.Goals as goal
+
+pub loop-at-init : goal.loop-at-init
+loop-at-init c = record {
+  leads =
+      leads_start c.args.run.now.records c.args.run.now.family.tasks c.with_hasher-leads.result
+      c.with_hasher-leads.ensures.empty;
+  members =
+      members_start c.args.run.now c.task_count.result c.in_ok-members.members c.task_count.ensures.value
+      c.in_ok-members.ensures.teams c.in_ok-members.ensures.sizes;
+}
 
 pub returns : goal.returns
 returns c =

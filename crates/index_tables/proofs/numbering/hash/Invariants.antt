@@ -1,0 +1,10 @@
+use Rattle.std.proofs.Common.{ℕ, ◌≡◌, ◌<◌, take}
+use Rattle.index_tables.specs.Numbering.{IsAgain}
+use Rattle.index_tables.proofs.numbering.hash.Given as goal
+
+-- the ids so far are in the table, and none of them is there again
+abbrev pub invariant-loop-index : goal.invariant-loop-index
+invariant-loop-index l = record {
+  same : l.known.keys ≡ take l.index l.ids;
+  once : (k : ℕ) → k < l.index → IsAgain l.ids k → ⊥;
+}
