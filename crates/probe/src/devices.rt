@@ -1,6 +1,6 @@
 //! Sources and sinks that give and take in pieces, ask for another turn, take nothing, or break.
-use crate::lines::{HEADER, told};
 use crate::slow::{SlowSink, SlowSource, Stall};
+use crate::standard_input::{HEADER, told};
 use anyhow::{Result, bail};
 use certificate::{
     FromRead, MemSink, MemSource, ReadFault, Script, Sink, Source, ToWrite, WriteFault, read,

@@ -2,7 +2,7 @@
 ghost use Rattle.task_tree.specs.Paths.{IsTreeOf};
 
 use crate::again::again;
-use crate::lines::trace_of_input;
+use crate::standard_input::trace_of_input;
 use crate::tree::built;
 use anyhow::{Result, bail};
 use depend_edges::{EdgeFault, Edges};

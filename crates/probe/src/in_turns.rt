@@ -2,7 +2,7 @@
 ghost use Rattle.std.specs.Prelude.{IfOk};
 ghost use Rattle.task_tree.specs.Family.{IsFamilyOf};
 
-use crate::lines::trace_of_input;
+use crate::standard_input::trace_of_input;
 use anyhow::{Result, bail};
 use ompt_events::Trace;
 use task_tree::{Families, Family, Own, OwnOrder, arrange, find_gap, turns_of, turns_rise};

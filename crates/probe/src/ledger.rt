@@ -1,7 +1,7 @@
 //! A ledger of finished tasks, by commands.
 use crate::again::{again, tell_refused};
-use crate::lines::text_of_input;
 use crate::shares::path_of;
+use crate::standard_input::text_of_input;
 use anyhow::{Result, bail};
 use credit_ledger::{Cover, Entry, Ledger, LedgerFault, Span};
 use ompt_events::{Part, Path};

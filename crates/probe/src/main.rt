@@ -2,7 +2,7 @@
 //! Nothing is promised but safety.
 //!
 //! A word says which calls; most take a trace file or commands on standard input. The calls of recorders are
-//! those of `recorder_probe`. Begin at `run`. `lines` reads standard input; `again` makes a call that is
+//! those of `recorder_probe`. Begin at `run`. `standard_input` reads standard input; `again` makes a call that is
 //! refused memory once more; each other module has the calls of one library, or of several workers.
 #![tactic(auto)]
 
@@ -12,7 +12,6 @@ mod edges;
 mod gates;
 mod in_turns;
 mod ledger;
-mod lines;
 mod names;
 mod refusals;
 mod script;
@@ -20,6 +19,7 @@ mod seats;
 mod shared;
 mod shares;
 mod slow;
+mod standard_input;
 mod states;
 mod tables;
 mod threads;
@@ -39,9 +39,9 @@ const WORDS: &str =
 /// Makes the calls that the word names.
 fn run(rt: &HostRuntime, word: &str) -> Result<()> {
     match word {
-        "write" => lines::rewrite(rt),
-        "lines" => lines::each(rt, lines::HEADER),
-        "lines_with_turns" => lines::each(rt, lines::HEADER_WITH_TURNS),
+        "write" => standard_input::rewrite(rt),
+        "lines" => standard_input::each(rt, standard_input::HEADER),
+        "lines_with_turns" => standard_input::each(rt, standard_input::HEADER_WITH_TURNS),
         "scripts" => script::each(rt),
         "turns" => in_turns::of_input(rt),
         "names" => names::each(rt),
@@ -68,7 +68,7 @@ fn main(rt: HostRuntime) -> Result<()> {
     match (word.as_str(), words.next(), words.next()) {
         ("shared", ..) => shared::each(&rt),
         ("seats", ..) => seats::each(&rt),
-        ("devices", ..) => devices::all(&rt, &lines::input(&rt)?),
+        ("devices", ..) => devices::all(&rt, &standard_input::input(&rt)?),
         ("workers", Some(count), Some(gate)) => {
             let refused = words.next();
             let refused = refused.as_deref().unwrap_or("");

@@ -1,5 +1,5 @@
 //! Which values have a name.
-use crate::lines::text_of_input;
+use crate::standard_input::text_of_input;
 use anyhow::Result;
 use bitflags::Flags;
 use certificate::{ReadCause, WriteFault};

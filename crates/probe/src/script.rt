@@ -1,5 +1,5 @@
 //! What scripts say.
-use crate::lines::{input, parts_of, told};
+use crate::standard_input::{input, parts_of, told};
 use anyhow::Result;
 use certificate::{FromRead, Script, read_script};
 

@@ -1,5 +1,5 @@
 //! Shares and a purse, by commands.
-use crate::lines::text_of_input;
+use crate::standard_input::text_of_input;
 use anyhow::{Result, bail};
 use credit::{Purse, Share};
 use std::alloc::Global;

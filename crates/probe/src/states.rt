@@ -1,7 +1,7 @@
 //! The states of a trace's tasks after all records, and whether its parallel regions are nested.
 ghost use Rattle.task_tree.specs.Paths.{IsTreeOf};
 
-use crate::lines::traces_of_input;
+use crate::standard_input::traces_of_input;
 use anyhow::{Result, bail};
 use ompt_events::Trace;
 use task_states::{StateFault, nested, run};

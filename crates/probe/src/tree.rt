@@ -3,7 +3,7 @@ ghost use Rattle.std.specs.Prelude.{IfOk};
 ghost use Rattle.task_tree.specs.Paths.{IsTreeOf};
 
 use crate::again::again;
-use crate::lines::trace_of_input;
+use crate::standard_input::trace_of_input;
 use anyhow::{Result, bail};
 use ompt_events::Trace;
 use task_tree::{Tree, TreeFault};

@@ -1,7 +1,7 @@
 //! What the calls on a trace answer, the order of a yes among them, and the orders that leave a task
 //! incomplete.
 use crate::again::again;
-use crate::lines::trace_of_input;
+use crate::standard_input::trace_of_input;
 use anyhow::Result;
 use checker::{Order, Verdict, check, counter_order};
 use ompt_events::Trace;

@@ -3,7 +3,7 @@ ghost use Rattle.std.specs.Prelude.{◌≡◌, ◌<◌, IfOk, length};
 ghost use Rattle.task_tree.specs.Paths.{IsTreeOf};
 
 use crate::again::again;
-use crate::lines::traces_of_input;
+use crate::standard_input::traces_of_input;
 use crate::tree::built;
 use anyhow::{Result, bail};
 use credit_ledger::Ledger;
