@@ -37,8 +37,8 @@ use Rattle.ompt_events.specs.Traces.{AreNamed, IsSoundIn}
 use Rattle.serde_json.specs.View.{items_of}
 use Rattle.lines.specs.Members.{value_named, nullable, not_both, no_id, each, dep_of}
 use Rattle.lines.specs.RecordLines.{unbounded, body_named, thread_begin, thread_end, parallel_begin}
-use Rattle.lines.specs.RecordLines.{parallel_end, implicit_task, task_create, dependences, claim_in}
-use Rattle.lines.specs.RecordLines.{claim_if, turns_if, turns_in, tells_turns, task_schedule}
+use Rattle.lines.specs.RecordLines.{parallel_end, implicit_task, task_create, dependences, claim_said}
+use Rattle.lines.specs.RecordLines.{claim_if, turns_if, turns_said, tells_turns, task_schedule}
 use Rattle.lines.specs.RecordLines.{sync_region, cancel}
 use Rattle.lines.specs.Texts.{with_member, data_of, dep_data, number_or_null}
 use Rattle.lines.proofs.FlagLemmas.{task_flags-read, cancel_flags-read}
@@ -176,7 +176,7 @@ says-finishing : (version thread seq seen : ℕ) (status : Status) (told : Optio
     → is_some next ≡ demands_next status → tells_turns version status ≡ is_some told
     → is_some (status_part status) ≡ true
     → Says version (of_body thread seq seen (TaskSchedule status told prior next (Some c)))
-unfolding with_member unbounded body_named task_schedule claim_if claim_in turns_if turns_in
+unfolding with_member unbounded body_named task_schedule claim_if claim_said turns_if turns_said
 says-finishing version thread seq seen status None prior next c follows tells finishes =
     rw (
       named-status status,
@@ -203,7 +203,7 @@ says-switching : (version thread seq seen : ℕ) (status : Status) (told : Optio
     → is_some next ≡ demands_next status → tells_turns version status ≡ is_some told
     → is_some (status_part status) ≡ false
     → Says version (of_body thread seq seen (TaskSchedule status told prior next None))
-unfolding with_member unbounded body_named task_schedule claim_if turns_if turns_in
+unfolding with_member unbounded body_named task_schedule claim_if turns_if turns_said
 says-switching version thread seq seen status None prior next follows tells goes_on =
     rw (
       named-status status,
@@ -233,7 +233,7 @@ says-sync_region version thread seq seen kind endpoint parallel task =
 says-discard : (version thread seq seen : ℕ) (flags : CancelFlags) (task : ℕ) (c : Claim)
     → AreNamed table.cancel_flags flags.0 → has_flag flags.0 table.discarded_task ≡ true
     → Says version (of_body thread seq seen (body.Cancel flags task (Some c)))
-unfolding with_member unbounded body_named cancel claim_if claim_in
+unfolding with_member unbounded body_named cancel claim_if claim_said
 says-discard version thread seq seen flags task c named discards =
     rw (cancel_flags-read flags.0 named, discards, wholes-items_of c.path) refl
 

@@ -38,7 +38,7 @@ use Rattle.lines.specs.Members.{task_flags_in}
 use Rattle.lines.specs.Members.{cancel_flags_in, no_id, next, deps}
 use Rattle.lines.specs.RecordLines.{thread_begin, thread_end, parallel_begin, parallel_end}
 use Rattle.lines.specs.RecordLines.{implicit_task, task_create, dependences, sync_region, turns_if}
-use Rattle.lines.specs.RecordLines.{turns_in, tells_turns, task_schedule, cancel, claim_if, claim_in}
+use Rattle.lines.specs.RecordLines.{turns_said, tells_turns, task_schedule, cancel, claim_if, claim_said}
 use Rattle.lines.specs.RecordLines.{body_named, body, unbounded, value_of, said_of, line_says}
 use Rattle.lines.specs.RecordLines.{claim_if_fits, body_fits, record_fits}
 use Rattle.lines.specs.MemberNames as member
@@ -158,7 +158,7 @@ next-sound st name d nx e =
 claim_if-sound : (finishes : Bool) (d : Data) (sh : Option Claim) → claim_if finishes d ≡ Some sh
     → is_some sh ≡ finishes
 unfolding claim_if
-claim_if-sound true d sh e = by_claim (claim_in d) e
+claim_if-sound true d sh e = by_claim (claim_said d) e
   where
     by_claim : (o : Option Claim) → option_map Some o ≡ Some sh → is_some sh ≡ true
     by_claim None h = absurd (let f : None ≡ Some sh = h in cc)
@@ -196,7 +196,7 @@ discard-sound bits task sh claimed named fits = record {
 turns_if-sound : (tells : Bool) (d : Data) (told : Option Turns) → turns_if tells d ≡ Some told
     → is_some told ≡ tells
 unfolding turns_if
-turns_if-sound true d told e = by_turns (turns_in d) e
+turns_if-sound true d told e = by_turns (turns_said d) e
   where
     by_turns : (o : Option Turns) → option_map Some o ≡ Some told → is_some told ≡ true
     by_turns None h = absurd (let f : None ≡ Some told = h in cc)

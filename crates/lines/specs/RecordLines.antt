@@ -87,8 +87,8 @@ dependences d = do
   Some (Dependences task list)
 
 -- what a finishing record claims of its task's place
-unfoldable pub claim_in : Data → Option Claim
-claim_in d = do
+unfoldable pub claim_said : Data → Option Claim
+claim_said d = do
   kept ← whole member.kept d
   root ← whole member.root d
   path ← path member.path d
@@ -96,11 +96,11 @@ claim_in d = do
 
 -- a claim is read where the record finishes a task, and nowhere else
 unfoldable pub claim_if : Bool → Data → Option (Option Claim)
-claim_if finishes d = if finishes then option_map Some (claim_in d) else Some None
+claim_if finishes d = if finishes then option_map Some (claim_said d) else Some None
 
 -- which turn of the prior task ends, and which one of the next task begins
-unfoldable pub turns_in : Data → Option Turns
-turns_in d = do
+unfoldable pub turns_said : Data → Option Turns
+turns_said d = do
   prior ← whole member.prior_turn d
   next ← whole member.next_turn d
   Some (record { prior = prior; next = next })
@@ -111,7 +111,7 @@ tells_turns version status = (version == 2) && demands_next status
 
 -- turns are read where the record has them, and nowhere else
 unfoldable pub turns_if : Bool → Data → Option (Option Turns)
-turns_if told d = if told then option_map Some (turns_in d) else Some None
+turns_if told d = if told then option_map Some (turns_said d) else Some None
 
 -- a task stops running or is fulfilled
 unfoldable pub task_schedule : ℕ → Data → Option Body

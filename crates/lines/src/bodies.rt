@@ -198,11 +198,11 @@ pub(crate) fn claim_if(
 }
 
 /// Returns what a finishing record claims of its task's place.
-#[tactic(auto, unfolding(crate::specs::RecordLines::claim_in))]
+#[tactic(auto, unfolding(crate::specs::RecordLines::claim_said))]
 fn claim(alloc: Global, object: &Object<'_, '_>) -> Result<LooseClaim, ReadCause>
     requires { IsReadable object.now }
     ensures { IsSaid result (ok_or
-        (option_map (λ c. loose_claim (Some c)) (spec.claim_in (object_data object.now))) ReadCause.Field) }
+        (option_map (λ c. loose_claim (Some c)) (spec.claim_said (object_data object.now))) ReadCause.Field) }
 {
     members!(Claim read_claim (object alloc))
 }
@@ -225,11 +225,11 @@ pub(crate) fn turns_if(object: &Object<'_, '_>, told: bool) -> Result<LooseTurns
 }
 
 /// Returns which turn of the prior task ends, and which one of the next task begins.
-#[tactic(auto, unfolding(crate::specs::RecordLines::turns_in))]
+#[tactic(auto, unfolding(crate::specs::RecordLines::turns_said))]
 fn turns(object: &Object<'_, '_>) -> Result<LooseTurns, ReadCause>
     requires { IsReadable object.now }
     ensures { result ≡ ok_or
-        (option_map (λ t. loose_turns (Some t)) (spec.turns_in (object_data object.now))) ReadCause.Field }
+        (option_map (λ t. loose_turns (Some t)) (spec.turns_said (object_data object.now))) ReadCause.Field }
 {
     members!(Turns read_turns (object))
 }

@@ -100,3 +100,5 @@ impl Member {
         self == other
     }
 }
+
+pub(crate) use member_names;

@@ -238,7 +238,7 @@ pub(crate) fn status<'l>(rest: &'l [u8], text: &str) -> Option<(Status, &'l [u8]
 }
 
 /// Guesses the status that is named.
-fn guess_status(rest: &[u8]) -> Status {
+pub(crate) fn guess_status(rest: &[u8]) -> Status {
     match rest.get(1) {
         Some(b's') => Status::Switch,
         Some(b'y') => Status::Yield,
@@ -265,7 +265,7 @@ pub(crate) fn endpoint<'l>(rest: &'l [u8], text: &str) -> Option<(Endpoint, &'l 
 }
 
 /// Guesses the endpoint that is named.
-fn guess_endpoint(rest: &[u8]) -> Endpoint {
+pub(crate) fn guess_endpoint(rest: &[u8]) -> Endpoint {
     match rest.get(1) {
         Some(b'e') => Endpoint::End,
         _ => match rest.get(6) {
@@ -287,7 +287,7 @@ pub(crate) fn sync_kind<'l>(rest: &'l [u8], text: &str) -> Option<(SyncKind, &'l
 }
 
 /// Guesses the construct that is named.
-fn guess_sync_kind(rest: &[u8]) -> SyncKind {
+pub(crate) fn guess_sync_kind(rest: &[u8]) -> SyncKind {
     match rest.get(5) {
         Some(b'w') => SyncKind::Taskwait,
         Some(b'g') => SyncKind::Taskgroup,

@@ -1,6 +1,6 @@
 //! An object that is written without spaces and escapes, its members in any order. Any other line is left to
 //! the tape.
-ghost use Rattle.std.specs.Prelude.{◌≡◌, ◌≤◌, true, Some, IfSome, ◌++◌, ok_or, option_and_then, option_map, length, map, take};
+ghost use Rattle.std.specs.Prelude.{◌≡◌, ◌≤◌, true, Some, IfSome, [], ◌∷◌, ◌++◌, ok_or, option_and_then, option_map, length, map, take};
 ghost use Rattle.std.specs.Result.{result_map_both};
 ghost use Rattle.json.specs.Print.{quoted};
 ghost use Rattle.serde_json.specs.Find.{as_array, as_bool, as_str, get};
@@ -14,8 +14,11 @@ ghost use Rattle.lines.specs.RecordLines.{IsSaid, value_of};
 ghost use Rattle.lines.specs.Texts.{Takes, is_plain_byte, is_plain_text, object_of};
 
 use crate::cause::ReadCause;
-use crate::members::Member;
-use crate::parts::{after, dep, end, name, next_item, number, room_for_items};
+use crate::members::{Member, member_names};
+use crate::parts::{
+    after, dep, end, guess_endpoint, guess_status, guess_sync_kind, name, next_item, number,
+    room_for_items,
+};
 use bitflags::Flags;
 use ompt_events::{Dep, MAX_DEPTH};
 use std::alloc::Global;
@@ -101,10 +104,37 @@ fn take_member(alloc: Global, rest: &[u8]) -> Option<(Member, Value<'_>, &[u8])>
     ensures { IfSome result (λ taken. IsMemberInFront rest.now taken.0 taken.1 taken.2.now) }
 {
     let member = guess_member(rest);
-    let rest = name(rest, member.name())?;
-    let rest = after(rest, ":")?;
-    let (value, behind) = take_value(alloc, rest)?;
+    let rest = after_name(rest, member)?;
+    let (value, behind) = take_value(alloc, rest, member)?;
     Some((member, value, behind))
+}
+
+// What follows the name in the table.
+macro_rules! after_name_of {
+    (($rest:ident $member:ident) $($variant:ident = $name:literal),*) => {
+        match $member {
+            $(Member::$variant => named($rest, $name),)*
+        }
+    };
+}
+
+/// Returns what follows the member's name and a colon. With a branch for each member its name is compared
+/// without a loop.
+#[inline(always)]
+fn after_name(rest: &[u8], member: Member) -> Option<&[u8]>
+    ensures takes { IfSome result (λ behind. Takes rest.now (quoted (member_name member) ++ 58 ∷ []) behind.now) }
+    ensures plain { is_plain_text (member_name member) ≡ true }
+{
+    member_names!(after_name_of(rest member))
+}
+
+/// Returns what follows this name in quotation marks and a colon.
+#[inline(always)]
+fn named<'l>(rest: &'l [u8], text: &str) -> Option<&'l [u8]>
+    requires { is_plain_text text.now ≡ true }
+    ensures { IfSome result (λ behind. Takes rest.now (quoted text.now ++ 58 ∷ []) behind.now) }
+{
+    after(name(rest, text)?, ":")
 }
 
 /// Guesses the member that is named, by letters in which the names differ.
@@ -156,14 +186,81 @@ fn either(first: bool, one: Member, other: Member) -> Member {
     if first { one } else { other }
 }
 
-/// Takes the value of a member from the front.
+/// Takes the value of the member from the front.
 #[inline(always)]
-fn take_value(alloc: Global, rest: &[u8]) -> Option<(Value<'_>, &[u8])>
+fn take_value(alloc: Global, rest: &[u8], member: Member) -> Option<(Value<'_>, &[u8])>
     ensures { IfSome result (λ taken. IsValueInFront rest.now taken.0 taken.1.now) }
 {
     match rest.first() {
         Some(b'[') => take_list(alloc, rest),
+        Some(b'"') => take_guessed(rest, member),
         _ => take_single(rest),
+    }
+}
+
+/// Takes a text from the front. Compares it with the one that is guessed first, since to look for its end
+/// takes longer.
+#[inline(always)]
+fn take_guessed(rest: &[u8], member: Member) -> Option<(Value<'_>, &[u8])>
+    ensures { IfSome result (λ taken. IsValueInFront rest.now taken.0 taken.1.now) }
+{
+    let text = guess_text(rest, member);
+    match name(rest, text) {
+        Some(behind) => Some((Value::Single(Item::Text(text)), behind)),
+        None => take_single(rest),
+    }
+}
+
+/// Guesses the text that the member has.
+#[inline(always)]
+fn guess_text(rest: &[u8], member: Member) -> &'static str
+    ensures { is_plain_text result.now ≡ true }
+{
+    match member {
+        Member::Callback => guess_callback(rest),
+        Member::Status => guess_status(rest).name(),
+        Member::Endpoint => guess_endpoint(rest).name(),
+        _ => guess_sync_kind(rest).name(),
+    }
+}
+
+/// Guesses the callback that is named.
+#[inline(always)]
+fn guess_callback(rest: &[u8]) -> &'static str
+    ensures { is_plain_text result.now ≡ true }
+{
+    match rest.get(1) {
+        Some(b's') => "sync_region",
+        Some(b'p') => begins_or_ends(rest.get(10), "parallel_begin", "parallel_end"),
+        Some(b'i') => "implicit_task",
+        Some(b'd') => "dependences",
+        Some(b'c') => "cancel",
+        _ => guess_of_task_or_thread(rest),
+    }
+}
+
+/// Guesses the same among those that begin with `t`.
+#[inline(always)]
+fn guess_of_task_or_thread(rest: &[u8]) -> &'static str
+    ensures { is_plain_text result.now ≡ true }
+{
+    match rest.get(6) {
+        Some(b's') => "task_schedule",
+        Some(b'c') => "task_create",
+        _ => begins_or_ends(rest.get(8), "thread_begin", "thread_end"),
+    }
+}
+
+/// Returns the one name if this is the first letter of `begin`, or the other.
+#[inline(always)]
+fn begins_or_ends(letter: Option<&u8>, begin: &'static str, end: &'static str) -> &'static str
+    requires begin { is_plain_text begin.now ≡ true }
+    requires end { is_plain_text end.now ≡ true }
+    ensures { is_plain_text result.now ≡ true }
+{
+    match letter {
+        Some(b'b') => begin,
+        _ => end,
     }
 }
 
@@ -441,7 +538,9 @@ pub(crate) fn numbers(alloc: Global, value: &Value<'_>) -> Result<Vec<u64>, Read
     let Some(items) = items(value) else {
         return Err(ReadCause::Field);
     };
-    let mut numbers = Vec::new(alloc);
+    let Ok(mut numbers) = Vec::with_capacity(alloc, items.len()) else {
+        return Err(ReadCause::Memory);
+    };
     'items: for item in items {
         let Some(number) = whole_in(item) else {
             return Err(ReadCause::Field);
@@ -461,7 +560,9 @@ pub(crate) fn dependences(alloc: Global, value: &Value<'_>) -> Result<Vec<Dep>, 
     let Some(items) = items(value) else {
         return Err(ReadCause::Field);
     };
-    let mut deps = Vec::new(alloc);
+    let Ok(mut deps) = Vec::with_capacity(alloc, items.len()) else {
+        return Err(ReadCause::Memory);
+    };
     'items: for item in items {
         let Some(dep) = dependence_in(item) else {
             return Err(ReadCause::Field);
