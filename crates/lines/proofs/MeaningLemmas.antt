@@ -30,7 +30,7 @@ use Rattle.lines.specs.declared.cause.ReadCause.TheVariants.{NotJson}
 use Rattle.lines.specs.RecordLines.{value_or_cause}
 use Rattle.lines.proofs.MemberLemmas.{value_or_cause-json, value_or_cause-none}
 use Rattle.lines.specs.Meanings.{number_or_odd, meant, items_meant, members_meant, meant_read, meant_at}
-use Rattle.lines.specs.Meanings.{IsRanged, AreRanged, ArePlain, opening, opened}
+use Rattle.lines.specs.Meanings.{IsRanged, AreRanged, ArePlainTokens, opening, opened}
 
 -- ---- JSON that is read
 
@@ -462,13 +462,13 @@ flags-all table all found left read is = read ∙ ap (λ js. flags_from table fo
 -- ---- a line
 
 pub plain-read : (text : List ℕ) (ts : List Token) → ts ≡ tokens text → IsSome (json.document text)
-    → ArePlain ts → is_some (read text) ≡ true
+    → ArePlainTokens ts → is_some (read text) ≡ true
 plain-read text ts same some plain = go (json.document text) refl some
   where
     go : (o : Option json.Json) → json.document text ≡ o → IsSome o → is_some (read text) ≡ true
     go None is h = absurd (let no : false ≡ true = h in cc)
     go (Some j) is h =
-        let p : ArePlain (tokens text) = subst (λ us. ArePlain us) same plain in
+        let p : ArePlainTokens (tokens text) = subst (λ us. ArePlainTokens us) same plain in
         ap is_some (read-ranged text j is p.0 p.1)
 
 -- a tape of a text that is read
@@ -524,7 +524,7 @@ opening-bound n = opening-one (node_token n)
 pub plain-all : (ns : List Node) (i count : ℕ) → length ns ≤ i
     → (AreRanged (map node_token (drop i ns)) → AreRanged (map node_token ns))
     → count + opened (map node_token (drop i ns)) ≡ opened (map node_token ns)
-    → count ≤ max_depth → ArePlain (map node_token ns)
+    → count ≤ max_depth → ArePlainTokens (map node_token ns)
 plain-all ns i count past ranged counted few = (
   ranged (subst (λ ts. AreRanged ts) (sym (no_tokens ns i past)) tt),
   omega (arith, counted, ap opened (no_tokens ns i past), few),

@@ -1,11 +1,16 @@
 -- An object that is written without spaces and escapes, read member after member, and looked up.
-use Rattle.std.proofs.Common.{◌≡◌, ◌≢◌, ℕ, ◌+◌, ◌<◌, ◌&&◌, Bool, true, false, cond, Some}
+use Rattle.std.proofs.Common.{◌≡◌, ◌≢◌, ℕ, ◌+◌, ◌<◌, ◌≤◌, ◌&&◌, ◌⊎◌, inl, inr, Bool, true, false, cond, Some}
 use Rattle.std.proofs.Common.{List, []}
-use Rattle.std.proofs.Common.{◌∷◌, ◌++◌, length, take, get_or, arith, refl, sym, ap, ◌∙◌}
-use Rattle.std.proofs.Common.{append_assoc}
+use Rattle.std.proofs.Common.{◌∷◌, ◌++◌, length, take, get_or, set, replicate, arith, refl, sym, ap, ◌∙◌}
+use Rattle.std.proofs.Common.{append_assoc, length-append, option_map, slice_get}
 use Rattle.std.specs.List.{AllByRecursion}
 use Rattle.std.specs.Str.{bytes_eq}
-use Rattle.std.proofs.lemmas.List.{take_more}
+use Rattle.std.proofs.lemmas.Bool.{cases_eq}
+use Rattle.std.proofs.lemmas.Grind.{get_or-set_at}
+use Rattle.std.proofs.lemmas.List.{take_more, get_or-replicate, get_or_default}
+use Rattle.std.proofs.lemmas.List.{get_or_append_left, get_or-set_other, length-set}
+use Rattle.std.proofs.lemmas.Option.{slice_get_past, slice_get-get_or, slice_get_read}
+use Rattle.std.proofs.Math.Seq.{get_or-append_seam}
 use Rattle.std.proofs.lemmas.Slice.Eq.{bytes_eq-Decides}
 use Rattle.json.specs.Print.{quoted}
 use Rattle.serde_json.specs.Data.{Data, object, Members, no_members, member, put}
@@ -14,9 +19,9 @@ use Rattle.serde_json.specs.Written.{compact_text, members_text, comma_if}
 use Rattle.lines.specs.declared.members.Member.{Member}
 use Rattle.lines.specs.declared.members.Member.TheVariants as variant
 use Rattle.lines.specs.declared.written.Value.{Value}
-use Rattle.lines.specs.MemberNames.{member_name}
+use Rattle.lines.specs.MemberNames.{member_code, member_name}
 use Rattle.lines.specs.Members.{value_named}
-use Rattle.lines.specs.Objects.{rows, value_data, IsMemberInFront}
+use Rattle.lines.specs.Objects.{ArePlaced, rows, value_data, IsMemberInFront}
 use Rattle.lines.specs.PlainData.{puts, IsPlain, MembersArePlain}
 use Rattle.lines.specs.RecordLines.{value_of}
 use Rattle.lines.specs.Texts.{Takes, with_member, with_members, object_of}
@@ -107,6 +112,15 @@ pub record AreMembersTaken (rs : List (List ℕ × Data)) (later : Bool) (start 
       → done ++ members_text later tail ≡ 123 ∷ members_text false (followed (listed rs) tail)
   pub plain : MembersArePlain (listed rs) 2
 
+pub AreMembersTaken-none : (line rest : List ℕ) → Takes line (123 ∷ []) rest
+    → AreMembersTaken [] false line rest
+AreMembersTaken-none line rest brace = record {
+  done = 123 ∷ [];
+  takes = brace;
+  whole = λ tail. refl;
+  plain = tt;
+}
+
 member-more : (comma name text done tail : List ℕ)
     → (done ++ (comma ++ (name ++ 58 ∷ text))) ++ tail ≡ done ++ (comma ++ (name ++ 58 ∷ (text ++ tail)))
 member-more comma name text done tail =
@@ -160,38 +174,161 @@ unfolding with_member
 with_members-more [] row ms = refl
 with_members-more (r ∷ rs) row ms = with_members-more rs row (put r.0 r.1 ms)
 
--- what the first members say, with one more
-get-more : (members : List (Member × Value)) (i : ℕ) (m : Member × Value) (name : List ℕ)
-    → i < length members → get_or members i m ≡ m
-    → get name (object_of (rows (take (i + 1) members)))
-    ≡ cond (bytes_eq (member_name m.0) name) (Some (value_data m.1))
-    (get name (object_of (rows (take i members))))
-get-more members i m name within here =
-    let front = take i members in
-    ap (λ ms. get name (object_of (rows ms)))
-    (take_more members i m within ∙ ap (λ n. front ++ n ∷ []) here)
-    ∙ ap (λ rs. get name (object_of rs)) (rows-more front m)
-    ∙ ap (get_member name) (with_members-more (rows front) (member_name m.0, value_data m.1) no_members)
-    ∙ get_member-put_either name (member_name m.0) (value_data m.1) (with_members (rows front) no_members)
+-- what the members say, with one more
+get-more : (members : List (Member × Value)) (m : Member) (v : Value) (name : List ℕ)
+    → get name (object_of (rows (members ++ (m, v) ∷ [])))
+    ≡ cond (bytes_eq (member_name m) name) (Some (value_data v)) (get name (object_of (rows members)))
+get-more members m v name =
+    ap (λ rs. get name (object_of rs)) (rows-more members (m, v))
+    ∙ ap (get_member name) (with_members-more (rows members) (member_name m, value_data v) no_members)
+    ∙ get_member-put_either name (member_name m) (value_data v) (with_members (rows members) no_members)
 
-pub get-here : (members : List (Member × Value)) (i : ℕ) (m : Member × Value) (name : Member)
-    → i < length members → get_or members i m ≡ m → m.0 ≡ name
-    → get (member_name name) (object_of (rows (take (i + 1) members))) ≡ Some (value_data m.1)
-get-here members i m name within here same =
-    get-more members i m (member_name name) within here
-    ∙ ap
-    (λ b. cond b (Some (value_data m.1)) (get (member_name name) (object_of (rows (take i members)))))
-    (ap (λ n. bytes_eq (member_name n) (member_name name)) same ∙ bytes_eq-same (member_name name))
+member_code-low : (m : Member) → member_code m < 28
+member_code-low variant.Actual = omega arith
+member_code-low variant.After = omega arith
+member_code-low variant.Callback = omega arith
+member_code-low variant.Child = omega arith
+member_code-low variant.Deps = omega arith
+member_code-low variant.Endpoint = omega arith
+member_code-low variant.Flags = omega arith
+member_code-low variant.Format = omega arith
+member_code-low variant.Index = omega arith
+member_code-low variant.Kept = omega arith
+member_code-low variant.Kind = omega arith
+member_code-low variant.List = omega arith
+member_code-low variant.Next = omega arith
+member_code-low variant.NextTurn = omega arith
+member_code-low variant.Parallel = omega arith
+member_code-low variant.Path = omega arith
+member_code-low variant.Prior = omega arith
+member_code-low variant.PriorTurn = omega arith
+member_code-low variant.Requested = omega arith
+member_code-low variant.Root = omega arith
+member_code-low variant.Seen = omega arith
+member_code-low variant.Seq = omega arith
+member_code-low variant.Status = omega arith
+member_code-low variant.Task = omega arith
+member_code-low variant.Thread = omega arith
+member_code-low variant.Type = omega arith
+member_code-low variant.Var = omega arith
+member_code-low variant.Version = omega arith
 
-pub get-before : (members : List (Member × Value)) (i : ℕ) (m : Member × Value) (name : Member)
-    → i < length members → get_or members i m ≡ m → m.0 ≢ name
-    → get (member_name name) (object_of (rows (take (i + 1) members)))
-    ≡ get (member_name name) (object_of (rows (take i members)))
-get-before members i m name within here other =
-    get-more members i m (member_name name) within here
-    ∙ ap
-    (λ b. cond b (Some (value_data m.1)) (get (member_name name) (object_of (rows (take i members)))))
-    (member_name-other m.0 name other)
+member_at : (m : Member) → get_or all_members (member_code m) m ≡ m
+unfolding all_members
+member_at variant.Actual = refl
+member_at variant.After = refl
+member_at variant.Callback = refl
+member_at variant.Child = refl
+member_at variant.Deps = refl
+member_at variant.Endpoint = refl
+member_at variant.Flags = refl
+member_at variant.Format = refl
+member_at variant.Index = refl
+member_at variant.Kept = refl
+member_at variant.Kind = refl
+member_at variant.List = refl
+member_at variant.Next = refl
+member_at variant.NextTurn = refl
+member_at variant.Parallel = refl
+member_at variant.Path = refl
+member_at variant.Prior = refl
+member_at variant.PriorTurn = refl
+member_at variant.Requested = refl
+member_at variant.Root = refl
+member_at variant.Seen = refl
+member_at variant.Seq = refl
+member_at variant.Status = refl
+member_at variant.Task = refl
+member_at variant.Thread = refl
+member_at variant.Type = refl
+member_at variant.Var = refl
+member_at variant.Version = refl
+
+member_code-same : (a b : Member) → member_code a ≡ member_code b → a ≡ b
+unfolding all_members
+member_code-same a b same =
+    sym (member_at a) ∙ ap (λ i. get_or all_members i a) same
+    ∙ get_or_default all_members (member_code b) a b (member_code-low b) ∙ member_at b
+
+-- where the members so far are; a great place is none
+pub record ArePlacesKept (members : List (Member × Value)) (places : List ℕ) : Type 0 where
+  pub placed : ArePlaced members places
+  pub all : length places ≡ 28
+  pub apart : (m : Member)
+      → (get_or places (member_code m) 0 < length members) ⊎ (255 ≤ get_or places (member_code m) 0)
+
+abbrev pub no_places : List ℕ
+no_places = replicate 28 255
+
+no_place : (m : Member) → get_or no_places (member_code m) 0 ≡ 255
+no_place m = get_or-replicate 28 (member_code m) 255 0 (member_code-low m)
+
+pub ArePlacesKept-none : ArePlacesKept [] no_places
+ArePlacesKept-none = record {
+  placed = λ m.
+      sym (ap (option_map (λ (row : Member × Value). value_data row.1))
+      (slice_get_past [] (get_or no_places (member_code m) 0) (omega arith)));
+  all = refl;
+  apart = λ m. inr (omega (arith, no_place m));
+}
+
+-- no place but that of the new member leads to it
+slice_get-before : (members : List (Member × Value)) (row : Member × Value) (place : ℕ)
+    → length members < 255 → (place < length members) ⊎ (255 ≤ place)
+    → slice_get (members ++ row ∷ []) place ≡ slice_get members place
+slice_get-before members row place few = elim [
+  | inl within ↦
+      slice_get-get_or (members ++ row ∷ []) place row
+      (omega (arith, within, length-append members (row ∷ [])))
+      ∙ ap (λ r. Some r) (get_or_append_left members (row ∷ []) row place within)
+      ∙ sym (slice_get-get_or members place row within)
+  | inr past ↦
+      slice_get_past (members ++ row ∷ []) place (omega (arith, past, few, length-append members (row ∷ [])))
+      ∙ sym (slice_get_past members place (omega (arith, past, few)))
+]
+
+pub ArePlacesKept-more : (members : List (Member × Value)) (places : List ℕ) (m : Member) (v : Value)
+    → length members < 255 → ArePlacesKept members places
+    → ArePlacesKept (members ++ (m, v) ∷ []) (set places (member_code m) (length members))
+ArePlacesKept-more members places m v few now =
+    let more = members ++ (m, v) ∷ [] in
+    let new = set places (member_code m) (length members) in
+    let longer : length more ≡ length members + 1 = length-append members ((m, v) ∷ []) in
+    let within : member_code m < length places = omega (arith, member_code-low m, now.all) in
+    let here : (n : Member) → member_code n ≡ member_code m → get_or new (member_code n) 0 ≡ length members =
+    λ n same. get_or-set_at places (member_code m) (member_code n) (length members) 0 same within in
+    let there : (n : Member) → member_code n ≢ member_code m
+    → get_or new (member_code n) 0 ≡ get_or places (member_code n) 0 =
+    λ n other. get_or-set_other places (member_code m) (member_code n) (length members) 0 other in
+    record {
+      placed = λ n. elim (cases_eq (member_code n) (member_code m)) [
+        | inl same ↦
+            get-more members m v (member_name n)
+            ∙ ap (λ b. cond b (Some (value_data v)) (get (member_name n) (object_of (rows members))))
+            (ap (λ k. bytes_eq (member_name k) (member_name n)) (sym (member_code-same n m same))
+            ∙ bytes_eq-same (member_name n))
+            ∙ sym (ap (option_map (λ (row : Member × Value). value_data row.1))
+            (ap (slice_get more) (here n same)
+            ∙ slice_get_read more (length more) (length members) (m, v) refl (omega (arith, longer))
+            (sym (get_or-append_seam members (m, v) [] (m, v)))))
+        | inr other ↦
+            get-more members m v (member_name n)
+            ∙ ap (λ b. cond b (Some (value_data v)) (get (member_name n) (object_of (rows members))))
+            (member_name-other m n (λ same. other (ap member_code (sym same))))
+            ∙ now.placed n
+            ∙ ap (option_map (λ (row : Member × Value). value_data row.1))
+            (sym (ap (slice_get more) (there n other)
+            ∙ slice_get-before members (m, v) (get_or places (member_code n) 0) few (now.apart n)))
+      ];
+      all = length-set places (member_code m) (length members) ∙ now.all;
+      apart = λ n. elim (cases_eq (member_code n) (member_code m)) [
+        | inl same ↦ inl (omega (arith, here n same, longer))
+        | inr other ↦ elim (now.apart n) [
+          | inl low ↦ inl (omega (arith, low, there n other, longer))
+          | inr past ↦ inr (omega (arith, past, there n other))
+        ]
+      ];
+    }
 
 -- ---- texts
 

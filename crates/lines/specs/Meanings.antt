@@ -72,5 +72,5 @@ opened [] = 0
 opened (t ∷ ts) = opening t + opened ts
 
 -- tokens of which few open an array or an object, and whose numbers are within a double's range
-abbrev pub ArePlain : List token.Token → Type 0
-ArePlain ts = AreRanged ts × (opened ts ≤ max_depth)
+abbrev pub ArePlainTokens : List token.Token → Type 0
+ArePlainTokens ts = AreRanged ts × (opened ts ≤ max_depth)

@@ -116,3 +116,34 @@ member_name variant.Thread = thread
 member_name variant.Type = type
 member_name variant.Var = var
 member_name variant.Version = version
+
+-- the members in the order of their names, numbered from 0
+abbrev pub member_code : Member → ℕ
+member_code variant.Actual = 0
+member_code variant.After = 1
+member_code variant.Callback = 2
+member_code variant.Child = 3
+member_code variant.Deps = 4
+member_code variant.Endpoint = 5
+member_code variant.Flags = 6
+member_code variant.Format = 7
+member_code variant.Index = 8
+member_code variant.Kept = 9
+member_code variant.Kind = 10
+member_code variant.List = 11
+member_code variant.Next = 12
+member_code variant.NextTurn = 13
+member_code variant.Parallel = 14
+member_code variant.Path = 15
+member_code variant.Prior = 16
+member_code variant.PriorTurn = 17
+member_code variant.Requested = 18
+member_code variant.Root = 19
+member_code variant.Seen = 20
+member_code variant.Seq = 21
+member_code variant.Status = 22
+member_code variant.Task = 23
+member_code variant.Thread = 24
+member_code variant.Type = 25
+member_code variant.Var = 26
+member_code variant.Version = 27

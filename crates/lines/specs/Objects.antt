@@ -1,9 +1,10 @@
 -- What the object of a line says, in each of its two forms: a place in a tape of the line's tokens, or the
 -- members of a line that is written without spaces and escapes.
-use Rattle.std.specs.Prelude.{ℕ, ◌≡◌, true, List, ◌∷◌, ◌++◌, map}
+use Rattle.std.specs.Prelude.{ℕ, ◌≡◌, true, List, ◌∷◌, ◌++◌, map, option_map, slice_get, slice_index}
 use Rattle.json.specs.Find.{HasValue}
 use Rattle.json.specs.Print.{quoted}
 use Rattle.serde_json.specs.Data.{Data, null, boolean, string, array}
+use Rattle.serde_json.specs.Find.{get}
 use Rattle.serde_json.specs.View.{items_of}
 use Rattle.serde_json.specs.Written.{compact_text}
 use Rattle.lines.specs.declared.members.Member.{Member}
@@ -16,7 +17,7 @@ use Rattle.lines.specs.declared.objects.Object.TheVariants.{Tape, Written}
 use Rattle.lines.specs.declared.objects.Found.{Found}
 use Rattle.lines.specs.declared.objects.Found.TheVariants as found
 use Rattle.lines.specs.Meanings.{meant_at}
-use Rattle.lines.specs.MemberNames.{member_name}
+use Rattle.lines.specs.MemberNames.{member_code, member_name}
 use Rattle.lines.specs.PlainData.{IsPlain}
 use Rattle.lines.specs.Texts.{Takes, is_plain_text, object_of, whole_number, dep_data}
 
@@ -35,14 +36,20 @@ value_data (Listed items) = array (items_of (map item_data items.items))
 abbrev pub rows : List (Member × Value) → List (List ℕ × Data)
 rows members = map (λ m. (member_name m.0, value_data m.1)) members
 
+-- by the number of a member where the last one of that name is
+abbrev pub ArePlaced : List (Member × Value) → List ℕ → Type 0
+ArePlaced members places = (m : Member)
+    → get (member_name m) (object_of (rows members))
+    ≡ option_map (λ row. value_data row.1) (slice_get members (slice_index places (member_code m)))
+
 abbrev pub object_data : Object → Data
 object_data (Tape tokens) = meant_at tokens
 object_data (Written members) = object_of (rows members.members.items)
 
--- there is a value at the place
+-- there is a value at the place, or members are found where they are
 abbrev pub IsReadable : Object → Type 0
 IsReadable (Tape tokens) = HasValue tokens
-IsReadable (Written members) = Unit {0}
+IsReadable (Written members) = ArePlaced members.members.items members.places
 
 abbrev pub found_data : Found → Data
 found_data (found.Tape tokens) = meant_at tokens

@@ -1,7 +1,10 @@
 //! The members of a line's object, by their names.
-ghost use Rattle.std.specs.Prelude.{◌≡◌, ◌↔◌, true, IsTrue};
-ghost use Rattle.lines.specs.MemberNames.{member_name};
+ghost use Rattle.std.specs.Prelude.{◌≡◌, ◌<◌, true};
+ghost use Rattle.lines.specs.MemberNames.{member_code, member_name};
 ghost use Rattle.lines.specs.Texts.{is_plain_text};
+
+/// How many members there are.
+pub(crate) const MEMBER_COUNT: usize = 28;
 
 /// A member of a line's object.
 #[derive(Clone, Copy, Debug, PartialEq, Eq)]
@@ -92,12 +95,13 @@ impl Member {
         member_names!(name_of(self))
     }
 
-    /// Returns whether both are the same member.
+    /// Returns the number of the member, from 0.
     #[inline(always)]
-    pub(crate) fn is(self, other: Member) -> bool
-        ensures { IsTrue result ↔ (self ≡ other) }
+    pub(crate) fn code(self) -> usize
+        ensures is { result ≡ member_code self }
+        ensures below { result < MEMBER_COUNT }
     {
-        self == other
+        self as usize
     }
 }
 

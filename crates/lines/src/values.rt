@@ -9,7 +9,7 @@ ghost use Rattle.json.specs.Tape.{node_token};
 ghost use Rattle.serde_json.specs.Data.{unsigned};
 ghost use Rattle.serde_json.specs.Find.{as_u64};
 ghost use Rattle.serde_json.specs.Read.{number_of, read};
-ghost use Rattle.lines.specs.Meanings.{ArePlain, IsRanged, meant_at, number_or_odd, opening};
+ghost use Rattle.lines.specs.Meanings.{ArePlainTokens, IsRanged, meant_at, number_or_odd, opening};
 ghost use Rattle.lines.specs.RecordLines as spec;
 ghost use Rattle.lines.specs.RecordLines.{IsSaid};
 
@@ -92,7 +92,7 @@ fn is_read(alloc: Global, text: &str) -> Result<bool, ReadCause>
 
 /// Returns whether few of the nodes open an array or an object, and each number is plain.
 fn are_plain(nodes: &[Node<'_>]) -> bool
-    ensures { IsTrue result → ArePlain (map node_token nodes.now) }
+    ensures { IsTrue result → ArePlainTokens (map node_token nodes.now) }
 {
     let mut opened = 0;
     'nodes: for node in nodes {

@@ -9,12 +9,12 @@ ghost use Rattle.serde_json.specs.Written.{compact_text, comma_if};
 ghost use Rattle.lines.specs.MemberNames.{member_name};
 ghost use Rattle.lines.specs.Members as spec;
 ghost use Rattle.lines.specs.PlainData.{IsPlain};
-ghost use Rattle.lines.specs.Objects.{IsItemInFront, IsMemberInFront, IsValueInFront, item_data, rows, value_data};
+ghost use Rattle.lines.specs.Objects.{ArePlaced, IsItemInFront, IsMemberInFront, IsValueInFront, item_data, rows, value_data};
 ghost use Rattle.lines.specs.RecordLines.{IsSaid, value_of};
 ghost use Rattle.lines.specs.Texts.{Takes, is_plain_byte, is_plain_text, object_of};
 
 use crate::cause::ReadCause;
-use crate::members::{Member, member_names};
+use crate::members::{MEMBER_COUNT, Member, member_names};
 use crate::parts::{
     after, dep, end, guess_endpoint, guess_status, guess_sync_kind, name, next_item, number,
     room_for_items,
@@ -29,6 +29,9 @@ const MAX_MEMBERS: usize = 32;
 
 /// Few lines have more members.
 const USUAL_MEMBERS: usize = 16;
+
+/// No place of a member.
+const NOWHERE: u8 = u8::MAX;
 
 /// A value that is no list. An object is only read if it is a dependence.
 #[derive(Clone, Copy, Debug)]
@@ -51,37 +54,40 @@ pub(crate) enum Value<'l> {
 #[derive(Debug, Drop)]
 pub(crate) struct Members<'l> {
     members: Vec<(Member, Value<'l>)>,
+    /// By the number of a member where the last one of that name is, or `NOWHERE`.
+    places: [u8; MEMBER_COUNT],
 }
 
 impl<'l> Members<'l> {
     /// Returns the value of this member, the last one if it is there several times.
     #[inline(always)]
     pub(crate) fn find(&self, member: Member) -> Option<&Value<'l>>
+        requires { ArePlaced self.now.members.items self.now.places }
         ensures { option_map (λ v. value_data v.now) result
             ≡ get (member_name member) (object_of (rows self.now.members.items)) }
     {
-        let mut left = self.members.len();
-        'members: while left > 0 {
-            left -= 1;
-            let (name, value) = &self.members[left];
-            if name.is(member) {
-                return Some(value);
-            }
+        let place = self.places[member.code()] as usize;
+        match self.members.get(place) {
+            Some((_, value)) => Some(value),
+            None => None,
         }
-        None
     }
 }
 
 /// Returns the members of a line, if it is written so and there is memory for them.
 pub(crate) fn take_members(alloc: Global, line: &[u8]) -> Option<Members<'_>>
-    ensures { IfSome result (λ found. value_of line.now ≡ Some (object_of (rows found.members.items))) }
+    ensures says { IfSome result (λ found. value_of line.now ≡ Some (object_of (rows found.members.items))) }
+    ensures placed { IfSome result (λ found. ArePlaced found.members.items found.places) }
 {
-    let mut members = Vec::with_capacity(alloc, USUAL_MEMBERS).ok()?;
+    let Ok(mut members) = Vec::with_capacity(alloc, USUAL_MEMBERS) else {
+        return None;
+    };
+    let mut places = [NOWHERE; MEMBER_COUNT];
     let mut rest = after(line, "{")?;
     let mut later = false;
-    'members: for _ in 0..MAX_MEMBERS {
+    'members: while members.len() < MAX_MEMBERS {
         if let Some(()) = end(rest) {
-            return Some(Members { members });
+            return Some(Members { members, places });
         }
         let Some(front) = next_item(rest, later) else {
             return None;
@@ -89,6 +95,7 @@ pub(crate) fn take_members(alloc: Global, line: &[u8]) -> Option<Members<'_>>
         let Some((member, value, behind)) = take_member(alloc, front) else {
             return None;
         };
+        places[member.code()] = members.len() as u8;
         if members.push((member, value)).is_err() {
             return None;
         }
