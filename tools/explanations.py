@@ -68,13 +68,13 @@ def explain(path, answer, order):
             explain_order(found, trace, record, order)
         else:
             CAUSES[int(told['cause']) - 1](found, trace, record)
-            found.say(f"docs/CAUSES.md, cause {told['cause']}, says which mistakes give this, and what to mend.")
+            found.say(f"docs/CAUSES.md, cause {told['cause']}, says which mistakes give this, and what to fix.")
     return found
 
 
 def explain_yes(found, trace):
     found.say('Every wait ended, and every dependent task started, only when it was allowed to, in every order that the'
-              ' records allow. Nothing is to be mended.')
+              ' records allow. There is nothing to fix.')
 
 
 def few(words, between):

@@ -48,7 +48,7 @@ const EXPLANATION: &str = r#"Answers of check, one line on standard output:
       here task 3 starts before its predecessor 2 is finished
   malformed: line 4, thread 0, seq 2: cause 2 CreatedTwice
       no run within the model gives these events: the cause, and the first
-      event that shows it; docs/CAUSES.md says what to mend
+      event that shows it; docs/CAUSES.md says what to fix
 
 Exit status: 0 yes, 1 no, 2 malformed, 3 input not read or answer not written,
   4 wrong arguments, 5 out of memory. Errors go to standard error.
