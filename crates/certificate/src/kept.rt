@@ -1,7 +1,7 @@
 //! The trace of the lines so far.
 ghost use Rattle.std.specs.Prelude.{◌≡◌, ◌≢◌, ◌+◌, ◌≤◌, ◌⊎◌, [], ◌∷◌, ◌++◌, length, All, Ok, Err};
 ghost use Rattle.std.specs.Result.{result_map_both};
-ghost use Rattle.ompt_events.specs.Traces.{IsInRange, IsSoundIn, IsTraceOf, tasks_in};
+ghost use Rattle.ompt_events.specs.Traces.{IsInRange, IsSoundIn, tasks_in};
 ghost use Rattle.lines.specs.RecordLines.{IsSaid};
 ghost use Rattle.certificate.specs.Files.{no_trace, with_record};
 ghost use Rattle.certificate.specs.Keeping.{KeepsFirst};
@@ -130,32 +130,6 @@ impl Kept {
     pub(crate) fn into_trace(self) -> Trace
         ensures { result ≡ self }
     {
-        if self.version == 2 {
-            of_turns(self.records)
-        } else {
-            of_records(self.records)
-        }
-    }
-}
-
-/// Returns the trace of version 1 with these records.
-fn of_records(records: Vec<Record>) -> Trace
-    requires { IsTraceOf 1 records.items }
-    ensures { result ≡ record { version = 1; records = records.items } }
-{
-    match Trace::from_records(records) {
-        Ok(trace) => trace,
-        Err(_) => unreachable!(),
-    }
-}
-
-/// Returns the trace of version 2 with these records.
-fn of_turns(records: Vec<Record>) -> Trace
-    requires { IsTraceOf 2 records.items }
-    ensures { result ≡ record { version = 2; records = records.items } }
-{
-    match Trace::from_turns(records) {
-        Ok(trace) => trace,
-        Err(_) => unreachable!(),
+        Trace::from_parts(self.version, self.records)
     }
 }

@@ -62,6 +62,15 @@ impl Trace {
         trace_of(2, records)
     }
 
+    /// Returns the trace of this version of the records. Requires that they are those of such a trace: no
+    /// record is looked at. Takes no memory.
+    pub fn from_parts(version: u32, records: Vec<Record>) -> Trace
+        requires { IsTraceOf version records.items }
+        ensures { result ≡ record { version = version; records = records.items } }
+    {
+        Trace { version, records }
+    }
+
     /// Returns the version of the file format: 1, or 2 where records have turns. Takes no memory.
     pub fn version(&self) -> u32
         ensures { result ≡ self.now.version }

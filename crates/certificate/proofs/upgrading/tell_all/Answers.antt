@@ -4,7 +4,6 @@ use Rattle.std.proofs.lemmas.Option.{slice_get_within, get_or_from_slice_get}
 use Rattle.ompt_events.specs.declared.records.Record.{Record}
 use Rattle.ompt_events.specs.Traces.{IsSound}
 use Rattle.ompt_events.proofs.PlaceLemmas.{read_get}
-use Rattle.ompt_events.proofs.TraceLemmas.{IsTraceOf-take}
 use Rattle.certificate.specs.TaskTurns.{AreEnded, IsUpgradedUpTo}
 use Rattle.certificate.proofs.TaskTurnLemmas.{is_noted, turns_more, ended_more}
 use Rattle.certificate.proofs.UpgradeLemmas.{upgraded_more, upgraded_all, trace_of_two}
@@ -64,9 +63,8 @@ loop-at-preserved c =
           c.loop-at.invariant.turns c.loop-at.invariant.ended c.loop-at.invariant.upgraded);
     }
 
-pub unreachable-requires : goal.unreachable-requires
-unreachable-requires c =
-    let trace =
+pub from_parts-requires : goal.from_parts-requires
+from_parts-requires c =
     trace_of_two c.args.records.items c.loop-at.records.items c.loop-at.at c.requires.trace
     (omega (
       arith,
@@ -75,9 +73,7 @@ unreachable-requires c =
       c.args.records.ok,
       c.loop-at.invariant.upgraded.all,
     ))
-    c.loop-at.invariant.upgraded in
-    c.in-Err.ensures.refused.1.refused
-    (IsTraceOf-take 2 (c.in-Err.field-0.1 + 1) c.loop-at.records.items trace)
+    c.loop-at.invariant.upgraded
 
 pub returns-clause-upgrade : goal.returns-clause-upgrade
 returns-clause-upgrade c =
@@ -91,4 +87,4 @@ returns-clause-upgrade c =
       c.loop-at.invariant.upgraded.all,
     ))
     c.loop-at.invariant.upgraded in
-    rw c.in-Ok.ensures.accepted up
+    rw c.from_parts.ensures up
