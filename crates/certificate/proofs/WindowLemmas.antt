@@ -148,3 +148,10 @@ Keeps-both (Some xs) (Some ys) (Some zs) ab bc = bc ∙ ab
 pub Keeps-itself : (a : Option (List ℕ)) → Keeps a a
 Keeps-itself None = tt
 Keeps-itself (Some xs) = refl
+
+-- known bytes that are kept, and then lose their first ones
+pub Keeps-consumes : (a b c : Option (List ℕ)) (bs : List ℕ) → Keeps a b → Consumes b c bs → Consumes a c bs
+Keeps-consumes None b c bs kept given = tt
+Keeps-consumes (Some xs) None c bs kept given = absurd kept
+Keeps-consumes (Some xs) (Some ys) None bs kept given = absurd given
+Keeps-consumes (Some xs) (Some ys) (Some zs) bs kept given = sym kept ∙ given

@@ -2,12 +2,12 @@
 ghost use Rattle.std.specs.Prelude.{◌≡◌, ◌≤◌, ◌<◌, ◌+◌, ◌++◌, ◌==◌, [], length, take, drop, true, false, Ok, None, IfOk, IfErr, OnOk, OnErr};
 ghost use Rattle.std.specs.Result.{result_err};
 ghost use Rattle.std.specs.Io.KnownBytes.{Keeps, IsAtEnd, prepend_known};
-ghost use Rattle.certificate.specs.Counts.{TakesTurns, agains_after, breaks_after, breaks_told};
+ghost use Rattle.certificate.specs.Counts.{TakesTurns, breaks_told};
 ghost use Rattle.certificate.specs.Windows.{IsDeviceFault, LineFeedAt};
 ghost use Rattle.certificate.specs.Pieces.{IsWholeLines};
 ghost use Rattle.certificate.specs.Blocks.{AreWholeLines, IsFillFault};
 
-use crate::device::{DeviceFault, MAX_TURNS, Source};
+use crate::device::{MAX_TURNS, Source};
 use crate::window::read_at;
 use lines::ReadCause;
 use memchr::memrchr;
@@ -83,20 +83,27 @@ impl Block {
         self.bytes.resize(self.end + more, 0)
     }
 
-    /// Reads more bytes from the source. Returns how many: none only at its end.
-    pub(crate) fn read<S: Source>(&mut self, source: &mut S) -> Result<usize, DeviceFault>
-        requires { 0 < self.old.free }
-        ensures few { length self.new.waiting ≤ self.new.limit }
+    /// Reads more bytes from the source. Returns how many: none only at its end. Retries while the source is
+    /// interrupted, at most 10,000 times in one call of the reader.
+    pub(crate) fn read<S: Source>(
+        &mut self,
+        source: &mut S,
+        turns: &mut u32,
+    ) -> Result<usize, ReadCause>
+        requires room { 0 < self.old.free }
+        requires turns { turns.old ≤ MAX_TURNS }
         ensures bytes { Keeps (prepend_known self.old.waiting (S.remaining source.old))
             (prepend_known self.new.waiting (S.remaining source.new)) }
+        ensures few { length self.new.waiting ≤ self.new.limit }
         ensures limit { self.new.limit ≡ self.old.limit }
         ensures more { IfOk result (λ count. length self.new.waiting ≡ length self.old.waiting + count) }
         ensures end { result ≡ Ok 0 → IsAtEnd (S.remaining source.new) }
-        ensures err { OnErr result (self.new ≡ self.old) }
-        ensures agains { S.agains source.new ≡ agains_after result (S.agains source.old) }
-        ensures breaks { S.breaks source.new ≡ breaks_after result (S.breaks source.old) }
+        ensures fault { IfErr result IsDeviceFault }
+        ensures turns { TakesTurns (result_err result) turns.old turns.new (S.agains source.old)
+            (S.agains source.new) }
+        ensures breaks { S.breaks source.new ≡ breaks_told (result_err result) (S.breaks source.old) }
     {
-        let count = read_at(&mut self.bytes, self.end, source)?;
+        let count = read_at(&mut self.bytes, self.end, source, turns)?;
         self.end += count;
         Ok(count)
     }
@@ -214,35 +221,9 @@ pub(crate) fn fill<S: Source>(
         let Ok(()) = block.make_room() else {
             return Err(ReadCause::Memory);
         };
-        if ask(block, source, turns)? == 0 {
+        if block.read(source, turns)? == 0 {
             return Ok(false);
         }
     }
     Ok(true)
-}
-
-/// Reads more bytes from the source. Retries while it is interrupted, at most 10,000 times in one reading.
-fn ask<S: Source>(block: &mut Block, source: &mut S, turns: &mut u32) -> Result<usize, ReadCause>
-    requires room { 0 < block.old.free }
-    requires few { length block.old.waiting ≤ block.old.limit }
-    requires turns { turns.old ≤ MAX_TURNS }
-    ensures bytes { Keeps (prepend_known block.old.waiting (S.remaining source.old))
-        (prepend_known block.new.waiting (S.remaining source.new)) }
-    ensures few { length block.new.waiting ≤ block.new.limit }
-    ensures limit { block.new.limit ≡ block.old.limit }
-    ensures more { IfOk result (λ count. length block.new.waiting ≡ length block.old.waiting + count) }
-    ensures end { result ≡ Ok 0 → IsAtEnd (S.remaining source.new) }
-    ensures fault { IfErr result IsDeviceFault }
-    ensures turns { TakesTurns (result_err result) turns.old turns.new (S.agains source.old)
-        (S.agains source.new) }
-    ensures breaks { S.breaks source.new ≡ breaks_told (result_err result) (S.breaks source.old) }
-{
-    'turns: while *turns <= MAX_TURNS {
-        match block.read(source) {
-            Ok(count) => return Ok(count),
-            Err(DeviceFault::Again) => *turns += 1,
-            Err(DeviceFault::Broken) => return Err(ReadCause::Device),
-        }
-    }
-    Err(ReadCause::TurnsSpent)
 }

@@ -1,14 +1,14 @@
 //! The reader of trace files.
-ghost use Rattle.std.specs.Prelude.{◌≡◌, ◌≤◌, ◌+◌, ℕ, List, Option, length, Ok, true, IfOk, IfErr, IfSome};
+ghost use Rattle.std.specs.Prelude.{◌≡◌, ◌≤◌, ℕ, List, Option, Ok, true, IfOk, IfErr, IfSome};
 ghost use Rattle.std.specs.Result.{result_err, result_map_both};
 ghost use Rattle.certificate.specs.Files.{text_adds, traces, with_header, with_record};
 ghost use Rattle.lines.specs.RecordLines.{IsSaid, header_says, line_says};
-ghost use Rattle.std.specs.Io.KnownBytes.{Keeps, IsAtEnd, prepend_known};
+ghost use Rattle.std.specs.Io.KnownBytes.{Keeps, prepend_known};
 ghost use Rattle.certificate.specs.Counts.{TakesTurns, breaks_told, cause_told};
 ghost use Rattle.certificate.specs.Reading.{IsReadAnswer, IsAnswerTo, IsBetween, IsAfter, Grows};
-ghost use Rattle.certificate.specs.Windows.{ShowsLine, ShowsFault, IsDeviceFault};
+ghost use Rattle.certificate.specs.Windows.{ShowsLine, ShowsFault};
 
-use crate::device::{DeviceFault, MAX_TURNS, Source};
+use crate::device::{MAX_TURNS, Source};
 use crate::faults::ReadFault;
 use crate::kept::Kept;
 use crate::window::{MAX_LINE, Window};
@@ -200,7 +200,7 @@ pub(crate) fn next_line<S: Source>(
             None if window.len() > MAX_LINE => return Err(ReadCause::LineTooLong),
             None => {}
         }
-        if ask(window, source, turns)? == 0 {
+        if window.fill(source, turns)? == 0 {
             return if window.len() == 0 {
                 Ok(None)
             } else {
@@ -208,28 +208,4 @@ pub(crate) fn next_line<S: Source>(
             };
         }
     }
-}
-
-/// Reads more bytes from the source. Retries while it is interrupted, at most 10,000 times in one call.
-fn ask<S: Source>(window: &mut Window, source: &mut S, turns: &mut u32) -> Result<usize, ReadCause>
-    requires window { length window.old ≤ MAX_LINE }
-    requires turns { turns.old ≤ MAX_TURNS }
-    ensures bytes { Keeps (prepend_known window.old (S.remaining source.old))
-        (prepend_known window.new (S.remaining source.new)) }
-    ensures more { IfOk result (λ count. length window.new ≡ length window.old + count) }
-    ensures end { result ≡ Ok 0 → IsAtEnd (S.remaining source.new) }
-    ensures none { result ≡ Ok 0 → window.new ≡ window.old }
-    ensures fault { IfErr result (λ cause. (window.new ≡ window.old) × IsDeviceFault cause) }
-    ensures turns { TakesTurns (result_err result) turns.old turns.new (S.agains source.old)
-        (S.agains source.new) }
-    ensures breaks { S.breaks source.new ≡ breaks_told (result_err result) (S.breaks source.old) }
-{
-    'turns: while *turns <= MAX_TURNS {
-        match window.fill(source) {
-            Ok(count) => return Ok(count),
-            Err(DeviceFault::Again) => *turns += 1,
-            Err(DeviceFault::Broken) => return Err(ReadCause::Device),
-        }
-    }
-    Err(ReadCause::TurnsSpent)
 }

@@ -1,12 +1,14 @@
 //! The bytes of a source that no line has yet.
-ghost use Rattle.std.specs.Prelude.{◌≡◌, ℕ, ◌≤◌, ◌<◌, ◌+◌, ◌-◌, [], length, take, drop, slice_range, Ok, OnErr, IfOk, IfSome, vec_len};
+ghost use Rattle.std.specs.Prelude.{◌≡◌, ℕ, ◌≤◌, ◌<◌, ◌+◌, ◌-◌, [], length, take, drop, slice_range, Ok, IfOk, IfErr, IfSome, vec_len};
+ghost use Rattle.std.specs.Result.{result_err};
 ghost use Rattle.std.specs.Io.{ReadsAtMost};
 ghost use Rattle.std.specs.Io.KnownBytes.{ReadConsumes, Keeps, IsAtEnd, prepend_known};
 ghost use Rattle.memchr.specs.Find.{IsFirstByte, is_byte};
-ghost use Rattle.certificate.specs.Counts.{agains_after, breaks_after};
-ghost use Rattle.certificate.specs.Windows.{IsWindow};
+ghost use Rattle.certificate.specs.Counts.{TakesTurns, agains_after, breaks_after, breaks_told};
+ghost use Rattle.certificate.specs.Windows.{IsDeviceFault, IsWindow};
 
-use crate::device::{DeviceFault, Source};
+use crate::device::{DeviceFault, MAX_TURNS, Source};
+use lines::ReadCause;
 use memchr::memchr;
 use std::alloc::{AllocError, Global};
 use std::marker::Model;
@@ -90,17 +92,24 @@ impl Window {
         self.searched = self.start;
     }
 
-    /// Reads more bytes from the source. Returns how many: none only at its end.
-    pub(crate) fn fill<S: Source>(&mut self, source: &mut S) -> Result<usize, DeviceFault>
-        requires { length self.old ≤ MAX_LINE }
+    /// Reads more bytes from the source. Returns how many: none only at its end. Retries while the source is
+    /// interrupted, at most 10,000 times in one call of the reader.
+    pub(crate) fn fill<S: Source>(
+        &mut self,
+        source: &mut S,
+        turns: &mut u32,
+    ) -> Result<usize, ReadCause>
+        requires window { length self.old ≤ MAX_LINE }
+        requires turns { turns.old ≤ MAX_TURNS }
         ensures bytes { Keeps (prepend_known self.old (S.remaining source.old))
             (prepend_known self.new (S.remaining source.new)) }
         ensures more { IfOk result (λ count. length self.new ≡ length self.old + count) }
         ensures end { result ≡ Ok 0 → IsAtEnd (S.remaining source.new) }
         ensures none { result ≡ Ok 0 → self.new ≡ self.old }
-        ensures err { OnErr result (self.new ≡ self.old) }
-        ensures agains { S.agains source.new ≡ agains_after result (S.agains source.old) }
-        ensures breaks { S.breaks source.new ≡ breaks_after result (S.breaks source.old) }
+        ensures fault { IfErr result (λ cause. (self.new ≡ self.old) × IsDeviceFault cause) }
+        ensures turns { TakesTurns (result_err result) turns.old turns.new (S.agains source.old)
+            (S.agains source.new) }
+        ensures breaks { S.breaks source.new ≡ breaks_told (result_err result) (S.breaks source.old) }
     {
         let (start, searched, end) = make_room(
             &mut self.bytes,
@@ -111,7 +120,7 @@ impl Window {
         self.start = start;
         self.searched = searched;
         self.end = end;
-        let count = read_at(&mut self.bytes, self.end, source)?;
+        let count = read_at(&mut self.bytes, self.end, source, turns)?;
         self.end += count;
         Ok(count)
     }
@@ -137,8 +146,37 @@ fn make_room(
     (0, searched - start, end - start)
 }
 
-/// Reads into the buffer from a place on. Returns how many bytes.
+/// Reads into the buffer from a place on. Returns how many bytes. Retries while the source is interrupted.
 pub(crate) fn read_at<S: Source>(
+    bytes: &mut Vec<u8>,
+    at: usize,
+    source: &mut S,
+    turns: &mut u32,
+) -> Result<usize, ReadCause>
+    requires room { at < length bytes.old.items }
+    requires turns { turns.old ≤ MAX_TURNS }
+    ensures len { length bytes.new.items ≡ length bytes.old.items }
+    ensures front { take at bytes.new.items ≡ take at bytes.old.items }
+    ensures bound { IfOk result (λ count. at + count ≤ length bytes.new.items) }
+    ensures bytes { ReadConsumes (S.remaining source.old) (S.remaining source.new) result
+        (drop at bytes.new.items) }
+    ensures fault { IfErr result IsDeviceFault }
+    ensures turns { TakesTurns (result_err result) turns.old turns.new (S.agains source.old)
+        (S.agains source.new) }
+    ensures breaks { S.breaks source.new ≡ breaks_told (result_err result) (S.breaks source.old) }
+{
+    'turns: while *turns <= MAX_TURNS {
+        match read_once(bytes, at, source) {
+            Ok(count) => return Ok(count),
+            Err(DeviceFault::Again) => *turns += 1,
+            Err(DeviceFault::Broken) => return Err(ReadCause::Device),
+        }
+    }
+    Err(ReadCause::TurnsSpent)
+}
+
+/// Reads into the buffer from a place on, by one call of the source. Returns how many bytes.
+fn read_once<S: Source>(
     bytes: &mut Vec<u8>,
     at: usize,
     source: &mut S,
