@@ -18,7 +18,7 @@ use Rattle.lines.specs.RecordLines.{line_says, header_says}
 use Rattle.certificate.specs.Formats.{cut, is_long, line_adds, end_adds, from_line, go_on, fault_in}
 use Rattle.certificate.specs.Files.{has_room, no_trace, with_record, with_header, text_adds, traces}
 use Rattle.certificate.specs.Files.{line_fault}
-use Rattle.certificate.specs.Files.{file_says_to, trace_said, records_said, version_of, cause_in, trace_of}
+use Rattle.certificate.specs.Files.{file_says_to, trace_said, records_said, file_version, cause_in, trace_of}
 use Rattle.certificate.specs.Files.{StandsFor, IsFaultlessBefore, IsFirstFault}
 use Rattle.certificate.specs.Reading.{IsLineReached}
 use Rattle.lines.proofs.RecordLemmas.{ok_not_err}
@@ -127,7 +127,7 @@ records_of-more newest done before after line is h =
     by_done [] is e = by_header (header_says newest line) e
     by_done (d ∷ done) is e =
         let later : (length (d ∷ done) + 1 == 1) ≡ false = grind arith in
-        let version = version_of newest (d ∷ done) in
+        let version = file_version newest (d ∷ done) in
         by_record before (line_says before.version line) (rw later at e) ∙ ap one_more is
         ∙ ap
         (λ (rs : List Record).

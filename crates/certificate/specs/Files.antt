@@ -62,9 +62,9 @@ file_says bytes = file_says_to newest_version bytes
 -- ---- the same, line by line
 
 -- the version that the first of these lines names
-abbrev pub version_of : ℕ → List (List ℕ) → ℕ
-version_of newest [] = no_trace.version
-version_of newest (line ∷ lines) = result_unwrap_or (header_says newest line) no_trace.version
+abbrev pub file_version : ℕ → List (List ℕ) → ℕ
+file_version newest [] = no_trace.version
+file_version newest (line ∷ lines) = result_unwrap_or (header_says newest line) no_trace.version
 
 -- the records of the lines that stand for one in a file of this version
 abbrev pub records_said : ℕ → List (List ℕ) → List Record
@@ -73,8 +73,8 @@ records_said version lines = filter_map (λ line. result_ok (line_says version l
 -- a header, and records in the lines after it
 abbrev pub trace_of : ℕ → List (List ℕ) → TraceView
 trace_of newest lines = record {
-  version = version_of newest lines;
-  records = records_said (version_of newest lines) (drop 1 lines);
+  version = file_version newest lines;
+  records = records_said (file_version newest lines) (drop 1 lines);
 }
 
 -- the trace of the lines before the one at place k, counted from 0
