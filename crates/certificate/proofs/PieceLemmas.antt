@@ -280,6 +280,16 @@ begins_long rest len at long =
       parts = sym (take-append-drop (max_line + 1) rest);
     }
 
+-- a line that is not too long, and stands for no record
+fault_of_line : (version : ℕ) (cause : ReadCause) (rest : List ℕ) (len : ℕ) → LineFeedAt rest (Some len)
+    → len ≤ max_line → line_says version (take len rest) ≡ Err cause → BeginsWithFault version cause rest
+fault_of_line version cause rest len at short says = record {
+  line = take len rest;
+  later = drop (len + 1) rest;
+  begins = begins_line rest len at short;
+  says = says;
+}
+
 -- why the text of a line gives no record
 pub fault_of_text : (version : ℕ) (cause : ReadCause) (rest : List ℕ) (len : ℕ) → LineFeedAt rest (Some len)
     → len ≤ max_line → (cause ≢ Memory → line_says version (take len rest) ≡ Err cause)
@@ -288,54 +298,21 @@ fault_of_text version Memory rest len at short says = tt
 fault_of_text version LineTooLong rest len at short says =
     absurd
     (no_text_cause 2 (record { version = version; records = [] }) LineTooLong rest
-    (λ same. absurd (omega arith)) (record {
-      line = take len rest;
-      later = drop (len + 1) rest;
-      begins = begins_line rest len at short;
-      says = says (λ same. cc);
-    }))
-fault_of_text version Device rest len at short says = record {
-  line = take len rest;
-  later = drop (len + 1) rest;
-  begins = begins_line rest len at short;
-  says = says (λ same. cc);
-}
-fault_of_text version Header rest len at short says = record {
-  line = take len rest;
-  later = drop (len + 1) rest;
-  begins = begins_line rest len at short;
-  says = says (λ same. cc);
-}
-fault_of_text version NotJson rest len at short says = record {
-  line = take len rest;
-  later = drop (len + 1) rest;
-  begins = begins_line rest len at short;
-  says = says (λ same. cc);
-}
-fault_of_text version Field rest len at short says = record {
-  line = take len rest;
-  later = drop (len + 1) rest;
-  begins = begins_line rest len at short;
-  says = says (λ same. cc);
-}
-fault_of_text version Limit rest len at short says = record {
-  line = take len rest;
-  later = drop (len + 1) rest;
-  begins = begins_line rest len at short;
-  says = says (λ same. cc);
-}
-fault_of_text version Unended rest len at short says = record {
-  line = take len rest;
-  later = drop (len + 1) rest;
-  begins = begins_line rest len at short;
-  says = says (λ same. cc);
-}
-fault_of_text version TurnsSpent rest len at short says = record {
-  line = take len rest;
-  later = drop (len + 1) rest;
-  begins = begins_line rest len at short;
-  says = says (λ same. cc);
-}
+    (λ same. absurd (omega arith)) (fault_of_line version LineTooLong rest len at short (says (λ same. cc))))
+fault_of_text version Device rest len at short says =
+    fault_of_line version Device rest len at short (says (λ same. cc))
+fault_of_text version Header rest len at short says =
+    fault_of_line version Header rest len at short (says (λ same. cc))
+fault_of_text version NotJson rest len at short says =
+    fault_of_line version NotJson rest len at short (says (λ same. cc))
+fault_of_text version Field rest len at short says =
+    fault_of_line version Field rest len at short (says (λ same. cc))
+fault_of_text version Limit rest len at short says =
+    fault_of_line version Limit rest len at short (says (λ same. cc))
+fault_of_text version Unended rest len at short says =
+    fault_of_line version Unended rest len at short (says (λ same. cc))
+fault_of_text version TurnsSpent rest len at short says =
+    fault_of_line version TurnsSpent rest len at short (says (λ same. cc))
 
 -- a line more of a piece
 pub BeginsWithRecords-more : (version : ℕ) (text : List ℕ) (start len : ℕ) (rs : List Record) (r : Record)

@@ -41,63 +41,39 @@ pub enum UpgradeFault {
     Moved(usize),
 }
 
-// The table of numbers and names; the first word names the shape that the rows are put into.
-macro_rules! write_faults {
-    ($shape:ident $value:expr) => {
-        $shape! {
-            $value, WriteFault,
-            Device = 1 "Device",
-            Memory = 2 "Memory",
-            TurnsSpent = 3 "TurnsSpent"
-        }
-    };
-}
-
-macro_rules! number_of {
-    ($value:expr, $kind:ident, $($variant:ident = $number:literal $name:literal),*) => {
-        match $value {
-            $($kind::$variant => $number,)*
-        }
-    };
-}
-
-macro_rules! name_of {
-    ($value:expr, $kind:ident, $($variant:ident = $number:literal $name:literal),*) => {
-        match $value {
-            $($kind::$variant => $name,)*
-        }
-    };
-}
-
-macro_rules! value_of {
-    ($value:expr, $kind:ident, $($variant:ident = $number:literal $name:literal),*) => {
-        match $value {
-            $($name => Some($kind::$variant),)*
-            _ => None,
-        }
-    };
-}
-
 impl WriteFault {
     /// Returns the number in a report, from 1 to 3.
     pub fn number(self) -> u8
         ensures { result ≡ write_fault_number self }
     {
-        write_faults!(number_of self)
+        match self {
+            WriteFault::Device => 1,
+            WriteFault::Memory => 2,
+            WriteFault::TurnsSpent => 3,
+        }
     }
 
     /// Returns the name in a report.
     pub fn name(self) -> &'static str
         ensures { result.now ≡ write_fault_name self }
     {
-        write_faults!(name_of self)
+        match self {
+            WriteFault::Device => "Device",
+            WriteFault::Memory => "Memory",
+            WriteFault::TurnsSpent => "TurnsSpent",
+        }
     }
 
     /// Returns the fault with this name, if there is one.
     pub fn from_name(name: &str) -> Option<Self>
         ensures { (fault : WriteFault) → (result ≡ Some fault) ↔ (write_fault_name fault ≡ name.now) }
     {
-        write_faults!(value_of name)
+        match name {
+            "Device" => Some(WriteFault::Device),
+            "Memory" => Some(WriteFault::Memory),
+            "TurnsSpent" => Some(WriteFault::TurnsSpent),
+            _ => None,
+        }
     }
 }
 
