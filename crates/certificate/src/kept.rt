@@ -1,5 +1,5 @@
 //! The trace of the lines so far.
-ghost use Rattle.std.specs.Prelude.{◌≡◌, ◌≢◌, ◌+◌, ◌≤◌, ◌⊎◌, [], ◌∷◌, ◌++◌, length, All, Ok, Err};
+ghost use Rattle.std.specs.Prelude.{◌≡◌, ◌+◌, ◌≤◌, ◌⊎◌, [], length, All, Ok, Err};
 ghost use Rattle.std.specs.Result.{result_map_both};
 ghost use Rattle.ompt_events.specs.Traces.{IsInRange, IsSoundIn, tasks_in};
 ghost use Rattle.lines.specs.RecordLines.{IsSaid};

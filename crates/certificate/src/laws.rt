@@ -1,6 +1,6 @@
 //! What follows from the definitions of a file alone, whichever versions are read. The functions do nothing:
 //! their contracts are the laws.
-ghost use Rattle.std.specs.Prelude.{◌≡◌, ◌≤◌, ◌↔◌, ℕ, List, Ok, Err, Result};
+ghost use Rattle.std.specs.Prelude.{◌≡◌, ◌≤◌, ◌↔◌, ℕ, List, Ok, Err};
 ghost use Rattle.ompt_events.specs.declared.records.Record.{Record};
 ghost use Rattle.ompt_events.specs.Traces.{TraceView, IsTraceOf, IsSoundIn};
 ghost use Rattle.certificate.specs.declared.faults.ReadFault.{ReadFault};

@@ -1,6 +1,6 @@
 //! How a piece of a trace file is judged: whole lines after the header, without counts of the records before
 //! them.
-ghost use Rattle.std.specs.Prelude.{◌≡◌, ◌≤◌, ◌<◌, ◌+◌, ◌-◌, ◌^◌, [], length, drop, slice_range, slice_index, IfOk, OnOk, OnErr, IfErr};
+ghost use Rattle.std.specs.Prelude.{◌≡◌, ◌≤◌, ◌<◌, ◌+◌, ◌-◌, ◌^◌, [], length, slice_range, slice_index, IfOk, OnOk, IfErr};
 ghost use Rattle.certificate.specs.Pieces.{IsWholeLines, IsPieceJudged, AreJudged, TakesLine, TakesText, WithRecord, SamePiece};
 ghost use Rattle.certificate.specs.Blocks.{AreCuts, IsPiece};
 
