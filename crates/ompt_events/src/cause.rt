@@ -28,7 +28,7 @@ pub enum Cause {
     NestedParallel,
     /// A list of dependences that does not follow its creation, or is missing there.
     DepsPlace,
-    /// A finishing record claims a share that is not its task's.
+    /// A finishing record claims a place that is not its task's.
     ShareWrong,
     /// Two finishing records name one ledger entry.
     EntryTwice,
