@@ -76,7 +76,8 @@ impl<'l> Members<'l> {
 
 /// Returns the members of a line, if it is written so and there is memory for them.
 pub(crate) fn take_members(alloc: Global, line: &[u8]) -> Option<Members<'_>>
-    ensures says { IfSome result (λ found. value_of line.now ≡ Some (object_of (rows found.members.items))) }
+    ensures says { IfSome result (λ found. value_of line.now
+        ≡ Some (object_of (rows found.members.items))) }
     ensures placed { IfSome result (λ found. ArePlaced found.members.items found.places) }
 {
     let Ok(mut members) = Vec::with_capacity(alloc, USUAL_MEMBERS) else {
@@ -129,7 +130,8 @@ macro_rules! after_name_of {
 /// without a loop.
 #[inline(always)]
 fn after_name(rest: &[u8], member: Member) -> Option<&[u8]>
-    ensures takes { IfSome result (λ behind. Takes rest.now (quoted (member_name member) ++ 58 ∷ []) behind.now) }
+    ensures takes { IfSome result (λ behind. Takes rest.now
+        (quoted (member_name member) ++ 58 ∷ []) behind.now) }
     ensures plain { is_plain_text (member_name member) ≡ true }
 {
     member_names!(after_name_of(rest member))
