@@ -1,23 +1,23 @@
 -- A list of ids, each once, with the index of each.
 use Rattle.std.specs.Prelude.{ℕ, ◌≡◌, ◌<◌, ◌+◌, List, length, Some, slice_get, slice_index}
 use Rattle.index_tables.specs.declared.numbering.Table.{Table}
-use Rattle.index_tables.specs.declared.numbering.Table.TheVariants.{Counted, Hashed}
+use Rattle.index_tables.specs.declared.numbering.Table.TheVariants.{Consecutive, Hashed}
 
 -- no id is at two indices
 abbrev pub AreApart : List ℕ → Type 0
 AreApart ids = (a b id : ℕ) → slice_get ids a ≡ Some id → slice_get ids b ≡ Some id → a ≡ b
 
 -- each id is greater by 1 than the one before it
-abbrev pub AreCounted : List ℕ → Type 0
-AreCounted ids = (index : ℕ) → index < length ids → slice_index ids index ≡ slice_index ids 0 + index
+abbrev pub AreConsecutive : List ℕ → Type 0
+AreConsecutive ids = (index : ℕ) → index < length ids → slice_index ids index ≡ slice_index ids 0 + index
 
 abbrev pub ids_of : Table → List ℕ
-ids_of (Counted ids) = ids.items
+ids_of (Consecutive ids) = ids.items
 ids_of (Hashed ids) = ids.keys
 
 -- the index of each id is its distance from the first, or is in the table
 abbrev pub HasIndices : Table → Type 0
-HasIndices (Counted ids) = AreCounted ids.items
+HasIndices (Consecutive ids) = AreConsecutive ids.items
 HasIndices (Hashed ids) = AreApart ids.keys
 
 -- the id at the index is at an earlier one too

@@ -1,6 +1,6 @@
 //! A list of ids, each once, in which the index of an id is found without a walk.
 ghost use Rattle.std.specs.Prelude.{◌≡◌, ◌↔◌, Some, ℕ, slice_get, Contains, IsTrue, IfOk, IfErr};
-ghost use Rattle.index_tables.specs.Numbering.{AreApart, AreCounted, IsFirstAgain};
+ghost use Rattle.index_tables.specs.Numbering.{AreApart, AreConsecutive, IsFirstAgain};
 
 use crate::seeded::Seeded;
 use indexmap::IndexSet;
@@ -18,7 +18,7 @@ pub struct Numbering {
 #[derive(Debug, Drop)]
 enum Table {
     /// Ids without gaps: the index of an id is its distance from the first.
-    Counted(Vec<u64>),
+    Consecutive(Vec<u64>),
     /// Any ids.
     Hashed(IndexSet<u64, Seeded>),
 }
@@ -42,9 +42,9 @@ impl Numbering {
         ensures apart { IfOk result (λ found. IfOk found (λ _. AreApart ids.items)) }
         ensures again { IfOk result (λ found. IfErr found (IsFirstAgain ids.items)) }
     {
-        if is_counted(ids.as_slice()) {
+        if are_consecutive(ids.as_slice()) {
             return Ok(Ok(Numbering {
-                table: Table::Counted(ids),
+                table: Table::Consecutive(ids),
             }));
         }
         match hash(alloc, ids.as_slice())? {
@@ -69,7 +69,7 @@ impl Numbering {
         ensures apart { AreApart self.now }
     {
         match &self.table {
-            Table::Counted(ids) => ids.as_slice(),
+            Table::Consecutive(ids) => ids.as_slice(),
             Table::Hashed(ids) => ids.as_slice(),
         }
     }
@@ -86,7 +86,7 @@ impl Numbering {
         ensures { (index : ℕ) → (result ≡ Some index) ↔ (slice_get self.now index ≡ Some id) }
     {
         match &self.table {
-            Table::Counted(ids) => counted_index(ids.as_slice(), id),
+            Table::Consecutive(ids) => consecutive_index(ids.as_slice(), id),
             Table::Hashed(ids) => ids.get_index_of(&id),
         }
     }
@@ -113,8 +113,8 @@ impl Numbering {
 }
 
 /// Returns true only if each id is greater by 1 than the one before it.
-fn is_counted(ids: &[u64]) -> bool
-    ensures { IsTrue result → AreCounted ids.now }
+fn are_consecutive(ids: &[u64]) -> bool
+    ensures { IsTrue result → AreConsecutive ids.now }
 {
     for index in 1..ids.len() {
         if ids[index] < ids[0] || ids[index] - ids[0] != index as u64 {
@@ -125,8 +125,8 @@ fn is_counted(ids: &[u64]) -> bool
 }
 
 /// Returns the index of an id among ids without gaps.
-fn counted_index(ids: &[u64], id: u64) -> Option<usize>
-    requires { AreCounted ids.now }
+fn consecutive_index(ids: &[u64], id: u64) -> Option<usize>
+    requires { AreConsecutive ids.now }
     ensures { (index : ℕ) → (result ≡ Some index) ↔ (slice_get ids.now index ≡ Some id) }
 {
     if ids.is_empty() || id < ids[0] {

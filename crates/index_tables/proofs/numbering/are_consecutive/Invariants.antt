@@ -1,6 +1,6 @@
 use Rattle.std.proofs.Common.{ℕ, ◌≡◌, ◌<◌, ◌+◌}
 use Rattle.std.specs.Prelude.{slice_index}
-use Rattle.index_tables.proofs.numbering.is_counted.Given as goal
+use Rattle.index_tables.proofs.numbering.are_consecutive.Given as goal
 
 -- the ids so far have no gap
 abbrev pub invariant-loop-index : goal.invariant-loop-index
