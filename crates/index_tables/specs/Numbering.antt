@@ -1,5 +1,8 @@
 -- A list of ids, each once, with the index of each.
 use Rattle.std.specs.Prelude.{ℕ, ◌≡◌, ◌<◌, ◌+◌, List, length, Some, slice_get, slice_index}
+use Rattle.std.specs.declared.hash.FoldHasher.{FoldHasher}
+use Rattle.indexmap.specs.IndexSet.{IndexSet, hasher_of as set_hasher}
+use Rattle.index_tables.specs.Seeded.{hasher_of}
 use Rattle.index_tables.specs.declared.numbering.Table.{Table}
 use Rattle.index_tables.specs.declared.numbering.Table.TheVariants.{Consecutive, Hashed}
 
@@ -15,10 +18,14 @@ abbrev pub ids_of : Table → List ℕ
 ids_of (Consecutive ids) = ids.items
 ids_of (Hashed ids) = ids.keys
 
--- the index of each id is its distance from the first, or is in the table
+-- the set's hashers have the seed of these ids
+abbrev pub IsSeededBy : IndexSet ℕ FoldHasher → List ℕ → Type 0
+IsSeededBy known ids = set_hasher known ≡ hasher_of ids
+
+-- the index of each id is its distance from the first, or is in the table, which has the seed of its own ids
 abbrev pub HasIndices : Table → Type 0
 HasIndices (Consecutive ids) = AreConsecutive ids.items
-HasIndices (Hashed ids) = AreApart ids.keys
+HasIndices (Hashed ids) = AreApart ids.keys × IsSeededBy ids ids.keys
 
 -- the id at the index is at an earlier one too
 abbrev pub IsAgain : List ℕ → ℕ → Type 0

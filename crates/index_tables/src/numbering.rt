@@ -1,6 +1,6 @@
 //! A list of ids, each once, in which the index of an id is found without a walk.
 ghost use Rattle.std.specs.Prelude.{◌≡◌, ◌↔◌, Some, ℕ, slice_get, Contains, IsTrue, IfOk, IfErr};
-ghost use Rattle.index_tables.specs.Numbering.{AreApart, AreConsecutive, IsFirstAgain};
+ghost use Rattle.index_tables.specs.Numbering.{AreApart, AreConsecutive, IsFirstAgain, IsSeededBy};
 
 use crate::seeded::Seeded;
 use indexmap::IndexSet;
@@ -8,7 +8,8 @@ use std::alloc::{AllocError, Global};
 use std::marker::Model;
 
 /// Ids in their order, each once. An id's index is its place in the list. A look-up takes a few steps, and
-/// no file can choose ids that make it slow: see `seeded`.
+/// more where ids collide in the table. The seed of the table is made from all ids, so to change an id
+/// changes which ids collide: see `seeded`.
 #[derive(Debug, Drop)]
 pub struct Numbering {
     table: Table,
@@ -19,7 +20,7 @@ pub struct Numbering {
 enum Table {
     /// Ids without gaps: the index of an id is its distance from the first.
     Consecutive(Vec<u64>),
-    /// Any ids.
+    /// Any ids, in a table that has the seed of these ids.
     Hashed(IndexSet<u64, Seeded>),
 }
 
@@ -136,9 +137,10 @@ fn consecutive_index(ids: &[u64], id: u64) -> Option<usize>
     if index < ids.len() { Some(index) } else { None }
 }
 
-/// Returns the table of these ids, or the first index at which an id is there again.
+/// Returns the table of these ids, with their seed, or the first index at which an id is there again.
 fn hash(alloc: Global, ids: &[u64]) -> Result<Result<IndexSet<u64, Seeded>, usize>, AllocError>
     ensures same { IfOk result (λ found. IfOk found (λ known. known.keys ≡ ids.now)) }
+    ensures seeded { IfOk result (λ found. IfOk found (λ known. IsSeededBy known ids.now)) }
     ensures apart { IfOk result (λ found. IfOk found (λ _. AreApart ids.now)) }
     ensures again { IfOk result (λ found. IfErr found (IsFirstAgain ids.now)) }
 {

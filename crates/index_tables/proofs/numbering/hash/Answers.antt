@@ -31,6 +31,7 @@ loop-index-preserved c =
           c.in_ok-is_new.ensures.keys ∙ insert_key_new c.loop-index.known.keys (slice_index ids i) absent
           ∙ ap (λ l. l ++ slice_index ids i ∷ []) c.loop-index.invariant.same
           ∙ sym (take_more ids i 0 c.loop-index-test.true);
+      seeded = c.in_ok-is_new.ensures.hasher ∙ c.loop-index.invariant.seeded;
       once = below_more _ _ c.loop-index.invariant.once (λ again. not_again ids i none again);
     }
 
