@@ -4,7 +4,9 @@ use Rattle.std.proofs.Common.{Result, Ok, Err, refl, sym, ap, arith, inl, inr, �
 use Rattle.std.proofs.Math.Nat.{min-eq_left, min-eq_right}
 use Rattle.std.proofs.lemmas.Bool.{cases_eq, cases_order, cases_lt}
 use Rattle.std.proofs.lemmas.Option.{none-some, same_Some, slice_get_within, slice_get-get_or}
-use Rattle.std.proofs.lemmas.List.{length_push}
+use Rattle.std.proofs.lemmas.List.{length_push, append-nil}
+use Rattle.std.proofs.lemmas.List.Elements.{filter_map-append}
+use Rattle.std.specs.List.{filter_map, range_with_len, cons_option}
 use Rattle.std.specs.Result.{result_err}
 use Rattle.std.specs.Prelude.{◌++◌, slice_get, option_and_then, option_map, IfOk, IfErr}
 use Rattle.ompt_events.specs.declared.records.Record.{Record}
@@ -13,12 +15,12 @@ use Rattle.ompt_events.specs.declared.cause.Cause.TheVariants.{CreatedTwice}
 use Rattle.ompt_events.specs.Records.{made, forked}
 use Rattle.ompt_events.specs.Places.{at}
 use Rattle.ompt_events.specs.Causes.{HasCause, created_twice, forked_twice, IsFirstWith, IsFreeOf}
-use Rattle.ompt_events.proofs.PlaceLemmas.{at_within}
+use Rattle.ompt_events.proofs.PlaceLemmas.{at_within, range_more}
 use Rattle.ompt_events.proofs.ListLemmas.{get_pushed, get_last, get_contains, contains_get, pushed_cases}
 use Rattle.index_tables.specs.Numbering.{AreApart}
 use Rattle.task_tree.specs.declared.makers.Names.{Names}
 use Rattle.task_tree.specs.Makers.{AreNoted, ArePlacesBelow, AreMade, AreGathered, AddsName, IsPlaceAgain}
-use Rattle.task_tree.specs.Makers.{forked_region, least_of}
+use Rattle.task_tree.specs.Makers.{forked_region, ids_named, least_of}
 
 -- an earlier record says the same id
 abbrev pub Repeats : (Body → Option ℕ) → List Record → ℕ → Type 0
@@ -122,9 +124,19 @@ index_before n places a b place later are at_a at_b less = elim (cases_order a b
 -- ---- the ids that the records name in one way
 
 module _ (says : Body → Option ℕ) (rs : List Record) where
+  -- one record more
+  named_more : (n : ℕ)
+      → ids_named says rs (n + 1) ≡ ids_named says rs n ++ cons_option (at says rs n) []
+  named_more n =
+      ap (filter_map (at says rs)) (range_more n) ∙ filter_map-append (at says rs) (range_with_len 0 n) (n ∷ [])
+
   gathered_other : (n : ℕ) (ids places : List ℕ) → AreGathered says rs n ids places → at says rs n ≡ None
       → AreGathered says rs (n + 1) ids places
   gathered_other n ids places are none = record {
+    listed =
+        are.listed ∙ sym (append-nil (ids_named says rs n))
+        ∙ ap (λ o. ids_named says rs n ++ cons_option o []) (sym none)
+        ∙ sym (named_more n);
     all = are.all;
     few = let few = are.few in omega (arith, few);
     each = λ i id below names. elim (cases_eq i n) [
@@ -140,6 +152,9 @@ module _ (says : Body → Option ℕ) (rs : List Record) where
   gathered_more : (n id : ℕ) (ids places : List ℕ) → AreGathered says rs n ids places
       → at says rs n ≡ Some id → AreGathered says rs (n + 1) (ids ++ id ∷ []) (places ++ n ∷ [])
   gathered_more n id ids places are names = record {
+    listed =
+        ap (λ l. l ++ id ∷ []) are.listed ∙ ap (λ o. ids_named says rs n ++ cons_option o []) (sym names)
+        ∙ sym (named_more n);
     all = length_push places n ∙ ap (λ k. k + 1) are.all ∙ sym (length_push ids id);
     few = let few = are.few in let longer = length_push ids id in omega (arith, few, longer);
     each = λ i other below names_it. elim (cases_eq i n) [

@@ -1,5 +1,6 @@
 -- When a family is that of the records.
 use Rattle.std.specs.Prelude.{ℕ, ◌≡◌, ◌<◌, ◌+◌, List, length, Option, Some, slice_get}
+use Rattle.std.specs.declared.hash.FoldHasher.{FoldHasher}
 use Rattle.ompt_events.specs.declared.records.Record.{Record}
 use Rattle.ompt_events.specs.declared.cause.Cause.TheVariants.{CreatedTwice, Rootless}
 use Rattle.ompt_events.specs.Records.{made}
@@ -8,15 +9,16 @@ use Rattle.task_tree.specs.Subjects.{subject, object, AreFound}
 use Rattle.ompt_events.specs.Causes.{IsFreeOf}
 use Rattle.task_tree.specs.declared.links.Link.{Link}
 use Rattle.task_tree.specs.declared.roots.Standing.{Standing}
-use Rattle.task_tree.specs.Makers.{AreNoted, AreMade}
+use Rattle.task_tree.specs.Makers.{AreNoted, AreMade, begun_regions}
 use Rattle.task_tree.specs.Links.{AreLinks}
 use Rattle.index_tables.specs.Rows.{RowsView}
+use Rattle.index_tables.specs.Seeded.{hasher_of}
 use Rattle.task_tree.specs.Rows.{AreChildren}
 use Rattle.task_tree.specs.Roots.{AreRoots}
 
 -- the view of a family: the tasks in the order in which they are made; by index of the task the place of
--- the record that makes it, the row of its children, its link to its parent and its root; and by place of
--- the record the indices of the tasks that it names
+-- the record that makes it, the row of its children, its link to its parent and its root; by place of the
+-- record the indices of the tasks that it names; and the hashers of a table of the regions that begin
 pub record FamilyView : Type 0 where
   pub tasks : List ℕ
   pub places : List ℕ
@@ -25,6 +27,7 @@ pub record FamilyView : Type 0 where
   pub rows : RowsView
   pub links : List (Option Link)
   pub roots : List (Option Standing)
+  pub region_hashers : FoldHasher
 
 -- there is one entry for each task
 abbrev pub AreAligned : List ℕ → List ℕ → RowsView → List (Option Link) → List (Option Standing) → Type 0
@@ -43,6 +46,7 @@ pub record IsFamilyOf (rs : List Record) (family : FamilyView) : Type 0 where
   pub roots : AreRoots rs family.tasks family.roots
   pub once : IsFreeOf rs CreatedTwice
   pub rooted : IsFreeOf rs Rootless
+  pub seeded : family.region_hashers ≡ hasher_of (begun_regions rs)
 
 -- the tasks are in the order in which the records make them
 abbrev pub AreInFileOrder : List Record → List ℕ → Type 0

@@ -1,6 +1,7 @@
 -- What is noted of the records while they are visited.
 use Rattle.std.specs.Prelude.{ℕ, ◌≡◌, ◌<◌, ◌≤◌, ◌++◌, ◌∷◌, [], List, length, Option, Some, None}
 use Rattle.std.specs.Prelude.{Contains, option_map, slice_get, min}
+use Rattle.std.specs.List.{filter_map, range_with_len}
 use Rattle.ompt_events.specs.declared.records.Record.{Record}
 use Rattle.ompt_events.specs.declared.records.Body.{Body}
 use Rattle.ompt_events.specs.Records.{made, forked}
@@ -11,6 +12,14 @@ use Rattle.task_tree.specs.declared.makers.Names.{Names}
 -- the parallel region that begins
 abbrev pub forked_region : Body → Option ℕ
 forked_region body = option_map (λ (p : ℕ × ℕ). p.1) (forked body)
+
+-- the ids that the first n records name in this way, in file order, each as often as it is named
+abbrev pub ids_named : (Body → Option ℕ) → List Record → ℕ → List ℕ
+ids_named says rs n = filter_map (at says rs) (range_with_len 0 n)
+
+-- the parallel regions that the records begin, in file order
+abbrev pub begun_regions : List Record → List ℕ
+begun_regions rs = ids_named forked_region rs (length rs)
 
 -- the places are some of the first n, in their order
 pub record ArePlacesBelow (n : ℕ) (places : List ℕ) : Type 0 where
@@ -37,6 +46,7 @@ pub record AreNoted (says : Body → Option ℕ) (rs : List Record) (n : ℕ) (i
 -- records
 pub record AreGathered (says : Body → Option ℕ) (rs : List Record) (n : ℕ) (ids places : List ℕ)
     : Type 0 where
+  pub listed : ids ≡ ids_named says rs n
   pub all : length places ≡ length ids
   pub few : length ids ≤ n
   pub each : (i id : ℕ) → i < n → at says rs i ≡ Some id

@@ -48,6 +48,7 @@ impl Model for Family {
       rows = family.rows;
       links = family.links.items;
       roots = family.roots.items;
+      region_hashers = family.region_hashers;
     } };
 
     ghost invariant = { λ family.
@@ -93,9 +94,11 @@ impl Family {
         &self.tasks
     }
 
-    /// Returns what makes the hashers of a table of the parallel regions that the records begin. Nothing but
-    /// the time of a look-up depends on it.
-    pub fn region_hashers(&self) -> Seeded {
+    /// Returns what makes the hashers of a table of the parallel regions that the records begin. Its seed is
+    /// made from these regions. Nothing but the time of a look-up depends on it.
+    pub fn region_hashers(&self) -> Seeded
+        ensures { result ≡ self.now.region_hashers }
+    {
         self.region_hashers
     }
 

@@ -5,7 +5,7 @@ ghost use Rattle.ompt_events.specs.declared.fault.Fault.TheVariants.{Malformed};
 ghost use Rattle.ompt_events.specs.Records.{made};
 ghost use Rattle.ompt_events.specs.Causes.{IsFreeOf};
 ghost use Rattle.index_tables.specs.Numbering.{AreApart};
-ghost use Rattle.task_tree.specs.Makers.{AreNoted, AreMade, AreGathered, AddsName, IsPlaceAgain, forked_region, least_of};
+ghost use Rattle.task_tree.specs.Makers.{AreNoted, AreMade, AreGathered, AddsName, IsPlaceAgain, begun_regions, forked_region, least_of};
 ghost use Rattle.ompt_events.specs.Faults.{IsFault};
 
 use index_tables::Numbering;
@@ -74,6 +74,7 @@ pub(crate) fn find_made(alloc: Global, records: &[Record]) -> Result<Made, Fault
         (length records.now) found.tasks found.places.items) }
     ensures regions { IfOk result (λ found. AreNoted forked_region records.now
         (length records.now) found.regions) }
+    ensures begun { IfOk result (λ found. found.regions ≡ begun_regions records.now) }
     ensures free { IfOk result (λ _. IsFreeOf records.now CreatedTwice) }
     ensures found { IfErr result (IsFault records.now (CreatedTwice ∷ [])) }
 {

@@ -39,6 +39,10 @@ returns-in-Ok-2-clause-regions c =
     (gathered_noted forked_region c.args.records.now names.ids.items names.places.items
     c.in_ok-tasks.ensures.regions)
 
+pub returns-in-Ok-2-clause-begun : goal.returns-in-Ok-2-clause-begun
+returns-in-Ok-2-clause-begun c =
+    rw (rw c.in-Ok-2.is at c.in_ok-regions.ensures.ids) c.in_ok-tasks.ensures.regions.listed
+
 pub returns-in-Ok-2-clause-free : goal.returns-in-Ok-2-clause-free
 returns-in-Ok-2-clause-free c =
     let tasks = c.in_ok-tasks.field-0.tasks in
