@@ -128,7 +128,8 @@ module _ (says : Body → Option ℕ) (rs : List Record) where
   named_more : (n : ℕ)
       → ids_named says rs (n + 1) ≡ ids_named says rs n ++ cons_option (at says rs n) []
   named_more n =
-      ap (filter_map (at says rs)) (range_more n) ∙ filter_map-append (at says rs) (range_with_len 0 n) (n ∷ [])
+      ap (filter_map (at says rs)) (range_more n)
+      ∙ filter_map-append (at says rs) (range_with_len 0 n) (n ∷ [])
 
   gathered_other : (n : ℕ) (ids places : List ℕ) → AreGathered says rs n ids places → at says rs n ≡ None
       → AreGathered says rs (n + 1) ids places

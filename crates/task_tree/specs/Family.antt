@@ -35,7 +35,8 @@ AreAligned tasks places rows links roots =
     (length rows.offsets ≡ length tasks + 1) × (length links ≡ length tasks) × (length roots ≡ length tasks)
     × (length places ≡ length tasks)
 
--- each table is right for all records, which make each task once and name only tasks with roots
+-- each table is right for all records, which make each task once and name only tasks with roots; and the
+-- hashers have the seed of the regions that begin
 pub record IsFamilyOf (rs : List Record) (family : FamilyView) : Type 0 where
   pub noted : AreNoted made rs (length rs) family.tasks
   pub makers : AreMade rs (length rs) family.tasks family.places

@@ -9,13 +9,14 @@ ghost use Rattle.ompt_events.specs.Tree.{IsRoot, IsExplicit, IsParent, IsChild, 
 ghost use Rattle.task_tree.specs.Family.{IsFamilyOf, AreInFileOrder, IsLinkOf, IsStandingOf};
 ghost use Rattle.task_tree.specs.Subjects.{subject, object, Calls};
 
-use crate::children::{Children, find_children};
 use crate::link_slot::LinkSlot;
-use crate::links::Link;
+use crate::links::{Link, Linked};
 use crate::makers::{Made, find_made};
 use crate::rootless::find_rootless;
 use crate::roots::{Standing, find_roots};
+use crate::rows::find_rows;
 use crate::standing_slot::StandingSlot;
+use crate::subjects::{Lookup, find_subjects};
 use index_tables::{Numbering, Rows, Seeded, Slot};
 use ompt_events::{Cause, Fault, Record, Trace, exclude};
 use std::alloc::Global;
@@ -71,7 +72,10 @@ impl Family {
             places,
             regions,
         } = find_made(alloc, records)?;
-        let Children { named, rows, links } = find_children(alloc, records, &tasks, &regions)?;
+        let Lookup { named, linked } = find_subjects(alloc, records, &tasks, &regions)?;
+        let Linked { counts, links } = linked;
+        let rows = find_rows(alloc, tasks.as_slice(), counts.as_slice(), links.as_slice())?;
+        drop(counts);
         let roots = find_roots(alloc, records, &tasks, &places, &links, &rows)?;
         let unrooted = find_rootless(records, &tasks, &named, &regions, roots.as_slice());
         exclude(Cause::Rootless, unrooted)?;

@@ -4,10 +4,9 @@
 //! that no later phase searches for a task again. `Run` is the records with their family, which all later
 //! phases take: it says by place what a record is. `Own` is a run whose records are in the tasks' own
 //! order; `Families` have both, and `Tree` has the paths too. Read `run`, `own`, `family`, `families` and
-//! `tree` for what a caller sees, then the steps of a build: `makers`, `children` (after `links`,
-//! `subjects` and `rows`), `roots` (after `forward`) and `rootless`. They share the tables of `index_tables`;
-//! `link_slot` is a link or none, `standing_slot` the root and depth of a task or none, and `hints` guesses
-//! the index of a task.
+//! `tree` for what a caller sees, then the steps of a build: `makers`, `subjects` (after `links`), `rows`,
+//! `roots` (after `forward`) and `rootless`. They share the tables of `index_tables`; `link_slot` is a link
+//! or none, `standing_slot` the root and depth of a task or none, and `hints` guesses the index of a task.
 //!
 //! A task that runs on on another thread has its records in turns. `laws` says what follows from the
 //! definitions of turns alone. `rising` checks in one pass whether file order is the tasks' own order
@@ -18,7 +17,6 @@
 #![tactic(auto)]
 
 mod chains;
-mod children;
 mod climbing;
 mod copies;
 mod families;

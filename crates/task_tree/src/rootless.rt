@@ -38,37 +38,6 @@ pub(crate) fn find_rootless(
     if named.known && are_known(roots) {
         return None;
     }
-    first_rootless(records, tasks, named, regions, roots)
-}
-
-/// Returns true only if the root of each task is known.
-fn are_known(roots: &[StandingSlot]) -> bool
-    ensures { IsTrue result → (index : ℕ) → slice_get roots.now index ≡ Some None → ⊥ }
-{
-    for root in roots {
-        if root.is_none() {
-            return false;
-        }
-    }
-    true
-}
-
-/// Returns the same, record by record.
-fn first_rootless(
-    records: &[Record],
-    tasks: &Numbering,
-    named: &Subjects,
-    regions: &Numbering,
-    roots: &[StandingSlot],
-) -> Option<usize>
-    requires apart { AreApart tasks.now }
-    requires tasks { AreNoted made records.now (length records.now) tasks.now }
-    requires regions { AreNoted forked_region records.now (length records.now) regions.now }
-    requires roots { AreRoots records.now tasks.now roots.now }
-    requires subjects { AreFound subject records.now (length records.now) tasks.now named.now.subjects.items }
-    requires objects { AreFound object records.now (length records.now) tasks.now named.now.objects.items }
-    ensures { MatchOption result (IsFreeOf records.now Rootless) (IsFirstWith records.now Rootless) }
-{
     let subjects = named.subjects.as_slice();
     let objects = named.objects.as_slice();
     for (at, event) in records.iter().enumerate() {
@@ -84,6 +53,18 @@ fn first_rootless(
         }
     }
     None
+}
+
+/// Returns true only if the root of each task is known.
+fn are_known(roots: &[StandingSlot]) -> bool
+    ensures { IsTrue result → (index : ℕ) → slice_get roots.now index ≡ Some None → ⊥ }
+{
+    for root in roots {
+        if root.is_none() {
+            return false;
+        }
+    }
+    true
 }
 
 /// Returns whether the record is one of these. Requires the slots of its subject and its object.
