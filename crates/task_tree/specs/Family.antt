@@ -35,8 +35,7 @@ AreAligned tasks places rows links roots =
     (length rows.offsets ≡ length tasks + 1) × (length links ≡ length tasks) × (length roots ≡ length tasks)
     × (length places ≡ length tasks)
 
--- each table is right for all records, which make each task once and name only tasks with roots; and the
--- hashers have the seed of the regions that begin
+-- each table is right for all records, which make each task once and name only tasks with roots
 pub record IsFamilyOf (rs : List Record) (family : FamilyView) : Type 0 where
   pub noted : AreNoted made rs (length rs) family.tasks
   pub makers : AreMade rs (length rs) family.tasks family.places
@@ -47,7 +46,10 @@ pub record IsFamilyOf (rs : List Record) (family : FamilyView) : Type 0 where
   pub roots : AreRoots rs family.tasks family.roots
   pub once : IsFreeOf rs CreatedTwice
   pub rooted : IsFreeOf rs Rootless
-  pub seeded : family.region_hashers ≡ hasher_of (begun_regions rs)
+
+-- the hashers of a table of regions have the seed of those that the records begin
+abbrev pub HasRegionSeed : List Record → FamilyView → Type 0
+HasRegionSeed rs family = family.region_hashers ≡ hasher_of (begun_regions rs)
 
 -- the tasks are in the order in which the records make them
 abbrev pub AreInFileOrder : List Record → List ℕ → Type 0

@@ -6,7 +6,7 @@ ghost use Rattle.ompt_events.specs.Faults.{IsFault};
 ghost use Rattle.ompt_events.specs.Records.{made};
 ghost use Rattle.ompt_events.specs.Places.{at as says_at};
 ghost use Rattle.ompt_events.specs.Tree.{IsRoot, IsExplicit, IsParent, IsChild, HasPath, children};
-ghost use Rattle.task_tree.specs.Family.{IsFamilyOf, AreInFileOrder, IsLinkOf, IsStandingOf};
+ghost use Rattle.task_tree.specs.Family.{IsFamilyOf, HasRegionSeed, AreInFileOrder, IsLinkOf, IsStandingOf};
 ghost use Rattle.task_tree.specs.Subjects.{subject, object, Calls};
 
 use crate::link_slot::LinkSlot;
@@ -64,6 +64,7 @@ impl Family {
     pub fn build(alloc: Global, trace: &Trace) -> Result<Family, Fault>
         ensures family { IfOk result (IsFamilyOf trace.now.records) }
         ensures order { IfOk result (λ family. AreInFileOrder trace.now.records family.tasks) }
+        ensures seeded { IfOk result (HasRegionSeed trace.now.records) }
         ensures fault { IfErr result (IsFault trace.now.records (CreatedTwice ∷ Rootless ∷ [])) }
     {
         let records = trace.records();
