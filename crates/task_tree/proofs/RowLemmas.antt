@@ -1,16 +1,15 @@
 -- How the rows of children are filled.
-use Rattle.std.proofs.Common.{◌≡◌, ◌∙◌, ℕ, ◌<◌, ◌≤◌, ◌+◌, ◌-◌, zero, suc, List, [], ◌∷◌, ◌++◌, length, Option}
-use Rattle.std.proofs.Common.{Some, None, sym, ap, subst, arith, inl, inr, set, get_or, take, drop}
-use Rattle.std.proofs.lemmas.Bool.{cases_eq, cases_lt}
+use Rattle.std.proofs.Common.{◌≡◌, ◌∙◌, ℕ, ◌<◌, ◌+◌, List, length, Option}
+use Rattle.std.proofs.Common.{Some, None, sym, ap, arith, inl, inr, set, get_or}
+use Rattle.std.proofs.lemmas.Bool.{cases_eq}
 use Rattle.std.proofs.lemmas.Option.{none-some, same_Some, slice_get_within, slice_get-get_or}
-use Rattle.std.proofs.lemmas.List.{ext_get_or, get_or-take, get_or-drop, length-take-le, length-drop}
-use Rattle.std.specs.Prelude.{slice_get, slice_index, slice_range}
+use Rattle.std.specs.Prelude.{slice_get, slice_index}
 use Rattle.ompt_events.specs.declared.records.Record.{Record}
 use Rattle.ompt_events.specs.declared.cause.Cause.TheVariants.{CreatedTwice}
 use Rattle.ompt_events.specs.Records.{made}
 use Rattle.ompt_events.specs.Tree.{children, IsChild}
 use Rattle.ompt_events.specs.Causes.{IsFreeOf}
-use Rattle.ompt_events.proofs.ListLemmas.{get_last, get_pushed, contains_get}
+use Rattle.ompt_events.proofs.ListLemmas.{contains_get}
 use Rattle.ompt_events.proofs.TreeLemmas.{child_place}
 use Rattle.task_tree.specs.declared.links.Link.{Link}
 use Rattle.task_tree.specs.Makers.{AreNoted}
