@@ -1,10 +1,10 @@
 //! The end of recording: the ledger and all its recorders are closed.
-ghost use Rattle.std.specs.Prelude.{◌≡◌, ◌≤◌, [], ℕ, List, All, length, map, IfOk, IfErr};
+ghost use Rattle.std.specs.Prelude.{◌≡◌, ◌≤◌, [], List, All, length, map, IfOk, IfErr};
 ghost use Rattle.std.specs.List.Sorted.{IsPermutation, IsNonDecreasingBy};
 ghost use Rattle.std.specs.Vec.{vec_capacity};
 ghost use Rattle.credit_ledger.specs.declared.view.Step.{Step};
 ghost use Rattle.credit_ledger.specs.Histories.{IsLegal, entries_after};
-ghost use Rattle.credit_ledger.specs.Places.{ledger_id, seat_id, view_of};
+ghost use Rattle.credit_ledger.specs.Places.{ledger_id};
 ghost use Rattle.credit_ledger.specs.Seats.{AreClaims, AreSeatsApart, claim_of};
 ghost use Rattle.recorder.specs.declared.fault.CallFault.TheVariants.{Memory};
 ghost use Rattle.callbacks.specs.Closed.{thread_of, recorded_by, AreClosed, AreParts};

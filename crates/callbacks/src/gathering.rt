@@ -1,14 +1,12 @@
 //! The trace of closed recorders.
-ghost use Rattle.std.specs.Prelude.{◌≡◌, ◌≢◌, ◌≤◌, ◌<◌, ◌+◌, ◌++◌, [], ℕ, Some, length, slice_get, IsTrue};
+ghost use Rattle.std.specs.Prelude.{◌≡◌, ◌≤◌, ◌<◌, ◌+◌, ◌++◌, [], Some, length, IsTrue};
 ghost use Rattle.std.specs.Prelude.{◌↔◌, MatchOption, IfOk, IfErr, OnOk};
 ghost use Rattle.std.specs.List.Sorted.{IsNonDecreasingBy};
 ghost use Rattle.std.specs.Vec.{vec_capacity};
-ghost use Rattle.ompt_events.specs.Limits.{max_records, max_tasks};
 ghost use Rattle.ompt_events.specs.declared.cause.Cause.TheVariants.{SeqGap, CreatedTwice, NestedParallel};
 ghost use Rattle.ompt_events.specs.declared.cause.Cause.TheVariants.{EntryTwice, LengthAhead, LengthBack};
 ghost use Rattle.ompt_events.specs.declared.cause.Cause.TheVariants.{TargetTask};
 ghost use Rattle.ompt_events.specs.Causes.{IsFreeOf, entries_in};
-ghost use Rattle.ompt_events.specs.Traces.{IsTraceOf};
 ghost use Rattle.recorder.specs.declared.fault.CallFault.TheVariants.{Memory};
 ghost use Rattle.callbacks.specs.Closed.{AreClosed};
 ghost use Rattle.callbacks.specs.Gathered.{gathered, HaveOwnThreads, ArePaired, IsWithinLimits, IsGatherFault};
@@ -154,7 +152,8 @@ fn joined(alloc: Global, closed: Closed) -> Result<Trace, (Closed, CallFault)>
     let Ok(records) = Vec::with_capacity(alloc, closed.record_count()) else {
         return Err((closed, CallFault::Memory));
     };
-    Ok(trace_of(concatenated(closed.into_buffers(), records)))
+    let records = concatenated(closed.into_buffers(), records);
+    Ok(Trace::from_parts(2, records))
 }
 
 impl Closed {
@@ -183,17 +182,6 @@ impl Closed {
             Some(left) => MAX_RECORDS - left,
             None => unreachable!(),
         }
-    }
-}
-
-/// Returns the trace of these records. Requires that they are those of a trace of version 2.
-fn trace_of(records: Vec<Record>) -> Trace
-    requires { IsTraceOf 2 records.items }
-    ensures { result ≡ record { version = 2; records = records.items } }
-{
-    match Trace::from_turns(records) {
-        Ok(trace) => trace,
-        Err(_) => unreachable!(),
     }
 }
 

@@ -4,7 +4,7 @@ use Rattle.callbacks.specs.Gathered.{gathered}
 use Rattle.callbacks.proofs.ThreadLaws.{gathered_trace}
 use Rattle.callbacks.proofs.gathering.joined.Goals as goal
 
-pub trace_of-requires : goal.trace_of-requires
-trace_of-requires c =
-    subst (IsTraceOf 2) (sym (c.concatenated.ensures ∙ ap gathered c.into_buffers.ensures.buffers))
+pub from_parts-requires : goal.from_parts-requires
+from_parts-requires c =
+    subst (IsTraceOf 2) (sym (c.concatenated-records.ensures ∙ ap gathered c.into_buffers.ensures.buffers))
     (gathered_trace c.args.closed c.into_buffers.ensures.are_closed c.requires)

@@ -1,8 +1,0 @@
-use Rattle.std.proofs.Common.{◌+◌}
-use Rattle.callbacks.proofs.gathering.trace_of.Goals as goal
-use Rattle.ompt_events.proofs.TraceLemmas.{IsTraceOf-take}
-
-pub unreachable-requires : goal.unreachable-requires
-unreachable-requires c =
-    let refused = c.in-Err.ensures.refused.1 in
-    refused.refused (IsTraceOf-take 2 (c.in-Err.field-0.1 + 1) c.args.records.items c.requires)
