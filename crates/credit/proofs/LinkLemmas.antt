@@ -192,30 +192,11 @@ behind-same l Three k = refl
 
 behind-other : (l : Link) (s t : Side) (k : ℕ) → t ≢ s → link_behind (with_link l s k) t ≡ link_behind l t
 behind-other l First First k other = absurd (other refl)
-behind-other l First Zero k other = refl
-behind-other l First One k other = refl
-behind-other l First Two k other = refl
-behind-other l First Three k other = refl
-behind-other l Zero First k other = refl
 behind-other l Zero Zero k other = absurd (other refl)
-behind-other l Zero One k other = refl
-behind-other l Zero Two k other = refl
-behind-other l Zero Three k other = refl
-behind-other l One First k other = refl
-behind-other l One Zero k other = refl
 behind-other l One One k other = absurd (other refl)
-behind-other l One Two k other = refl
-behind-other l One Three k other = refl
-behind-other l Two First k other = refl
-behind-other l Two Zero k other = refl
-behind-other l Two One k other = refl
 behind-other l Two Two k other = absurd (other refl)
-behind-other l Two Three k other = refl
-behind-other l Three First k other = refl
-behind-other l Three Zero k other = refl
-behind-other l Three One k other = refl
-behind-other l Three Two k other = refl
 behind-other l Three Three k other = absurd (other refl)
+behind-other l _ _ k other = refl
 
 key-same : (l : Link) (s : Side) (k p n : ℕ) → is_link_of p n (with_link l s k) ≡ is_link_of p n l
 key-same l First k p n = refl

@@ -1,9 +1,9 @@
-use Rattle.std.proofs.Common.{◌≡◌, ◌∷◌, ◌++◌, [], length, set, get_or, ap, sym, ◌∙◌, subst, arith}
+use Rattle.std.proofs.Common.{◌≡◌, ◌∷◌, ◌++◌, [], length, get_or, ap, sym, ◌∙◌, subst, arith}
 use Rattle.std.specs.Prelude.{reverse, is_ok}
 use Rattle.std.proofs.lemmas.Bool.{cond-true}
 use Rattle.std.proofs.lemmas.List.{get_or_push}
 use Rattle.credit.specs.Paths.{path_of}
-use Rattle.credit.specs.Trees.{node_at, with_run, progress_at, IsSettling}
+use Rattle.credit.specs.Trees.{progress_at, IsSettling}
 use Rattle.credit.proofs.PurseLemmas.{IsFree-overlaps}
 use Rattle.credit.proofs.StepLemmas.{IsTreeLinked-put, IsSettling-put}
 use Rattle.credit.proofs.purse.add.Goals as goal
@@ -11,60 +11,14 @@ use Rattle.credit.proofs.purse.add.Goals as goal
 pub settle-requires-clause-linked : goal.settle-requires-clause-linked
 settle-requires-clause-linked c =
     let when : c.len.result ≡ length c.args.shares.now.items = omega arith in
-    let nodes : c.put_run.new.self.nodes.items
-    ≡ set c.args.tree.now.nodes.items c.args.index
-    (with_run (node_at c.args.tree.now c.args.index) (record {
-      keeps = (path_of c.args.share).1;
-      time = length c.args.shares.now.items;
-    })) =
-    subst
-    (λ t.
-    c.put_run.new.self.nodes.items
-    ≡ set c.args.tree.now.nodes.items c.args.index
-    (with_run (node_at c.args.tree.now c.args.index) (record {
-      keeps = (path_of c.args.share).1;
-      time = t;
-    })))
-    when
-    (subst
-    (λ k.
-    c.put_run.new.self.nodes.items
-    ≡ set c.args.tree.now.nodes.items c.args.index
-    (with_run (node_at c.args.tree.now c.args.index) (record {
-      keeps = k;
-      time = c.len.result;
-    })))
-    c.last.ensures c.put_run.ensures.nodes) in
+    let nodes = rw (c.last.ensures, when) at c.put_run.ensures.nodes in
     IsTreeLinked-put c.args.shares.now.items c.args.tree.now c.put_run.new.self c.args.index c.args.share
     c.requires.linked c.requires.place c.requires.within nodes c.put_run.ensures.links
 
 pub settle-requires-clause-settling : goal.settle-requires-clause-settling
 settle-requires-clause-settling c =
     let when : c.len.result ≡ length c.args.shares.now.items = omega arith in
-    let nodes : c.put_run.new.self.nodes.items
-    ≡ set c.args.tree.now.nodes.items c.args.index
-    (with_run (node_at c.args.tree.now c.args.index) (record {
-      keeps = (path_of c.args.share).1;
-      time = length c.args.shares.now.items;
-    })) =
-    subst
-    (λ t.
-    c.put_run.new.self.nodes.items
-    ≡ set c.args.tree.now.nodes.items c.args.index
-    (with_run (node_at c.args.tree.now c.args.index) (record {
-      keeps = (path_of c.args.share).1;
-      time = t;
-    })))
-    when
-    (subst
-    (λ k.
-    c.put_run.new.self.nodes.items
-    ≡ set c.args.tree.now.nodes.items c.args.index
-    (with_run (node_at c.args.tree.now c.args.index) (record {
-      keeps = k;
-      time = c.len.result;
-    })))
-    c.last.ensures c.put_run.ensures.nodes) in
+    let nodes = rw (c.last.ensures, when) at c.put_run.ensures.nodes in
     let pushed : c.push.new.self.items ≡ c.args.shares.now.items ++ c.args.share ∷ [] =
     c.push.ensures.items
     ∙ cond-true (is_ok c.push.result) (c.args.shares.now.items ++ c.args.share ∷ [])
