@@ -26,25 +26,31 @@ max_cases a b = elim (cases_lt b a) [
 
 -- ---- what an item waits for
 
-pub awaited_in : (m : Maxima) (a r : ℕ) → a ≡ max m.writers m.mutexes → r ≡ max a m.sets
-    → IsGreatestConflicting m In r
-awaited_in m a r first second = record {
+-- an item that conflicts with the kinds of three running maxima waits for the greatest of these
+awaited_three : (m : Maxima) (kind first second third : DepKind) (a r : ℕ) → conflict first kind ≡ true
+    → conflict second kind ≡ true → conflict third kind ≡ true → a ≡ max (maximum m first) (maximum m second)
+    → r ≡ max a (maximum m third)
+    → ((other : DepKind) → conflict other kind ≡ true → maximum m other ≤ r)
+    → IsGreatestConflicting m kind r
+awaited_three m kind first second third a r one two three low high bound = record {
   bound = bound;
-  reached = elim (max_cases a m.sets) [
-    | inr set ↦ (Inoutset, refl, sym (second ∙ set))
-    | inl low ↦ elim (max_cases m.writers m.mutexes) [
-      | inl writer ↦ (Out, refl, sym (second ∙ low ∙ first ∙ writer))
-      | inr mutex ↦ (Mutexinoutset, refl, sym (second ∙ low ∙ first ∙ mutex))
+  reached = elim (max_cases a (maximum m third)) [
+    | inr last ↦ (third, three, sym (high ∙ last))
+    | inl lower ↦ elim (max_cases (maximum m first) (maximum m second)) [
+      | inl is ↦ (first, one, sym (high ∙ lower ∙ low ∙ is))
+      | inr is ↦ (second, two, sym (high ∙ lower ∙ low ∙ is))
     ]
   ];
 }
+
+pub awaited_in : (m : Maxima) (a r : ℕ) → a ≡ max m.writers m.mutexes → r ≡ max a m.sets
+    → IsGreatestConflicting m In r
+awaited_in m a r first second =
+    awaited_three m In Out Mutexinoutset Inoutset a r refl refl refl first second bound
   where
     bound : (other : DepKind) → conflict other In ≡ true → maximum m other ≤ r
     bound In e = absurd (false≢true e)
-    bound Out e = omega (arith, first, second)
-    bound Inout e = omega (arith, first, second)
-    bound Mutexinoutset e = omega (arith, first, second)
-    bound Inoutset e = omega (arith, first, second)
+    bound _ e = omega (arith, first, second)
 
 pub awaited_out : (m : Maxima) (kind : DepKind) (a b r : ℕ) → ((other : DepKind) → conflict other kind ≡ true)
     → a ≡ max m.writers m.mutexes → b ≡ max a m.sets → r ≡ max b m.readers → IsGreatestConflicting m kind r
@@ -64,64 +70,33 @@ awaited_out m kind a b r all first second third = record {
   where
     bound : (other : DepKind) → maximum m other ≤ r
     bound In = omega (arith, first, second, third)
-    bound Out = omega (arith, first, second, third)
-    bound Inout = omega (arith, first, second, third)
-    bound Mutexinoutset = omega (arith, first, second, third)
-    bound Inoutset = omega (arith, first, second, third)
+    bound _ = omega (arith, first, second, third)
 
 pub all_out : (other : DepKind) → conflict other Out ≡ true
 all_out In = refl
-all_out Out = refl
-all_out Inout = refl
-all_out Mutexinoutset = refl
-all_out Inoutset = refl
+all_out _ = refl
 
 pub all_inout : (other : DepKind) → conflict other Inout ≡ true
 all_inout In = refl
-all_inout Out = refl
-all_inout Inout = refl
-all_inout Mutexinoutset = refl
-all_inout Inoutset = refl
+all_inout _ = refl
 
 pub awaited_mutex : (m : Maxima) (a r : ℕ) → a ≡ max m.writers m.sets → r ≡ max a m.readers
     → IsGreatestConflicting m Mutexinoutset r
-awaited_mutex m a r first second = record {
-  bound = bound;
-  reached = elim (max_cases a m.readers) [
-    | inr reader ↦ (In, refl, sym (second ∙ reader))
-    | inl low ↦ elim (max_cases m.writers m.sets) [
-      | inl writer ↦ (Out, refl, sym (second ∙ low ∙ first ∙ writer))
-      | inr set ↦ (Inoutset, refl, sym (second ∙ low ∙ first ∙ set))
-    ]
-  ];
-}
+awaited_mutex m a r first second =
+    awaited_three m Mutexinoutset Out Inoutset In a r refl refl refl first second bound
   where
     bound : (other : DepKind) → conflict other Mutexinoutset ≡ true → maximum m other ≤ r
-    bound In e = omega (arith, first, second)
-    bound Out e = omega (arith, first, second)
-    bound Inout e = omega (arith, first, second)
     bound Mutexinoutset e = absurd (false≢true e)
-    bound Inoutset e = omega (arith, first, second)
+    bound _ e = omega (arith, first, second)
 
 pub awaited_set : (m : Maxima) (a r : ℕ) → a ≡ max m.writers m.mutexes → r ≡ max a m.readers
     → IsGreatestConflicting m Inoutset r
-awaited_set m a r first second = record {
-  bound = bound;
-  reached = elim (max_cases a m.readers) [
-    | inr reader ↦ (In, refl, sym (second ∙ reader))
-    | inl low ↦ elim (max_cases m.writers m.mutexes) [
-      | inl writer ↦ (Out, refl, sym (second ∙ low ∙ first ∙ writer))
-      | inr mutex ↦ (Mutexinoutset, refl, sym (second ∙ low ∙ first ∙ mutex))
-    ]
-  ];
-}
+awaited_set m a r first second =
+    awaited_three m Inoutset Out Mutexinoutset In a r refl refl refl first second bound
   where
     bound : (other : DepKind) → conflict other Inoutset ≡ true → maximum m other ≤ r
-    bound In e = omega (arith, first, second)
-    bound Out e = omega (arith, first, second)
-    bound Inout e = omega (arith, first, second)
-    bound Mutexinoutset e = omega (arith, first, second)
     bound Inoutset e = absurd (false≢true e)
+    bound _ e = omega (arith, first, second)
 
 -- ---- one item more is entered
 
