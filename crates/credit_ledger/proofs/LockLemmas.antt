@@ -360,20 +360,8 @@ GoesOn s id me i n tells =
 -- a ticket is taken, or not
 pub draws : (id old : ℕ) (v : View) → v.stage ≡ Idle
     → Allows Kept 1 id (v, []) 0 (λ n. either (n == old) (old + 1) n) (λ n m. Drawn old (v, []) n m)
-draws id old v idle s kept slots at small = by_case (cases_eq (slice_index s.words 0) old)
+draws id old v idle s (h, next, serving, k) slots at small = by_case (cases_eq (slice_index s.words 0) old)
   where
-    h : List Step
-    h = kept.0
-
-    next : ℕ
-    next = kept.1
-
-    serving : ℕ
-    serving = kept.2
-
-    k : IsRuleKept kept.0 kept.1 kept.2 s
-    k = kept.3
-
     found : slice_index s.words 0 ≡ next
     found = (at_words s.words next serving k.words).0
 
@@ -469,20 +457,9 @@ draws id old v idle s kept slots at small = by_case (cases_eq (slice_index s.wor
 -- the ticket is served, or not
 pub serves : (id : ℕ) (v : View) → v.stage ≡ Waiting
     → Allows Kept 1 id (v, []) 1 (λ n. n) (λ n m. Served (v, []) n m)
-serves id v waiting s kept slots at small = by_case (cases_eq (slice_index s.words 1) v.ticket)
+serves id v waiting s (h, next, serving, k) slots at small =
+    by_case (cases_eq (slice_index s.words 1) v.ticket)
   where
-    h : List Step
-    h = kept.0
-
-    next : ℕ
-    next = kept.1
-
-    serving : ℕ
-    serving = kept.2
-
-    k : IsRuleKept kept.0 kept.1 kept.2 s
-    k = kept.3
-
     found : slice_index s.words 1 ≡ serving
     found = (at_words s.words next serving k.words).1
 
@@ -569,7 +546,7 @@ serves id v waiting s kept slots at small = by_case (cases_eq (slice_index s.wor
 pub calls : (id : ℕ) (v : View) (call : Call) (es : List Entry) → v.stage ≡ Turn
     → es ≡ after_call (entries_after v.seen) call → IsPossible (entries_after v.seen) call
     → Allows Kept 1 id (v, (0, Some es) ∷ []) 1 (λ _. v.ticket + 1) (λ _ m. m ≡ (with_call v call, []))
-calls id v call es turn after possible s kept slots at small = (
+calls id v call es turn after possible s (h, next, serving, k) slots at small = (
   w,
   gives,
   tt,
@@ -605,18 +582,6 @@ calls id v call es turn after possible s kept slots at small = (
   refl,
 )
   where
-    h : List Step
-    h = kept.0
-
-    next : ℕ
-    next = kept.1
-
-    serving : ℕ
-    serving = kept.2
-
-    k : IsRuleKept kept.0 kept.1 kept.2 s
-    k = kept.3
-
     x : Step
     x = seat_step v call
 
