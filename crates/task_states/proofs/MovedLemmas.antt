@@ -101,20 +101,8 @@ early_by task i (TaskSchedule status.EarlyFulfill turns prior None share) sound 
     of false = refl
 early_by task i (TaskSchedule status.EarlyFulfill turns prior (Some next) share) sound =
     absurd (false≢true (sym sound))
-early_by task i (TaskSchedule status.Complete turns prior next share) sound =
-    neither is_early_move i status.Complete refl refl (prior == task) (is_task task next)
-early_by task i (TaskSchedule status.Yield turns prior next share) sound =
-    neither is_early_move i status.Yield refl refl (prior == task) (is_task task next)
-early_by task i (TaskSchedule status.Cancel turns prior next share) sound =
-    neither is_early_move i status.Cancel refl refl (prior == task) (is_task task next)
-early_by task i (TaskSchedule status.Detach turns prior next share) sound =
-    neither is_early_move i status.Detach refl refl (prior == task) (is_task task next)
-early_by task i (TaskSchedule status.LateFulfill turns prior next share) sound =
-    neither is_early_move i status.LateFulfill refl refl (prior == task) (is_task task next)
-early_by task i (TaskSchedule status.Switch turns prior next share) sound =
-    neither is_early_move i status.Switch refl refl (prior == task) (is_task task next)
-early_by task i (TaskSchedule status.TaskwaitComplete turns prior next share) sound =
-    neither is_early_move i status.TaskwaitComplete refl refl (prior == task) (is_task task next)
+early_by task i (TaskSchedule s turns prior next share) sound =
+    neither is_early_move i s refl refl (prior == task) (is_task task next)
 early_by task i (Cancel flags other share) sound =
     of (is_task task (cond (has_flag flags.0 flag.discarded_task) (Some other) None))
   where
@@ -150,16 +138,8 @@ apart_by task i (TaskSchedule status.TaskwaitComplete turns prior None share) so
     alone is_apart i status.TaskwaitComplete refl (prior == task)
 apart_by task i (TaskSchedule status.TaskwaitComplete turns prior (Some next) share) sound =
     absurd (false≢true (sym sound))
-apart_by task i (TaskSchedule status.Complete turns prior next share) sound =
-    neither is_apart i status.Complete refl refl (prior == task) (is_task task next)
-apart_by task i (TaskSchedule status.Yield turns prior next share) sound =
-    neither is_apart i status.Yield refl refl (prior == task) (is_task task next)
-apart_by task i (TaskSchedule status.Cancel turns prior next share) sound =
-    neither is_apart i status.Cancel refl refl (prior == task) (is_task task next)
-apart_by task i (TaskSchedule status.Detach turns prior next share) sound =
-    neither is_apart i status.Detach refl refl (prior == task) (is_task task next)
-apart_by task i (TaskSchedule status.Switch turns prior next share) sound =
-    neither is_apart i status.Switch refl refl (prior == task) (is_task task next)
+apart_by task i (TaskSchedule s turns prior next share) sound =
+    neither is_apart i s refl refl (prior == task) (is_task task next)
 apart_by task i (Cancel flags other share) sound =
     of (is_task task (cond (has_flag flags.0 flag.discarded_task) (Some other) None))
   where

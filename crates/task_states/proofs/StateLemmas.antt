@@ -34,13 +34,15 @@ use Rattle.task_tree.proofs.SubjectLemmas.{call_index}
 use Rattle.task_tree.proofs.LookupLemmas.{subject_calls, object_calls}
 use Rattle.ompt_events.specs.declared.fault.Fault.{Fault}
 use Rattle.ompt_events.specs.Faults.{FindsFirst, IsFault, IsShownFault}
+use Rattle.task_tree.specs.Runs.{RunView, IsRun}
 use Rattle.task_tree.specs.OwnOrder.{AreAllPlaces}
 use Rattle.task_tree.specs.Own.{OwnView, of_regions, IsOwnFault}
 use Rattle.task_tree.specs.Families.{IsOwnOf}
 use Rattle.task_tree.proofs.ShownLemmas.{own_fault}
 use Rattle.task_states.proofs.ShownFaultLemmas.{shown_alone, shown_before, shown_after}
 use Rattle.task_states.specs.Progress.{ProgressView, HasCome, IsMoveRefused}
-use Rattle.task_states.specs.States.{StatesView, IsStates, IsLastState}
+use Rattle.task_states.specs.Regions.{RegionsView, AreRegions}
+use Rattle.task_states.specs.States.{StatesView, AreStates, IsStates, IsLastState}
 
 -- ---- a task that moves is one that a record makes
 
@@ -454,3 +456,19 @@ last_none states task index are is none = (
       absurd (none-some k (sym none ∙ (is k).1 stands)),
   λ unmade. refl,
 )
+
+-- the states that were found, with the regions, are those of the run
+pub are_states : (found run : RunView) (own : OwnView) (states : List (Option State)) (regions : RegionsView)
+    → found ≡ run → IsRun found → IsOwnOf run.records own → length states ≡ length found.family.tasks
+    → AreStates found.records found.family.tasks states → regions.own ≡ own → AreRegions regions
+    → IsStates (record { run = run; states = states; regions = regions })
+are_states found run own states regions same is_run is_own all each of_own are =
+    let P : RunView → Type 0 = λ r. AreStates r.records r.family.tasks states in
+    let Q : OwnView → Type 0 = IsOwnOf run.records in
+    record {
+      run = subst IsRun same is_run;
+      all = rw same at all;
+      each = subst P same each;
+      own = subst Q (sym of_own) is_own;
+      regions = are;
+    }

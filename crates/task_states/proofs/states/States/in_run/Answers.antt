@@ -1,10 +1,7 @@
-use Rattle.std.proofs.Common.{◌∙◌, sym, subst}
+use Rattle.std.proofs.Common.{◌∙◌}
 use Rattle.std.proofs.lemmas.Result.{err_from_is_err_and}
-use Rattle.task_tree.specs.Runs.{RunView, IsRun}
-use Rattle.task_tree.specs.Own.{OwnView}
-use Rattle.task_tree.specs.Families.{IsOwnOf}
-use Rattle.task_states.specs.States.{AreStates}
 use Rattle.task_states.proofs.StateLemmas.{fault_current, fault_moved, fault_gap, fault_status, fault_region}
+use Rattle.task_states.proofs.StateLemmas.{are_states}
 use Rattle.task_states.proofs.states.States.in_run.Goals as goal
 
 pub returns-in_err-find_misfit-clause-fault : goal.returns-in_err-find_misfit-clause-fault
@@ -55,30 +52,20 @@ returns-in_err-regions-clause-fault c =
     c.in_err-regions.ensures.fault)
 
 pub invariant_of-result : goal.invariant_of-result
-invariant_of-result c = rw (c.again.ensures, c.run.ensures.value, c.in_ok-schedules.ensures.run) (record {
-  run = subst IsRun c.in_ok-schedules.ensures.run c.run.ensures.is_run;
-  all = rw c.in_ok-schedules.ensures.run at c.in_ok-states.ensures.all;
-  each =
-      let P : RunView → Type 0 = λ r. AreStates r.records r.family.tasks c.in_ok-states.states.items in
-      subst P c.in_ok-schedules.ensures.run c.in_ok-states.ensures.states;
-  own =
-      let P : OwnView → Type 0 = IsOwnOf c.args.run.now.records in
-      subst P (sym c.in_ok-regions.ensures.own) c.requires.own;
-  regions = c.in_ok-regions.ensures.regions;
-})
+invariant_of-result c =
+    rw (c.again.ensures, c.run.ensures.value, c.in_ok-schedules.ensures.run)
+    (are_states c.in_ok-schedules.schedules c.args.run.now c.args.own.now c.in_ok-states.states.items
+    c.in_ok-regions.regions c.in_ok-schedules.ensures.run c.run.ensures.is_run c.requires.own
+    c.in_ok-states.ensures.all c.in_ok-states.ensures.states c.in_ok-regions.ensures.own
+    c.in_ok-regions.ensures.regions)
 
 pub returns-clause-states : goal.returns-clause-states
-returns-clause-states c = rw (c.again.ensures, c.run.ensures.value, c.in_ok-schedules.ensures.run) (record {
-  run = subst IsRun c.in_ok-schedules.ensures.run c.run.ensures.is_run;
-  all = rw c.in_ok-schedules.ensures.run at c.in_ok-states.ensures.all;
-  each =
-      let P : RunView → Type 0 = λ r. AreStates r.records r.family.tasks c.in_ok-states.states.items in
-      subst P c.in_ok-schedules.ensures.run c.in_ok-states.ensures.states;
-  own =
-      let P : OwnView → Type 0 = IsOwnOf c.args.run.now.records in
-      subst P (sym c.in_ok-regions.ensures.own) c.requires.own;
-  regions = c.in_ok-regions.ensures.regions;
-})
+returns-clause-states c =
+    rw (c.again.ensures, c.run.ensures.value, c.in_ok-schedules.ensures.run)
+    (are_states c.in_ok-schedules.schedules c.args.run.now c.args.own.now c.in_ok-states.states.items
+    c.in_ok-regions.regions c.in_ok-schedules.ensures.run c.run.ensures.is_run c.requires.own
+    c.in_ok-states.ensures.all c.in_ok-states.ensures.states c.in_ok-regions.ensures.own
+    c.in_ok-regions.ensures.regions)
 
 pub returns-clause-run : goal.returns-clause-run
 returns-clause-run c = c.again.ensures ∙ c.run.ensures.value ∙ c.in_ok-schedules.ensures.run
