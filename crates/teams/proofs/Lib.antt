@@ -6,5 +6,5 @@ pub mod MemberLemmas
 pub mod FewestLemmas
 pub mod MissedLemmas
 pub mod EventLemmas
-pub mod SeatLemmas
+pub mod RosterLemmas
 pub mod ShortLemmas

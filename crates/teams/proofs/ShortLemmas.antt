@@ -28,14 +28,14 @@ use Rattle.teams.specs.Fewest.{AreTeamsWithin, AreShort}
 use Rattle.teams.specs.Members.{IsInTeam, in_own, in_joined, AreInTeams}
 use Rattle.teams.specs.Missed.{IsBarrierMissed}
 use Rattle.teams.proofs.MissedLemmas.{AreFewestOf}
-use Rattle.teams.specs.Seats.{IsSeatOf, AreSeats, AreSeated, LacksNothing, IsWholeBefore}
+use Rattle.teams.specs.Rosters.{IsSlotOf, AreSlots, AreEnrolled, LacksNothing, IsWholeBefore}
 use Rattle.task_states.specs.Rows.{row_items, row_at}
-use Rattle.teams.specs.Short.{IsFirstLack, AreAllSeated, IsMissedAt, IsMissedNowhere, FindsMissed, IsSearched}
+use Rattle.teams.specs.Short.{IsFirstLack, AreAllEnrolled, IsMissedAt, IsMissedNowhere, FindsMissed, IsSearched}
 use Rattle.teams.specs.Teams.{IsMemberNumbered, alone, together, AreRosters, AreBarrierBegins, IsTeams}
 use Rattle.teams.proofs.BeginLemmas.{begins_few}
 use Rattle.teams.proofs.RegionEndLemmas.{ends_at}
 use Rattle.teams.proofs.MemberLemmas.{member_place, place_member, initial_once, joined_once, teams_are}
-use Rattle.teams.proofs.SeatLemmas.{all_taken}
+use Rattle.teams.proofs.RosterLemmas.{all_taken}
 
 -- ---- the first place
 
@@ -174,17 +174,17 @@ missed_at own place there = (there.0, there.1, team_short (missed_short own.run.
 
 -- the lesser of both places
 pub searched : (own : OwnView) (rosters : List (Vec (Option ℕ))) (lacking found : Option ℕ) → IsOwn own
-    → AreAllSeated own rosters lacking → FindsMissed own (unwrap_or lacking (length own.run.records)) found
+    → AreAllEnrolled own rosters lacking → FindsMissed own (unwrap_or lacking (length own.run.records)) found
     → IsSearched own rosters (option_or found lacking)
-searched own rosters None None is seated none = (free_short own is seated.0 none, seated.1)
+searched own rosters None None is enrolled none = (free_short own is enrolled.0 none, enrolled.1)
 searched own rosters (Some place) None is lack none =
     first_place own place (lack.number, lack.stands, team_short lack.short)
     (λ k number below stands joins short. lack_first own place k number is lack below stands joins short)
     none
-searched own rosters None (Some place) is seated first =
+searched own rosters None (Some place) is enrolled first =
     first_place own place (missed_at own place first.missed)
     (λ k number below stands joins short.
-    seated.0 number (short_within own.run.records number short) joins short)
+    enrolled.0 number (short_within own.run.records number short) joins short)
     first.first
 searched own rosters (Some bound) (Some place) is lack first =
     first_place own place (missed_at own place first.missed)
@@ -229,18 +229,18 @@ begins_short rs n most tasks begins are less = λ index. elim (cases_lt index (l
 
 -- ---- the rosters
 
--- the member that a seat is of, in the words of the teams
-seat_numbered : (rs : List Record) (tasks : List ℕ) (task mate number other i : ℕ) (m : Membership)
+-- the member that a slot is of, in the words of the teams
+slot_numbered : (rs : List Record) (tasks : List ℕ) (task mate number other i : ℕ) (m : Membership)
     → at joined rs i ≡ Some m → m.member ≡ task → slice_get tasks other ≡ Some mate
-    → IsSeatOf rs (length rs) tasks m.parallel number other → IsMemberNumbered rs task number mate
-seat_numbered rs tasks task mate number other i m joins is is_mate seat =
+    → IsSlotOf rs (length rs) tasks m.parallel number other → IsMemberNumbered rs task number mate
+slot_numbered rs tasks task mate number other i m joins is is_mate slot =
     let P : ℕ → Type 0 = λ k. IsMemberNumbered rs task k mate in
-    let Q : ℕ → Type 0 = IsMemberNumbered rs task seat.m.index in
+    let Q : ℕ → Type 0 = IsMemberNumbered rs task slot.m.index in
     let own = place_member rs m.parallel (length rs) i m (at_within joined rs i m joins) joins refl in
-    let mates = place_member rs m.parallel (length rs) seat.place seat.m seat.before seat.joins seat.same in
-    subst P seat.numbered
-    (subst Q (same_Some seat.m.member mate (sym seat.here ∙ is_mate))
-    (together m.parallel m seat.m own is mates))
+    let mates = place_member rs m.parallel (length rs) slot.place slot.m slot.before slot.joins slot.same in
+    subst P slot.numbered
+    (subst Q (same_Some slot.m.member mate (sym slot.here ∙ is_mate))
+    (together m.parallel m slot.m own is mates))
 
 -- a member's number in the words of the teams
 record AreNumbered (rs : List Record) (task number mate : ℕ) : Type 0 where
@@ -274,27 +274,27 @@ numbered_cases rs task number mate (together parallel own other has_own is_own h
       numbered = refl;
     })
 
--- the one seat of an initial task
-only_seat : (seats : List (Option ℕ)) (index number other : ℕ) → seats ≡ Some index ∷ []
-    → slice_get seats number ≡ Some (Some other) → (number ≡ 0) × (other ≡ index)
-only_seat seats index number other is stands =
-    let one : length seats ≡ 1 = ap length is in
-    let inside = slice_get_within seats number (Some other) stands in
+-- the one slot of an initial task
+only_slot : (slots : List (Option ℕ)) (index number other : ℕ) → slots ≡ Some index ∷ []
+    → slice_get slots number ≡ Some (Some other) → (number ≡ 0) × (other ≡ index)
+only_slot slots index number other is stands =
+    let one : length slots ≡ 1 = ap length is in
+    let inside = slice_get_within slots number (Some other) stands in
     let first : number ≡ 0 = omega (arith, one, inside) in (
       first,
       same_Some other index
           (same_Some (Some other) (Some index)
-          (sym stands ∙ ap (slice_get seats) first ∙ ap (λ l. slice_get l 0) is)),
+          (sym stands ∙ ap (slice_get slots) first ∙ ap (λ l. slice_get l 0) is)),
     )
 
 own_numbered : (rs : List Record) (tasks : List ℕ) (index task other mate number : ℕ)
-    (seats : List (Option ℕ))
+    (slots : List (Option ℕ))
     → IsFreeOf rs CreatedTwice → AreApart tasks → IsInitial rs task → slice_get tasks index ≡ Some task
-    → slice_get tasks other ≡ Some mate → seats ≡ Some index ∷ []
-    → (slice_get seats number ≡ Some (Some other)) ↔ IsMemberNumbered rs task number mate
-own_numbered rs tasks index task other mate number seats free apart initial is_task is_mate is = (
+    → slice_get tasks other ≡ Some mate → slots ≡ Some index ∷ []
+    → (slice_get slots number ≡ Some (Some other)) ↔ IsMemberNumbered rs task number mate
+own_numbered rs tasks index task other mate number slots free apart initial is_task is_mate is = (
   λ stands.
-      let only = only_seat seats index number other is stands in
+      let only = only_slot slots index number other is stands in
       let P : ℕ → Type 0 = λ k. IsMemberNumbered rs task k mate in
       let Q : ℕ → Type 0 = IsMemberNumbered rs task 0 in
       let same : task ≡ mate =
@@ -303,7 +303,7 @@ own_numbered rs tasks index task other mate number seats free apart initial is_t
   λ numbered. elim (numbered_cases rs task number mate numbered) [
     | inl own ↦
         let same : other ≡ index = apart other index task (is_mate ∙ ap Some own.1) is_task in
-        ap (slice_get seats) own.2 ∙ ap (λ l. slice_get l 0) is ∙ ap (λ k. Some (Some k)) (sym same)
+        ap (slice_get slots) own.2 ∙ ap (λ l. slice_get l 0) is ∙ ap (λ k. Some (Some k)) (sym same)
     | inr both ↦
         absurd
         (initial_once rs initial.0 both.own_place task both.own free initial.1 both.own_joins both.own_is)
@@ -311,12 +311,12 @@ own_numbered rs tasks index task other mate number seats free apart initial is_t
 )
 
 joined_numbered : (rs : List Record) (tasks : List ℕ) (task other mate number i : ℕ) (m : Membership)
-    (seats : List (Option ℕ))
+    (slots : List (Option ℕ))
     → IsFreeOf rs CreatedTwice → at joined rs i ≡ Some m → m.member ≡ task → slice_get tasks other ≡ Some mate
-    → AreSeats rs (length rs) tasks m.parallel seats
-    → (slice_get seats number ≡ Some (Some other)) ↔ IsMemberNumbered rs task number mate
-joined_numbered rs tasks task other mate number i m seats free joins is is_mate are = (
-  λ stands. seat_numbered rs tasks task mate number other i m joins is is_mate (are.only number other stands),
+    → AreSlots rs (length rs) tasks m.parallel slots
+    → (slice_get slots number ≡ Some (Some other)) ↔ IsMemberNumbered rs task number mate
+joined_numbered rs tasks task other mate number i m slots free joins is is_mate are = (
+  λ stands. slot_numbered rs tasks task mate number other i m joins is is_mate (are.only number other stands),
   λ numbered. elim (numbered_cases rs task number mate numbered) [
     | inl own ↦ absurd (initial_once rs own.0.0 i task m free own.0.1 joins is)
     | inr both ↦
@@ -324,8 +324,8 @@ joined_numbered rs tasks task other mate number i m seats free joins is is_mate 
         (joined_once rs both.own_place i both.own m free both.own_joins joins (both.own_is ∙ sym is)).1 in
         let same : both.other.parallel ≡ m.parallel =
         sym both.same ∙ ap (λ (x : Membership). x.parallel) one in
-        ap (slice_get seats) (sym both.numbered)
-        ∙ are.seated both.other_place other both.other
+        ap (slice_get slots) (sym both.numbered)
+        ∙ are.enrolled both.other_place other both.other
         (at_within joined rs both.other_place both.other both.other_joins) both.other_joins same
         (is_mate ∙ ap Some (sym both.other_is))
   ],
@@ -333,7 +333,7 @@ joined_numbered rs tasks task other mate number i m seats free joins is is_mate 
 
 numbered_in : (rs : List Record) (tasks : List ℕ) (rosters : List (Vec (Option ℕ)))
     (index task team other mate number : ℕ) (roster : Vec (Option ℕ))
-    → IsFreeOf rs CreatedTwice → AreApart tasks → AreSeated rs (length rs) tasks rosters
+    → IsFreeOf rs CreatedTwice → AreApart tasks → AreEnrolled rs (length rs) tasks rosters
     → slice_get tasks index ≡ Some task → slice_get rosters team ≡ Some roster
     → slice_get tasks other ≡ Some mate → IsInTeam rs (length rs) tasks index task team
     → (slice_get roster.items number ≡ Some (Some other)) ↔ IsMemberNumbered rs task number mate
@@ -346,27 +346,27 @@ numbered_in rs tasks rosters index task team other mate number roster free apart
     joined_numbered rs tasks task other mate number i m roster.items free joins is is_mate
     (are.each m.parallel team roster leads is_roster)
 
--- a team has no empty seat where all its members began
-full_seats : (rs : List Record) (tasks : List ℕ) (parallel number : ℕ) (seats : List (Option ℕ))
-    → AreSeats rs (length rs) tasks parallel seats → number < length seats
-    → (other : ℕ) × (slice_get seats number ≡ Some (Some other)) × (other < length tasks)
-full_seats rs tasks parallel number seats are within =
+-- a team has no empty slot where all its members began
+full_slots : (rs : List Record) (tasks : List ℕ) (parallel number : ℕ) (slots : List (Option ℕ))
+    → AreSlots rs (length rs) tasks parallel slots → number < length slots
+    → (other : ℕ) × (slice_get slots number ≡ Some (Some other)) × (other < length tasks)
+full_slots rs tasks parallel number slots are within =
     let long = are.long in
     let rest = are.rest in
-    let found = all_taken seats number (omega (arith, long, rest)) within in
-    let seat = are.only number found.0 found.1 in
-    (found.0, found.1, slice_get_within tasks found.0 seat.m.member seat.here)
+    let found = all_taken slots number (omega (arith, long, rest)) within in
+    let slot = are.only number found.0 found.1 in
+    (found.0, found.1, slice_get_within tasks found.0 slot.m.member slot.here)
 
 full_roster : (rs : List Record) (tasks : List ℕ) (rosters : List (Vec (Option ℕ))) (team number : ℕ)
     (roster : Vec (Option ℕ))
-    → AreSeated rs (length rs) tasks rosters → slice_get rosters team ≡ Some roster
+    → AreEnrolled rs (length rs) tasks rosters → slice_get rosters team ≡ Some roster
     → number < length roster.items
     → (other : ℕ) × (slice_get roster.items number ≡ Some (Some other)) × (other < length tasks)
 full_roster rs tasks rosters team number roster are stands within = elim (are.other team roster stands) [
   | inl none ↦
       let nothing : length roster.items ≡ 0 = ap length none in absurd (omega (arith, nothing, within))
   | inr (inl leads) ↦
-      full_seats rs tasks leads.0 number roster.items (are.each leads.0 team roster leads.1 stands) within
+      full_slots rs tasks leads.0 number roster.items (are.each leads.0 team roster leads.1 stands) within
   | inr (inr own) ↦
       let is = are.own team own.0 roster own.1 own.2 stands in
       let one : length roster.items ≡ 1 = ap length is in
@@ -380,19 +380,19 @@ full_roster rs tasks rosters team number roster are stands within = elim (are.ot
 pub rosters_are : (rs : List Record) (tasks : List ℕ) (teams : List (Option ℕ))
     (rosters : List (Vec (Option ℕ)))
     → IsFreeOf rs CreatedTwice → AreApart tasks → AreInTeams rs (length rs) tasks teams
-    → AreSeated rs (length rs) tasks rosters → AreRosters rs tasks teams rosters
-rosters_are rs tasks teams rosters free apart are seated = record {
+    → AreEnrolled rs (length rs) tasks rosters → AreRosters rs tasks teams rosters
+rosters_are rs tasks teams rosters free apart are enrolled = record {
   within =
       λ index team stands.
       let inside = teams_within rs (length rs) tasks teams are index team stands in
-      let all = are.all in let all_rosters = seated.all in omega (arith, inside, all, all_rosters);
+      let all = are.all in let all_rosters = enrolled.all in omega (arith, inside, all, all_rosters);
   each =
       λ index task team number other mate roster is_task is_team is_roster is_mate.
-      numbered_in rs tasks rosters index task team other mate number roster free apart seated is_task
+      numbered_in rs tasks rosters index task team other mate number roster free apart enrolled is_task
       is_roster is_mate (are.known index task team is_task is_team);
   full =
       λ team number roster is_roster within.
-      full_roster rs tasks rosters team number roster seated is_roster within;
+      full_roster rs tasks rosters team number roster enrolled is_roster within;
 }
 
 -- ---- the tables

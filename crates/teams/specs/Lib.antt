@@ -7,5 +7,5 @@ pub mod Members
 pub mod Fewest
 pub mod Tables
 pub mod Missed
-pub mod Seats
+pub mod Rosters
 pub mod Short

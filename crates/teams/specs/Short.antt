@@ -9,7 +9,7 @@ use Rattle.ompt_events.specs.Places.{at}
 use Rattle.ompt_events.specs.Causes.{IsFreeOf, IsShort}
 use Rattle.task_tree.specs.Own.{OwnView, IsFirstPlaceWith}
 use Rattle.teams.specs.Missed.{IsBarrierMissed}
-use Rattle.teams.specs.Seats.{AreSeated, IsWholeBefore}
+use Rattle.teams.specs.Rosters.{AreEnrolled, IsWholeBefore}
 
 -- the record with this number, which is at the place in the file, is the first in the tasks' own order at
 -- which a member begins that shows a team which lacks a member
@@ -20,12 +20,12 @@ pub record IsFirstLack (own : OwnView) (place : ℕ) : Type 0 where
   pub short : IsShort own.run.records number
   pub first : IsWholeBefore own.run.records number
 
--- each member has its seat, and none shows such a team; or this is the first place at which one does
-abbrev pub AreAllSeated : OwnView → List (Vec (Option ℕ)) → Option ℕ → Type 0
-AreAllSeated own rosters None =
+-- each member has its slot, and none shows such a team; or this is the first place at which one does
+abbrev pub AreAllEnrolled : OwnView → List (Vec (Option ℕ)) → Option ℕ → Type 0
+AreAllEnrolled own rosters None =
     IsWholeBefore own.run.records (length own.run.records)
-    × AreSeated own.run.records (length own.run.records) own.run.family.tasks rosters
-AreAllSeated own rosters (Some place) = IsFirstLack own place
+    × AreEnrolled own.run.records (length own.run.records) own.run.family.tasks rosters
+AreAllEnrolled own rosters (Some place) = IsFirstLack own place
 
 -- a barrier ends at the place in the file that a member of the team doesn't begin
 abbrev pub IsMissedAt : OwnView → ℕ → Type 0
@@ -46,10 +46,10 @@ pub record IsFirstMissedBarrier (own : OwnView) (end place : ℕ) : Type 0 where
 abbrev pub FindsMissed : OwnView → ℕ → Option ℕ → Type 0
 FindsMissed own end found = MatchOption found (IsMissedNowhere own end) (IsFirstMissedBarrier own end)
 
--- no record shows a team or a barrier that lacks a member, and each member has its seat; or this is the
+-- no record shows a team or a barrier that lacks a member, and each member has its slot; or this is the
 -- first place in the file at which one does
 abbrev pub IsSearched : OwnView → List (Vec (Option ℕ)) → Option ℕ → Type 0
 IsSearched own rosters None =
     IsFreeOf own.run.records TeamShort
-    × AreSeated own.run.records (length own.run.records) own.run.family.tasks rosters
+    × AreEnrolled own.run.records (length own.run.records) own.run.family.tasks rosters
 IsSearched own rosters (Some place) = IsFirstPlaceWith own TeamShort place

@@ -5,7 +5,7 @@
 //! Read `teams` first, what a caller sees, then the steps of a build: `tables` brings together `begins`
 //! (the places at which tasks begin barriers), `members` (the team of each task) and `fewest` (the least
 //! number of barriers in a team). These are used by `missed` (barriers that a member doesn't begin),
-//! `seats` (the members by their numbers), and `short`, the search for the first place at which a record
+//! `rosters` (the members by their numbers), and `short`, the search for the first place at which a record
 //! shows that a member is missing.
 #![tactic(auto)]
 
@@ -13,7 +13,7 @@ mod begins;
 mod fewest;
 mod members;
 mod missed;
-mod seats;
+mod rosters;
 mod short;
 mod tables;
 mod teams;

@@ -11,7 +11,7 @@ ghost use Rattle.task_states.specs.Rows.{row_at};
 ghost use Rattle.teams.specs.Teams.{own_of, IsTeams};
 
 use crate::missed::{BarrierEnd, barrier_end};
-use crate::seats::empty_rosters;
+use crate::rosters::empty_rosters;
 use crate::short::find_short;
 use crate::tables::Tables;
 use index_tables::Slot;

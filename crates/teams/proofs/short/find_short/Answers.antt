@@ -9,8 +9,8 @@ use Rattle.teams.proofs.short.find_short.Goals as goal
 pub returns : goal.returns
 returns c =
     let own = tables_own c.args.tables.now in
-    let rosters = c.seat_members-lacking.new.rosters.items in
-    let lacking = c.seat_members-lacking.result in
+    let rosters = c.enrol_members-lacking.new.rosters.items in
+    let lacking = c.enrol_members-lacking.result in
     let count : c.len.result ≡ length own.run.records =
     c.len.ensures.value ∙ ap (λ (r : RunView). length r.records) c.run.ensures.value in
     let end : c.unwrap_or-end.result ≡ unwrap_or lacking (length own.run.records) =
@@ -19,4 +19,4 @@ returns c =
     let Q : Option ℕ → Type 0 = IsSearched own rosters in
     subst Q (sym c.or.ensures)
     (searched own rosters lacking c.find_missed.result c.run.ensures.are_tables.placed
-    c.seat_members-lacking.ensures (subst P end c.find_missed.ensures))
+    c.enrol_members-lacking.ensures (subst P end c.find_missed.ensures))

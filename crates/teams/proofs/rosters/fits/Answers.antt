@@ -7,8 +7,8 @@ use Rattle.ompt_events.specs.Places.{at}
 use Rattle.ompt_events.specs.Causes.{outside}
 use Rattle.task_tree.specs.Runs.{RunView}
 use Rattle.teams.proofs.MemberLemmas.{lead_within}
-use Rattle.teams.proofs.SeatLemmas.{says_other, too_small, fits_there}
-use Rattle.teams.proofs.seats.fits.Goals as goal
+use Rattle.teams.proofs.RosterLemmas.{says_other, too_small, fits_there}
+use Rattle.teams.proofs.rosters.fits.Goals as goal
 
 pub returns-then-member : goal.returns-then-member
 returns-then-member c = outside c.args.member c.requires.joins.joins c.if-member.true

@@ -6,9 +6,9 @@ use Rattle.task_tree.specs.Runs.{RunView}
 use Rattle.task_tree.specs.Subjects.{Calls}
 use Rattle.teams.proofs.CallLemmas.{call_same, read_at}
 use Rattle.teams.proofs.MemberLemmas.{joined_at_root, never_of, lead_there, lead_within}
-use Rattle.teams.proofs.SeatLemmas.{lacks_none, seated_same, seated_more, seat_within, seat_taken, seat_free}
-use Rattle.teams.proofs.SeatLemmas.{lead_of_member}
-use Rattle.teams.proofs.seats.lacks_member.Goals as goal
+use Rattle.teams.proofs.RosterLemmas.{lacks_none, enrolled_same, enrolled_more, slot_within, slot_taken, slot_free}
+use Rattle.teams.proofs.RosterLemmas.{lead_of_member}
+use Rattle.teams.proofs.rosters.lacks_member.Goals as goal
 
 pub returns-in_default : goal.returns-in_default
 returns-in_default c =
@@ -17,8 +17,8 @@ returns-in_default c =
     let none : at joined tables.run.records c.args.at ≡ None =
     sym (subst P c.run-run.ensures.value c.joined.ensures) ∙ c.in_default.is in (
       lacks_none tables.run.records c.args.at none,
-      seated_same tables.run.records c.args.at tables.run.family.tasks c.args.rosters.now.items
-          c.requires.seated none,
+      enrolled_same tables.run.records c.args.at tables.run.family.tasks c.args.rosters.now.items
+          c.requires.enrolled none,
     )
 
 pub team-requires : goal.team-requires
@@ -111,11 +111,11 @@ index_mut-requires c =
     (c.team.ensures ∙ ap Some c.in-Some-team.is) in
     let leads = lead_of_member rs tasks c.args.at lead m there joins in
     let within : lead < length c.args.rosters.now.items =
-    lead_within rs tasks c.args.rosters.now.items m.parallel lead leads c.requires.seated.all in
+    lead_within rs tasks c.args.rosters.now.items m.parallel lead leads c.requires.enrolled.all in
     search rules
 
-pub take_seat-requires-clause-inside : goal.take_seat-requires-clause-inside
-take_seat-requires-clause-inside c =
+pub take_slot-requires-clause-inside : goal.take_slot-requires-clause-inside
+take_slot-requires-clause-inside c =
     let tables = c.args.tables.now in
     let rs = tables.run.records in
     let tasks = tables.run.family.tasks in
@@ -137,13 +137,13 @@ take_seat-requires-clause-inside c =
     (c.team.ensures ∙ ap Some c.in-Some-team.is) in
     let leads = lead_of_member rs tasks c.args.at lead m there joins in
     let old = c.index_mut.result.now in
-    let within = lead_within rs tasks c.args.rosters.now.items m.parallel lead leads c.requires.seated.all in
+    let within = lead_within rs tasks c.args.rosters.now.items m.parallel lead leads c.requires.enrolled.all in
     let stands = read_at c.args.rosters.now.items lead old within c.index_mut.ensures.value in
-    let seats = c.requires.seated.each m.parallel lead old leads stands in
-    seat_within rs c.args.at tasks m old.items c.if-not-fits.ensures seats
+    let slots = c.requires.enrolled.each m.parallel lead old leads stands in
+    slot_within rs c.args.at tasks m old.items c.if-not-fits.ensures slots
 
-pub take_seat-requires-clause-small : goal.take_seat-requires-clause-small
-take_seat-requires-clause-small c =
+pub take_slot-requires-clause-small : goal.take_slot-requires-clause-small
+take_slot-requires-clause-small c =
     let tables = c.args.tables.now in
     let rs = tables.run.records in
     let tasks = tables.run.family.tasks in
@@ -164,8 +164,8 @@ take_seat-requires-clause-small c =
     let many = are.run.trace.few_records in
     omega (arith, inside, few, many)
 
-pub returns-then-take_seat : goal.returns-then-take_seat
-returns-then-take_seat c =
+pub returns-then-take_slot : goal.returns-then-take_slot
+returns-then-take_slot c =
     let tables = c.args.tables.now in
     let rs = tables.run.records in
     let tasks = tables.run.family.tasks in
@@ -187,14 +187,14 @@ returns-then-take_seat c =
     (c.team.ensures ∙ ap Some c.in-Some-team.is) in
     let leads = lead_of_member rs tasks c.args.at lead m there joins in
     let old = c.index_mut.result.now in
-    let within = lead_within rs tasks c.args.rosters.now.items m.parallel lead leads c.requires.seated.all in
+    let within = lead_within rs tasks c.args.rosters.now.items m.parallel lead leads c.requires.enrolled.all in
     let stands = read_at c.args.rosters.now.items lead old within c.index_mut.ensures.value in
-    let seats = c.requires.seated.each m.parallel lead old leads stands in (
-      seat_free rs c.args.at tasks m old.items are.run.family.noted joins c.if-not-fits.ensures seats
-          c.if-take_seat.ensures.0,
-      seated_more rs c.args.at tasks c.args.rosters.now.items m lead index old c.take_seat.new.roster
-          are.run.family.once are.run.family.makers.apart c.requires.seated joins leads is stands
-          c.if-take_seat.ensures.0 c.if-take_seat.ensures.1,
+    let slots = c.requires.enrolled.each m.parallel lead old leads stands in (
+      slot_free rs c.args.at tasks m old.items are.run.family.noted joins c.if-not-fits.ensures slots
+          c.if-take_slot.ensures.0,
+      enrolled_more rs c.args.at tasks c.args.rosters.now.items m lead index old c.take_slot.new.roster
+          are.run.family.once are.run.family.makers.apart c.requires.enrolled joins leads is stands
+          c.if-take_slot.ensures.0 c.if-take_slot.ensures.1,
     )
 
 pub returns-then-not-fits : goal.returns-then-not-fits
@@ -227,10 +227,10 @@ returns c =
     (c.team.ensures ∙ ap Some c.in-Some-team.is) in
     let leads = lead_of_member rs tasks c.args.at lead m there joins in
     let old = c.index_mut.result.now in
-    let within = lead_within rs tasks c.args.rosters.now.items m.parallel lead leads c.requires.seated.all in
+    let within = lead_within rs tasks c.args.rosters.now.items m.parallel lead leads c.requires.enrolled.all in
     let stands = read_at c.args.rosters.now.items lead old within c.index_mut.ensures.value in
-    let seats = c.requires.seated.each m.parallel lead old leads stands in (
+    let slots = c.requires.enrolled.each m.parallel lead old leads stands in (
       ap is_some joins,
-      seat_taken rs c.args.at tasks m old.items c.if-take_seat.ensures.0 joins seats
-          c.if-take_seat.ensures.1,
+      slot_taken rs c.args.at tasks m old.items c.if-take_slot.ensures.0 joins slots
+          c.if-take_slot.ensures.1,
     )

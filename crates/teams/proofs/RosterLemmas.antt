@@ -1,4 +1,4 @@
--- The seats of the members of a team.
+-- The slots of the members of a team.
 use Rattle.std.proofs.Common.{◌≡◌, ◌≢◌, ◌∙◌, ℕ, zero, suc, ◌<◌, ◌≤◌, ◌+◌, List, [], ◌∷◌, ◌++◌, length, get_or}
 use Rattle.std.proofs.Common.{Option, Some, None, refl, sym, ap, subst, arith, inl, inr, ◌⊎◌}
 use Rattle.std.proofs.lemmas.Bool.{cases_eq, cases_lt, cases_order}
@@ -21,51 +21,51 @@ use Rattle.index_tables.specs.Numbering.{AreApart}
 use Rattle.task_tree.proofs.LinkLemmas.{get_set_same, get_set_other}
 use Rattle.task_tree.proofs.OnceLemmas.{made_once}
 use Rattle.teams.specs.Members.{IsLead, IsLeadAt, AreSizes}
-use Rattle.teams.specs.Seats.{empty_seats, IsSeatOf, AreSeats, AreSeated, AreFirstSeats, own_seat, empty}
-use Rattle.teams.specs.Seats.{AreFirstRosters, FitsTeam, HasSeat, LacksNothing, IsWholeBefore}
+use Rattle.teams.specs.Rosters.{empty_slots, IsSlotOf, AreSlots, AreEnrolled, AreFirstSlots, own_slot, empty}
+use Rattle.teams.specs.Rosters.{AreFirstRosters, FitsTeam, HasSlot, LacksNothing, IsWholeBefore}
 use Rattle.teams.proofs.MemberLemmas.{never_of, joined_at_made, initial_at_made, joined_once, own_lead}
 use Rattle.teams.proofs.MemberLemmas.{members_pushed, members_same, member_place, place_member, lead_one}
 use Rattle.teams.proofs.MemberLemmas.{lead_other}
 
--- ---- empty seats
+-- ---- empty slots
 
-empty_set : (seats : List (Option ℕ)) (number index : ℕ) → slice_get seats number ≡ Some None
-    → empty_seats (set seats number (Some index)) + 1 ≡ empty_seats seats
+empty_set : (slots : List (Option ℕ)) (number index : ℕ) → slice_get slots number ≡ Some None
+    → empty_slots (set slots number (Some index)) + 1 ≡ empty_slots slots
 empty_set [] number index is = absurd (none-some None is)
-empty_set (None ∷ seats) zero index is = omega arith
-empty_set (Some other ∷ seats) zero index is = absurd (none-some other (sym (same_Some (Some other) None is)))
-empty_set (None ∷ seats) (suc k) index is = let rest = empty_set seats k index is in omega (arith, rest)
-empty_set (Some other ∷ seats) (suc k) index is = empty_set seats k index is
+empty_set (None ∷ slots) zero index is = omega arith
+empty_set (Some other ∷ slots) zero index is = absurd (none-some other (sym (same_Some (Some other) None is)))
+empty_set (None ∷ slots) (suc k) index is = let rest = empty_set slots k index is in omega (arith, rest)
+empty_set (Some other ∷ slots) (suc k) index is = empty_set slots k index is
 
-empty_all : (seats : List (Option ℕ)) → ((number index : ℕ) → slice_get seats number ≡ Some (Some index) → ⊥)
-    → empty_seats seats ≡ length seats
+empty_all : (slots : List (Option ℕ)) → ((number index : ℕ) → slice_get slots number ≡ Some (Some index) → ⊥)
+    → empty_slots slots ≡ length slots
 empty_all [] none = refl
-empty_all (None ∷ seats) none =
-    let rest = empty_all seats (λ number index is. none (suc number) index is) in omega (arith, rest)
-empty_all (Some other ∷ seats) none = absurd (none zero other refl)
+empty_all (None ∷ slots) none =
+    let rest = empty_all slots (λ number index is. none (suc number) index is) in omega (arith, rest)
+empty_all (Some other ∷ slots) none = absurd (none zero other refl)
 
-empty_none : (seats : List (Option ℕ)) (number : ℕ) → empty_seats seats ≡ 0
-    → slice_get seats number ≡ Some None → ⊥
+empty_none : (slots : List (Option ℕ)) (number : ℕ) → empty_slots slots ≡ 0
+    → slice_get slots number ≡ Some None → ⊥
 empty_none [] number none_left is = none-some None is
-empty_none (None ∷ seats) number none_left is = omega (arith, none_left)
-empty_none (Some other ∷ seats) zero none_left is = none-some other (sym (same_Some (Some other) None is))
-empty_none (Some other ∷ seats) (suc k) none_left is = empty_none seats k none_left is
+empty_none (None ∷ slots) number none_left is = omega (arith, none_left)
+empty_none (Some other ∷ slots) zero none_left is = none-some other (sym (same_Some (Some other) None is))
+empty_none (Some other ∷ slots) (suc k) none_left is = empty_none slots k none_left is
 
-pub all_taken : (seats : List (Option ℕ)) (number : ℕ) → empty_seats seats ≡ 0 → number < length seats
-    → (index : ℕ) × (slice_get seats number ≡ Some (Some index))
-all_taken seats number none_left within =
-    of (get_or seats number None) (slice_get-get_or seats number None within)
+pub all_taken : (slots : List (Option ℕ)) (number : ℕ) → empty_slots slots ≡ 0 → number < length slots
+    → (index : ℕ) × (slice_get slots number ≡ Some (Some index))
+all_taken slots number none_left within =
+    of (get_or slots number None) (slice_get-get_or slots number None within)
   where
-    of : (slot : Option ℕ) → slice_get seats number ≡ Some slot
-        → (index : ℕ) × (slice_get seats number ≡ Some (Some index))
-    of None is = absurd (empty_none seats number none_left is)
+    of : (slot : Option ℕ) → slice_get slots number ≡ Some slot
+        → (index : ℕ) × (slice_get slots number ≡ Some (Some index))
+    of None is = absurd (empty_none slots number none_left is)
     of (Some index) is = (index, is)
 
 -- ---- a record that lets a member in
 
-seat_later : (rs : List Record) (n : ℕ) (tasks : List ℕ) (parallel number index : ℕ)
-    → IsSeatOf rs n tasks parallel number index → IsSeatOf rs (n + 1) tasks parallel number index
-seat_later rs n tasks parallel number index is = record {
+slot_later : (rs : List Record) (n : ℕ) (tasks : List ℕ) (parallel number index : ℕ)
+    → IsSlotOf rs n tasks parallel number index → IsSlotOf rs (n + 1) tasks parallel number index
+slot_later rs n tasks parallel number index is = record {
   place = is.place;
   m = is.m;
   before = let h = is.before in omega (arith, h);
@@ -75,46 +75,46 @@ seat_later rs n tasks parallel number index is = record {
   here = is.here;
 }
 
-seats_same : (rs : List Record) (n : ℕ) (tasks : List ℕ) (parallel : ℕ) (seats : List (Option ℕ))
+slots_same : (rs : List Record) (n : ℕ) (tasks : List ℕ) (parallel : ℕ) (slots : List (Option ℕ))
     → ((m : Membership) → at joined rs n ≡ Some m → m.parallel ≡ parallel → ⊥)
-    → AreSeats rs n tasks parallel seats → AreSeats rs (n + 1) tasks parallel seats
-seats_same rs n tasks parallel seats never are = record {
+    → AreSlots rs n tasks parallel slots → AreSlots rs (n + 1) tasks parallel slots
+slots_same rs n tasks parallel slots never are = record {
   long = are.long;
-  rest = ap (λ l. empty_seats seats + length l) (members_same rs parallel n never) ∙ are.rest;
-  seated = λ k index m below joins same is. elim (cases_eq k n) [
+  rest = ap (λ l. empty_slots slots + length l) (members_same rs parallel n never) ∙ are.rest;
+  enrolled = λ k index m below joins same is. elim (cases_eq k n) [
     | inl last ↦ absurd (never m (ap (at joined rs) (sym last) ∙ joins) same)
-    | inr earlier ↦ are.seated k index m (omega (arith, below, earlier)) joins same is
+    | inr earlier ↦ are.enrolled k index m (omega (arith, below, earlier)) joins same is
   ];
-  only = λ number index is. seat_later rs n tasks parallel number index (are.only number index is);
+  only = λ number index is. slot_later rs n tasks parallel number index (are.only number index is);
 }
 
-seats_more : (rs : List Record) (n : ℕ) (tasks : List ℕ) (m : Membership) (own : ℕ) (seats : List (Option ℕ))
+slots_more : (rs : List Record) (n : ℕ) (tasks : List ℕ) (m : Membership) (own : ℕ) (slots : List (Option ℕ))
     → AreApart tasks → at joined rs n ≡ Some m → slice_get tasks own ≡ Some m.member
-    → slice_get seats m.index ≡ Some None → AreSeats rs n tasks m.parallel seats
-    → AreSeats rs (n + 1) tasks m.parallel (set seats m.index (Some own))
-seats_more rs n tasks m own seats apart joins is_own free are = record {
-  long = length-set seats m.index (Some own) ∙ are.long;
+    → slice_get slots m.index ≡ Some None → AreSlots rs n tasks m.parallel slots
+    → AreSlots rs (n + 1) tasks m.parallel (set slots m.index (Some own))
+slots_more rs n tasks m own slots apart joins is_own free are = record {
+  long = length-set slots m.index (Some own) ∙ are.long;
   rest =
-      let fewer = empty_set seats m.index own free in
+      let fewer = empty_set slots m.index own free in
       let more =
       ap length (members_pushed rs m.parallel n m joins refl)
       ∙ length_push (members_before rs m.parallel n) m in
-      let long = length-set seats m.index (Some own) in
+      let long = length-set slots m.index (Some own) in
       let before = are.rest in
       omega (arith, fewer, more, long, before);
-  seated = λ k index e below joins' same is. elim (cases_eq k n) [
+  enrolled = λ k index e below joins' same is. elim (cases_eq k n) [
     | inl last ↦
         let is_m : m ≡ e = same_Some m e (sym joins ∙ ap (at joined rs) (sym last) ∙ joins') in
         let one : own ≡ index =
         apart own index e.member (is_own ∙ ap (λ (x : Membership). Some x.member) is_m) is in
-        ap (slice_get (set seats m.index (Some own))) (ap (λ (x : Membership). x.index) (sym is_m))
-        ∙ get_set_same seats m.index (Some own) within ∙ ap (λ x. Some (Some x)) one
+        ap (slice_get (set slots m.index (Some own))) (ap (λ (x : Membership). x.index) (sym is_m))
+        ∙ get_set_same slots m.index (Some own) within ∙ ap (λ x. Some (Some x)) one
     | inr earlier ↦
-        let old = are.seated k index e (omega (arith, below, earlier)) joins' same is in
-        get_set_other seats m.index e.index (Some own)
+        let old = are.enrolled k index e (omega (arith, below, earlier)) joins' same is in
+        get_set_other slots m.index e.index (Some own)
         (λ one.
         none-some index
-        (same_Some None (Some index) (sym free ∙ ap (slice_get seats) (sym one) ∙ old)))
+        (same_Some None (Some index) (sym free ∙ ap (slice_get slots) (sym one) ∙ old)))
         ∙ old
   ];
   only = λ number index stands. elim (cases_eq number m.index) [
@@ -129,38 +129,38 @@ seats_more rs n tasks m own seats apart joins is_own free are = record {
           ap (slice_get tasks)
           (same_Some index own
           (same_Some (Some index) (Some own)
-          (sym stands ∙ ap (slice_get (set seats m.index (Some own))) one
-          ∙ get_set_same seats m.index (Some own) within)))
+          (sym stands ∙ ap (slice_get (set slots m.index (Some own))) one
+          ∙ get_set_same slots m.index (Some own) within)))
           ∙ is_own;
     }
     | inr different ↦
-        seat_later rs n tasks m.parallel number index
-        (are.only number index (sym (get_set_other seats m.index number (Some own) different) ∙ stands))
+        slot_later rs n tasks m.parallel number index
+        (are.only number index (sym (get_set_other slots m.index number (Some own) different) ∙ stands))
   ];
 }
   where
-    within : m.index < length seats
-    within = slice_get_within seats m.index None free
+    within : m.index < length slots
+    within = slice_get_within slots m.index None free
 
-pub seated_same : (rs : List Record) (n : ℕ) (tasks : List ℕ) (rosters : List (Vec (Option ℕ)))
-    → AreSeated rs n tasks rosters → at joined rs n ≡ None → AreSeated rs (n + 1) tasks rosters
-seated_same rs n tasks rosters are none = record {
+pub enrolled_same : (rs : List Record) (n : ℕ) (tasks : List ℕ) (rosters : List (Vec (Option ℕ)))
+    → AreEnrolled rs n tasks rosters → at joined rs n ≡ None → AreEnrolled rs (n + 1) tasks rosters
+enrolled_same rs n tasks rosters are none = record {
   all = are.all;
   each =
       λ parallel lead roster leads stands.
-      seats_same rs n tasks parallel roster.items (λ m joins same. never_of (at joined rs n) m none joins)
+      slots_same rs n tasks parallel roster.items (λ m joins same. never_of (at joined rs n) m none joins)
       (are.each parallel lead roster leads stands);
   own = are.own;
   other = are.other;
 }
 
-pub seated_more : (rs : List Record) (n : ℕ) (tasks : List ℕ) (rosters : List (Vec (Option ℕ)))
+pub enrolled_more : (rs : List Record) (n : ℕ) (tasks : List ℕ) (rosters : List (Vec (Option ℕ)))
     (m : Membership) (lead own : ℕ) (old new : Vec (Option ℕ))
-    → IsFreeOf rs CreatedTwice → AreApart tasks → AreSeated rs n tasks rosters → at joined rs n ≡ Some m
+    → IsFreeOf rs CreatedTwice → AreApart tasks → AreEnrolled rs n tasks rosters → at joined rs n ≡ Some m
     → IsLead rs tasks m.parallel lead → slice_get tasks own ≡ Some m.member
     → slice_get rosters lead ≡ Some old → slice_get old.items m.index ≡ Some None
-    → new.items ≡ set old.items m.index (Some own) → AreSeated rs (n + 1) tasks (set rosters lead new)
-seated_more rs n tasks rosters m lead own old new free apart are joins leads is_own stands_old is_free is_new
+    → new.items ≡ set old.items m.index (Some own) → AreEnrolled rs (n + 1) tasks (set rosters lead new)
+enrolled_more rs n tasks rosters m lead own old new free apart are joins leads is_own stands_old is_free is_new
     =
     record {
       all = length-set rosters lead new ∙ are.all;
@@ -173,14 +173,14 @@ seated_more rs n tasks rosters m lead own old new free apart are joins leads is_
             same_Some new roster
             (sym (get_set_same rosters lead new (slice_get_within rosters lead old stands_old))
             ∙ ap (slice_get (set rosters lead new)) (sym same) ∙ stands) in
-            let Q : ℕ → Type 0 = λ p. AreSeats rs (n + 1) tasks p roster.items in
-            let R : List (Option ℕ) → Type 0 = AreSeats rs (n + 1) tasks m.parallel in
+            let Q : ℕ → Type 0 = λ p. AreSlots rs (n + 1) tasks p roster.items in
+            let R : List (Option ℕ) → Type 0 = AreSlots rs (n + 1) tasks m.parallel in
             subst Q is_parallel
             (subst R (sym is_new ∙ ap (λ (v : Vec (Option ℕ)). v.items) is_roster)
-            (seats_more rs n tasks m own old.items apart joins is_own is_free
+            (slots_more rs n tasks m own old.items apart joins is_own is_free
             (are.each m.parallel lead old leads stands_old)))
         | inr different ↦
-            seats_same rs n tasks parallel roster.items
+            slots_same rs n tasks parallel roster.items
             (λ e joins' same.
             let is_m : m ≡ e = same_Some m e (sym joins ∙ joins') in
             let P : ℕ → Type 0 = λ p. IsLead rs tasks p lead in
@@ -265,29 +265,29 @@ fits_there rs i tasks sizes lead size m leads are whole stands enough inside sam
   one_size = λ e has. one_size rs i tasks lead m e leads whole has ∙ same;
 }
 
--- ---- whether its seat is empty
+-- ---- whether its slot is empty
 
-pub seat_within : (rs : List Record) (i : ℕ) (tasks : List ℕ) (m : Membership) (seats : List (Option ℕ))
-    → FitsTeam rs i m → AreSeats rs i tasks m.parallel seats → m.index < length seats
-seat_within rs i tasks m seats fits are =
+pub slot_within : (rs : List Record) (i : ℕ) (tasks : List ℕ) (m : Membership) (slots : List (Option ℕ))
+    → FitsTeam rs i m → AreSlots rs i tasks m.parallel slots → m.index < length slots
+slot_within rs i tasks m slots fits are =
     let inside = fits.inside in
     let enough = fits.enough in let long = are.long in omega (arith, inside, enough, long)
 
-pub seat_taken : (rs : List Record) (i : ℕ) (tasks : List ℕ) (m : Membership) (seats : List (Option ℕ))
+pub slot_taken : (rs : List Record) (i : ℕ) (tasks : List ℕ) (m : Membership) (slots : List (Option ℕ))
     (other : ℕ)
-    → at joined rs i ≡ Some m → AreSeats rs i tasks m.parallel seats
-    → slice_get seats m.index ≡ Some (Some other) → IsShort rs i
-seat_taken rs i tasks m seats other joins are stands =
-    let seat = are.only m.index other stands in
-    same_index m seat.m joins
-    (place_member rs m.parallel i seat.place seat.m seat.before seat.joins seat.same) seat.numbered
+    → at joined rs i ≡ Some m → AreSlots rs i tasks m.parallel slots
+    → slice_get slots m.index ≡ Some (Some other) → IsShort rs i
+slot_taken rs i tasks m slots other joins are stands =
+    let slot = are.only m.index other stands in
+    same_index m slot.m joins
+    (place_member rs m.parallel i slot.place slot.m slot.before slot.joins slot.same) slot.numbered
 
-pub seat_free : (rs : List Record) (i : ℕ) (tasks : List ℕ) (m : Membership) (seats : List (Option ℕ))
+pub slot_free : (rs : List Record) (i : ℕ) (tasks : List ℕ) (m : Membership) (slots : List (Option ℕ))
     → AreNoted made rs (length rs) tasks → at joined rs i ≡ Some m → FitsTeam rs i m
-    → AreSeats rs i tasks m.parallel seats → slice_get seats m.index ≡ Some None → LacksNothing rs i
-seat_free rs i tasks m seats noted joins fits are free = λ x joins'.
+    → AreSlots rs i tasks m.parallel slots → slice_get slots m.index ≡ Some None → LacksNothing rs i
+slot_free rs i tasks m slots noted joins fits are free = λ x joins'.
     let is_x : m ≡ x = same_Some m x (sym joins ∙ joins') in
-    let P : Membership → Type 0 = HasSeat rs i in
+    let P : Membership → Type 0 = HasSlot rs i in
     subst P is_x (record {
       fits = fits;
       alone = λ e has same.
@@ -296,9 +296,9 @@ seat_free rs i tasks m seats noted joins fits are free = λ x joins'.
           contains_get tasks e.member
           (noted.each place.place e.member (at_within joined rs place.place e place.joins)
           (joined_at_made rs place.place e place.joins)) in
-          let stands = are.seated place.place index.0 e place.before place.joins place.same index.1 in
+          let stands = are.enrolled place.place index.0 e place.before place.joins place.same index.1 in
           none-some index.0
-          (same_Some None (Some index.0) (sym free ∙ ap (slice_get seats) (sym same) ∙ stands));
+          (same_Some None (Some index.0) (sym free ∙ ap (slice_get slots) (sym same) ∙ stands));
     })
 
 pub lacks_none : (rs : List Record) (i : ℕ) → at joined rs i ≡ None → LacksNothing rs i
@@ -306,42 +306,42 @@ lacks_none rs i none = λ m joins. absurd (never_of (at joined rs i) m none join
 
 -- ---- before the first record
 
-none_in : (size number index : ℕ) (seats : List (Option ℕ)) → seats ≡ replicate size None
-    → slice_get seats number ≡ Some (Some index) → ⊥
-none_in size number index seats is stands =
+none_in : (size number index : ℕ) (slots : List (Option ℕ)) → slots ≡ replicate size None
+    → slice_get slots number ≡ Some (Some index) → ⊥
+none_in size number index slots is stands =
     let nothing : Option ℕ = None in
-    let long : length seats ≡ size = ap length is ∙ length-replicate size nothing in
-    let inside = slice_get_within seats number (Some index) stands in
+    let long : length slots ≡ size = ap length is ∙ length-replicate size nothing in
+    let inside = slice_get_within slots number (Some index) stands in
     let within : number < size = omega (arith, inside, long) in
-    let none : slice_get seats number ≡ Some None =
+    let none : slice_get slots number ≡ Some None =
     ap (λ l. slice_get l number) is
     ∙ slice_get-get_or (replicate size None) number None (rw (length-replicate size nothing) within)
     ∙ ap Some (get_or-replicate size number None None within) in
     none-some index (same_Some None (Some index) (sym none ∙ stands))
 
-first_seats : (rs : List Record) (tasks sizes : List ℕ) (parallel lead : ℕ) (seats : List (Option ℕ))
+first_slots : (rs : List Record) (tasks sizes : List ℕ) (parallel lead : ℕ) (slots : List (Option ℕ))
     → IsFreeOf rs CreatedTwice → AreSizes rs (length rs) tasks sizes → IsLead rs tasks parallel lead
-    → AreFirstSeats rs tasks sizes lead seats → AreSeats rs 0 tasks parallel seats
-first_seats rs tasks sizes parallel lead seats free are leads (own_seat task is_task initial is) =
+    → AreFirstSlots rs tasks sizes lead slots → AreSlots rs 0 tasks parallel slots
+first_slots rs tasks sizes parallel lead slots free are leads (own_slot task is_task initial is) =
     absurd (own_lead rs tasks initial.0 parallel task lead lead free is_task initial.1 leads refl)
-first_seats rs tasks sizes parallel lead seats free are leads (empty task size is_task not_initial is_size is)
+first_slots rs tasks sizes parallel lead slots free are leads (empty task size is_task not_initial is_size is)
     =
     let nothing : Option ℕ = None in
-    let long : length seats ≡ size = ap length is ∙ length-replicate size nothing in
+    let long : length slots ≡ size = ap length is ∙ length-replicate size nothing in
     record {
       long = long ∙ are.each parallel lead size leads is_size;
       rest =
-          let all = empty_all seats (λ number index. none_in size number index seats is) in
+          let all = empty_all slots (λ number index. none_in size number index slots is) in
           omega (arith, all);
-      seated = λ k index m below. absurd (omega (arith, below));
-      only = λ number index stands. absurd (none_in size number index seats is stands);
+      enrolled = λ k index m below. absurd (omega (arith, below));
+      only = λ number index stands. absurd (none_in size number index slots is stands);
     }
 
-first_own : (rs : List Record) (tasks sizes : List ℕ) (index task : ℕ) (seats : List (Option ℕ))
-    → slice_get tasks index ≡ Some task → IsInitial rs task → AreFirstSeats rs tasks sizes index seats
-    → seats ≡ Some index ∷ []
-first_own rs tasks sizes index task seats is_task initial (own_seat other is_other initial' is) = is
-first_own rs tasks sizes index task seats is_task initial (empty other size is_other not_initial is_size is) =
+first_own : (rs : List Record) (tasks sizes : List ℕ) (index task : ℕ) (slots : List (Option ℕ))
+    → slice_get tasks index ≡ Some task → IsInitial rs task → AreFirstSlots rs tasks sizes index slots
+    → slots ≡ Some index ∷ []
+first_own rs tasks sizes index task slots is_task initial (own_slot other is_other initial' is) = is
+first_own rs tasks sizes index task slots is_task initial (empty other size is_other not_initial is_size is) =
     let P : ℕ → Type 0 = IsInitial rs in
     absurd (not_initial (subst P (same_Some task other (sym is_task ∙ is_other)) initial))
 
@@ -349,45 +349,45 @@ no_length : {X : Type 0} (xs : List X) → length xs ≡ 0 → xs ≡ []
 no_length [] is = refl
 no_length (x ∷ xs) is = absurd (omega (arith, is))
 
-first_other : (rs : List Record) (tasks sizes : List ℕ) (index : ℕ) (seats : List (Option ℕ))
-    → AreSizes rs (length rs) tasks sizes → AreFirstSeats rs tasks sizes index seats
-    → (seats ≡ [])
+first_other : (rs : List Record) (tasks sizes : List ℕ) (index : ℕ) (slots : List (Option ℕ))
+    → AreSizes rs (length rs) tasks sizes → AreFirstSlots rs tasks sizes index slots
+    → (slots ≡ [])
     ⊎ (((parallel : ℕ) × IsLead rs tasks parallel index)
     ⊎ ((task : ℕ) × (slice_get tasks index ≡ Some task) × IsInitial rs task))
-first_other rs tasks sizes index seats are (own_seat task is_task initial is) =
+first_other rs tasks sizes index slots are (own_slot task is_task initial is) =
     inr (inr (task, is_task, initial))
-first_other rs tasks sizes index seats are (empty task size is_task not_initial is_size is) =
+first_other rs tasks sizes index slots are (empty task size is_task not_initial is_size is) =
     elim (cases_lt 0 size) [
       | inl some ↦ inr (inl (are.only index size is_size some))
       | inr none ↦
           let nothing : Option ℕ = None in
-          let long : length seats ≡ size = ap length is ∙ length-replicate size nothing in
-          inl (no_length seats (omega (arith, long, none)))
+          let long : length slots ≡ size = ap length is ∙ length-replicate size nothing in
+          inl (no_length slots (omega (arith, long, none)))
     ]
 
 pub rosters_more : (rs : List Record) (tasks sizes : List ℕ) (n : ℕ) (rosters : List (Vec (Option ℕ)))
     (last : Vec (Option ℕ))
-    → AreFirstRosters rs tasks sizes n rosters → AreFirstSeats rs tasks sizes n last.items
+    → AreFirstRosters rs tasks sizes n rosters → AreFirstSlots rs tasks sizes n last.items
     → AreFirstRosters rs tasks sizes (n + 1) (rosters ++ last ∷ [])
 rosters_more rs tasks sizes n rosters last are here = record {
   all = length_push rosters last ∙ ap (λ k. k + 1) are.all;
   each = λ index roster stands. elim (pushed_cases rosters last roster index stands) [
     | inl old ↦ are.each index roster old
     | inr now ↦
-        let P : ℕ → Type 0 = λ k. AreFirstSeats rs tasks sizes k roster.items in
-        let Q : Vec (Option ℕ) → Type 0 = λ v. AreFirstSeats rs tasks sizes n v.items in
+        let P : ℕ → Type 0 = λ k. AreFirstSlots rs tasks sizes k roster.items in
+        let Q : Vec (Option ℕ) → Type 0 = λ v. AreFirstSlots rs tasks sizes n v.items in
         subst P (sym (now.0 ∙ are.all)) (subst Q now.1 here)
   ];
 }
 
-pub rosters_seated : (rs : List Record) (tasks sizes : List ℕ) (n : ℕ) (rosters : List (Vec (Option ℕ)))
+pub rosters_enrolled : (rs : List Record) (tasks sizes : List ℕ) (n : ℕ) (rosters : List (Vec (Option ℕ)))
     → IsFreeOf rs CreatedTwice → AreSizes rs (length rs) tasks sizes → n ≡ length sizes
-    → AreFirstRosters rs tasks sizes n rosters → AreSeated rs 0 tasks rosters
-rosters_seated rs tasks sizes n rosters free sizes_are all are = record {
+    → AreFirstRosters rs tasks sizes n rosters → AreEnrolled rs 0 tasks rosters
+rosters_enrolled rs tasks sizes n rosters free sizes_are all are = record {
   all = are.all ∙ all ∙ sizes_are.all;
   each =
       λ parallel lead roster leads stands.
-      first_seats rs tasks sizes parallel lead roster.items free sizes_are leads
+      first_slots rs tasks sizes parallel lead roster.items free sizes_are leads
       (are.each lead roster stands);
   own =
       λ index task roster is_task initial stands.

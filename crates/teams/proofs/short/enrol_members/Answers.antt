@@ -2,9 +2,9 @@ use Rattle.std.proofs.Common.{◌≡◌, ◌∙◌, ℕ, Some, length, ap, subst
 use Rattle.std.specs.Prelude.{slice_get}
 use Rattle.task_tree.specs.Runs.{RunView}
 use Rattle.task_tree.specs.Own.{OwnView}
-use Rattle.teams.specs.Seats.{IsWholeBefore, AreSeated}
+use Rattle.teams.specs.Rosters.{IsWholeBefore, AreEnrolled}
 use Rattle.teams.proofs.ShortLemmas.{whole_more}
-use Rattle.teams.proofs.short.seat_members.Goals as goal
+use Rattle.teams.proofs.short.enrol_members.Goals as goal
 
 pub returns-then-lacks_member : goal.returns-then-lacks_member
 returns-then-lacks_member c =
@@ -22,7 +22,7 @@ loop-number-preserved c = record {
   whole =
       whole_more c.args.tables.now.run.records c.loop-number.number c.loop-number.invariant.whole
       c.if-lacks_member.ensures.0;
-  seated = c.if-lacks_member.ensures.1;
+  enrolled = c.if-lacks_member.ensures.1;
 }
 
 pub returns : goal.returns
@@ -33,5 +33,5 @@ returns c =
     let last : c.loop-number.number ≡ length rs =
     omega (arith, c.loop-number-test.false, c.loop-number.auto.number-end, count) in
     let P : ℕ → Type 0 = IsWholeBefore rs in
-    let Q : ℕ → Type 0 = λ n. AreSeated rs n c.args.tables.now.run.family.tasks c.loop-number.rosters.items in
-    (subst P last c.loop-number.invariant.whole, subst Q last c.loop-number.invariant.seated)
+    let Q : ℕ → Type 0 = λ n. AreEnrolled rs n c.args.tables.now.run.family.tasks c.loop-number.rosters.items in
+    (subst P last c.loop-number.invariant.whole, subst Q last c.loop-number.invariant.enrolled)

@@ -6,10 +6,10 @@ use Rattle.ompt_events.specs.Records.{begun_initial, made}
 use Rattle.ompt_events.specs.Places.{at}
 use Rattle.task_tree.specs.Runs.{RunView}
 use Rattle.task_tree.specs.Subjects.{Calls}
-use Rattle.teams.specs.Seats.{AreFirstSeats, own_seat, empty}
+use Rattle.teams.specs.Rosters.{AreFirstSlots, own_slot, empty}
 use Rattle.teams.proofs.CallLemmas.{called_there, never_called}
-use Rattle.teams.proofs.SeatLemmas.{initial_there, not_initial_there}
-use Rattle.teams.proofs.seats.empty_roster.Goals as goal
+use Rattle.teams.proofs.RosterLemmas.{initial_there, not_initial_there}
+use Rattle.teams.proofs.rosters.empty_roster.Goals as goal
 
 pub returns-then-is_some : goal.returns-then-is_some
 returns-then-is_some c =
@@ -26,12 +26,12 @@ returns-then-is_some c =
     let begins =
     called_there tasks (at begun_initial rs place) c.begun_initial.result
     (subst Q c.run-run.ensures.value c.begun_initial.ensures) (sym c.if-is_some.ensures) in
-    IfOk-weaker c.same_seats.result (λ seats. seats.items ≡ replicate 1 c.some.result)
-    (λ seats. AreFirstSeats rs tasks tables.sizes c.args.index seats.items)
-    (λ seats is.
-    own_seat task is_task (initial_there rs place task begins.0 is_made begins.1)
+    IfOk-weaker c.same_slots.result (λ slots. slots.items ≡ replicate 1 c.some.result)
+    (λ slots. AreFirstSlots rs tasks tables.sizes c.args.index slots.items)
+    (λ slots is.
+    own_slot task is_task (initial_there rs place task begins.0 is_made begins.1)
     (is ∙ ap (λ s. replicate 1 s) c.some.ensures))
-    c.same_seats.ensures
+    c.same_slots.ensures
 
 pub returns-else-is_some : goal.returns-else-is_some
 returns-else-is_some c =
@@ -49,10 +49,10 @@ returns-else-is_some c =
     let none =
     never_called tasks (at begun_initial rs place) c.begun_initial.result
     (subst Q c.run-run.ensures.value c.begun_initial.ensures) (sym c.if-is_some.ensures) in
-    IfOk-weaker c.same_seats-else-is_some.result (λ seats. seats.items ≡ replicate size c.none.result)
-    (λ seats. AreFirstSeats rs tasks tables.sizes c.args.index seats.items)
-    (λ seats is.
+    IfOk-weaker c.same_slots-else-is_some.result (λ slots. slots.items ≡ replicate size c.none.result)
+    (λ slots. AreFirstSlots rs tasks tables.sizes c.args.index slots.items)
+    (λ slots is.
     empty task size is_task
     (not_initial_there rs place task c.run-run.ensures.are_tables.run.family.once is_made none)
     c.size.ensures (is ∙ ap (λ s. replicate size s) c.none.ensures))
-    c.same_seats-else-is_some.ensures
+    c.same_slots-else-is_some.ensures

@@ -4,8 +4,8 @@ use Rattle.ompt_events.specs.declared.records.Membership.{Membership}
 use Rattle.ompt_events.specs.Records.{joined}
 use Rattle.ompt_events.specs.Places.{at}
 use Rattle.teams.proofs.MemberLemmas.{never_of}
-use Rattle.teams.proofs.SeatLemmas.{same_first, first_joins}
-use Rattle.teams.proofs.seats.names_size.Goals as goal
+use Rattle.teams.proofs.RosterLemmas.{same_first, first_joins}
+use Rattle.teams.proofs.rosters.names_size.Goals as goal
 
 pub returns-in-Some : goal.returns-in-Some
 returns-in-Some c = λ place first joins is.

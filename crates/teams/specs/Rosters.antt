@@ -1,4 +1,4 @@
--- The seats of the members of a team, by their numbers, while the records are visited.
+-- The slots of the members of a team, by their numbers, while the records are visited.
 use Rattle.std.specs.Prelude.{ℕ, zero, suc, ◌≡◌, ◌<◌, ◌≤◌, ◌+◌, ◌⊎◌, ◌∷◌, [], List, length, Bool, true, false}
 use Rattle.std.specs.Prelude.{Option, Some, None, Contains, is_some, slice_get, slice_set, replicate}
 use Rattle.std.specs.Global.{Vec}
@@ -10,14 +10,14 @@ use Rattle.ompt_events.specs.Teams.{IsInitial, members, members_before}
 use Rattle.ompt_events.specs.Causes.{IsShort}
 use Rattle.teams.specs.Members.{IsLead}
 
--- how many seats are empty
-abbrev pub empty_seats : List (Option ℕ) → ℕ
-empty_seats [] = zero
-empty_seats (None ∷ seats) = suc (empty_seats seats)
-empty_seats (Some index ∷ seats) = empty_seats seats
+-- how many slots are empty
+abbrev pub empty_slots : List (Option ℕ) → ℕ
+empty_slots [] = zero
+empty_slots (None ∷ slots) = suc (empty_slots slots)
+empty_slots (Some index ∷ slots) = empty_slots slots
 
--- the seat of this number is that of a member that begins by the first n records
-pub record IsSeatOf (rs : List Record) (n : ℕ) (tasks : List ℕ) (parallel number index : ℕ) : Type 0 where
+-- the slot of this number is that of a member that begins by the first n records
+pub record IsSlotOf (rs : List Record) (n : ℕ) (tasks : List ℕ) (parallel number index : ℕ) : Type 0 where
   pub place : ℕ
   pub m : Membership
   pub before : place < n
@@ -26,44 +26,44 @@ pub record IsSeatOf (rs : List Record) (n : ℕ) (tasks : List ℕ) (parallel nu
   pub numbered : m.index ≡ number
   pub here : slice_get tasks index ≡ Some m.member
 
--- there are as many seats as members, and each member that begins by the first n records has its own
-pub record AreSeats (rs : List Record) (n : ℕ) (tasks : List ℕ) (parallel : ℕ)
-    (seats : List (Option ℕ)) : Type 0 where
-  pub long : length seats ≡ length (members rs parallel)
-  pub rest : empty_seats seats + length (members_before rs parallel n) ≡ length seats
-  pub seated : (k index : ℕ) (m : Membership) → k < n → at joined rs k ≡ Some m → m.parallel ≡ parallel
-      → slice_get tasks index ≡ Some m.member → slice_get seats m.index ≡ Some (Some index)
-  pub only : (number index : ℕ) → slice_get seats number ≡ Some (Some index)
-      → IsSeatOf rs n tasks parallel number index
+-- there are as many slots as members, and each member that begins by the first n records has its own
+pub record AreSlots (rs : List Record) (n : ℕ) (tasks : List ℕ) (parallel : ℕ)
+    (slots : List (Option ℕ)) : Type 0 where
+  pub long : length slots ≡ length (members rs parallel)
+  pub rest : empty_slots slots + length (members_before rs parallel n) ≡ length slots
+  pub enrolled : (k index : ℕ) (m : Membership) → k < n → at joined rs k ≡ Some m → m.parallel ≡ parallel
+      → slice_get tasks index ≡ Some m.member → slice_get slots m.index ≡ Some (Some index)
+  pub only : (number index : ℕ) → slice_get slots number ≡ Some (Some index)
+      → IsSlotOf rs n tasks parallel number index
 
--- at the number of each team, the seats of its members; an initial task has its own, and any other number
+-- at the number of each team, the slots of its members; an initial task has its own, and any other number
 -- has none
-pub record AreSeated (rs : List Record) (n : ℕ) (tasks : List ℕ)
+pub record AreEnrolled (rs : List Record) (n : ℕ) (tasks : List ℕ)
     (rosters : List (Vec (Option ℕ))) : Type 0 where
   pub all : length rosters ≡ length tasks
   pub each : (parallel lead : ℕ) (roster : Vec (Option ℕ)) → IsLead rs tasks parallel lead
-      → slice_get rosters lead ≡ Some roster → AreSeats rs n tasks parallel roster.items
+      → slice_get rosters lead ≡ Some roster → AreSlots rs n tasks parallel roster.items
   pub own : (index task : ℕ) (roster : Vec (Option ℕ)) → slice_get tasks index ≡ Some task
       → IsInitial rs task → slice_get rosters index ≡ Some roster → roster.items ≡ Some index ∷ []
   pub other : (index : ℕ) (roster : Vec (Option ℕ)) → slice_get rosters index ≡ Some roster
       → (roster.items ≡ []) ⊎ (((parallel : ℕ) × IsLead rs tasks parallel index)
       ⊎ ((task : ℕ) × (slice_get tasks index ≡ Some task) × IsInitial rs task))
 
--- before the first record: the seat of an initial task, or as many empty ones as the team has members
-pub data AreFirstSeats (rs : List Record) (tasks sizes : List ℕ) (index : ℕ)
-    (seats : List (Option ℕ)) : Type 0 where
-  own_seat : (task : ℕ) → slice_get tasks index ≡ Some task → IsInitial rs task
-      → seats ≡ replicate 1 (Some index) → AreFirstSeats rs tasks sizes index seats
+-- before the first record: the slot of an initial task, or as many empty ones as the team has members
+pub data AreFirstSlots (rs : List Record) (tasks sizes : List ℕ) (index : ℕ)
+    (slots : List (Option ℕ)) : Type 0 where
+  own_slot : (task : ℕ) → slice_get tasks index ≡ Some task → IsInitial rs task
+      → slots ≡ replicate 1 (Some index) → AreFirstSlots rs tasks sizes index slots
   empty : (task size : ℕ) → slice_get tasks index ≡ Some task → (IsInitial rs task → ⊥)
-      → slice_get sizes index ≡ Some size → seats ≡ replicate size None
-      → AreFirstSeats rs tasks sizes index seats
+      → slice_get sizes index ≡ Some size → slots ≡ replicate size None
+      → AreFirstSlots rs tasks sizes index slots
 
--- each of the first n tasks has these seats
+-- each of the first n tasks has these slots
 pub record AreFirstRosters (rs : List Record) (tasks sizes : List ℕ) (n : ℕ)
     (rosters : List (Vec (Option ℕ))) : Type 0 where
   pub all : length rosters ≡ n
   pub each : (index : ℕ) (roster : Vec (Option ℕ)) → slice_get rosters index ≡ Some roster
-      → AreFirstSeats rs tasks sizes index roster.items
+      → AreFirstSlots rs tasks sizes index roster.items
 
 -- the member's number is below the size that it says; the team has at least that many members; each earlier
 -- member says the same size
@@ -77,25 +77,25 @@ IsFitting rs i m true = FitsTeam rs i m
 IsFitting rs i m false = IsShort rs i
 
 -- the same, and no earlier member has its number
-pub record HasSeat (rs : List Record) (i : ℕ) (m : Membership) : Type 0 where
+pub record HasSlot (rs : List Record) (i : ℕ) (m : Membership) : Type 0 where
   pub fits : FitsTeam rs i m
   pub alone : (e : Membership) → Contains (members_before rs m.parallel i) e → e.index ≡ m.index → ⊥
 
 -- the member that begins there, if one does, fits its team, and no earlier member has its number
 abbrev pub LacksNothing : List Record → ℕ → Type 0
-LacksNothing rs i = (m : Membership) → at joined rs i ≡ Some m → HasSeat rs i m
+LacksNothing rs i = (m : Membership) → at joined rs i ≡ Some m → HasSlot rs i m
 
 -- no member that begins before the record shows a team that lacks a member
 abbrev pub IsWholeBefore : List Record → ℕ → Type 0
 IsWholeBefore rs i = (k : ℕ) → k < i → is_some (at joined rs k) ≡ true → IsShort rs k → ⊥
 
--- the seat was empty and is now that of the index, or it is taken
-abbrev pub TakesSeat : List (Option ℕ) → List (Option ℕ) → ℕ → ℕ → Bool → Type 0
-TakesSeat old new number index true =
+-- the slot was empty and is now that of the index, or it is taken
+abbrev pub TakesSlot : List (Option ℕ) → List (Option ℕ) → ℕ → ℕ → Bool → Type 0
+TakesSlot old new number index true =
     (slice_get old number ≡ Some None) × (new ≡ slice_set old number (Some index))
-TakesSeat old new number index false = (other : ℕ) × (slice_get old number ≡ Some (Some other))
+TakesSlot old new number index false = (other : ℕ) × (slice_get old number ≡ Some (Some other))
 
--- a member begins there that shows a team which lacks a member; or it does not, and has its seat
-abbrev pub IsSeating : List Record → ℕ → List ℕ → List (Vec (Option ℕ)) → Bool → Type 0
-IsSeating rs i tasks rosters true = (is_some (at joined rs i) ≡ true) × IsShort rs i
-IsSeating rs i tasks rosters false = LacksNothing rs i × AreSeated rs (i + 1) tasks rosters
+-- a member begins there that shows a team which lacks a member; or it does not, and has its slot
+abbrev pub IsEnrolling : List Record → ℕ → List ℕ → List (Vec (Option ℕ)) → Bool → Type 0
+IsEnrolling rs i tasks rosters true = (is_some (at joined rs i) ≡ true) × IsShort rs i
+IsEnrolling rs i tasks rosters false = LacksNothing rs i × AreEnrolled rs (i + 1) tasks rosters

@@ -1,10 +1,10 @@
-//! The seats of the members of each team, by their numbers, and the first member for which there is none.
+//! The slots of the members of each team, by their numbers, and the first member for which there is none.
 ghost use Rattle.std.specs.Prelude.{ℕ, ◌≡◌, ◌<◌, ◌↔◌, IfOk, IsTrue, Some, length, replicate, slice_get};
 ghost use Rattle.ompt_events.specs.declared.records.Membership.{Membership};
 ghost use Rattle.ompt_events.specs.Records.{joined};
 ghost use Rattle.ompt_events.specs.Places.{at as says_at};
 ghost use Rattle.teams.specs.Members.{IsJoining};
-ghost use Rattle.teams.specs.Seats.{AreFirstSeats, AreSeated, IsFitting, IsWholeBefore, TakesSeat, IsSeating};
+ghost use Rattle.teams.specs.Rosters.{AreFirstSlots, AreEnrolled, IsFitting, IsWholeBefore, TakesSlot, IsEnrolling};
 
 use crate::tables::Tables;
 use index_tables::Slot;
@@ -12,9 +12,9 @@ use ompt_events::Membership;
 use std::alloc::{AllocError, Global};
 use task_tree::Run;
 
-/// Returns by number of the team an empty seat for each of its members. An initial task is in its own seat.
+/// Returns by number of the team an empty slot for each of its members. An initial task is in its own slot.
 pub(crate) fn empty_rosters(alloc: Global, tables: &Tables) -> Result<Vec<Vec<Slot>>, AllocError>
-    ensures { IfOk result (λ rosters. AreSeated tables.now.run.records 0
+    ensures { IfOk result (λ rosters. AreEnrolled tables.now.run.records 0
         tables.now.run.family.tasks rosters.items) }
 {
     let tasks = tables.run().task_count();
@@ -25,34 +25,34 @@ pub(crate) fn empty_rosters(alloc: Global, tables: &Tables) -> Result<Vec<Vec<Sl
     Ok(rosters)
 }
 
-/// Returns the seats of the team whose number is this index.
+/// Returns the slots of the team whose number is this index.
 fn empty_roster(alloc: Global, tables: &Tables, index: usize) -> Result<Vec<Slot>, AllocError>
     requires { index < length tables.now.run.family.tasks }
-    ensures { IfOk result (λ roster. AreFirstSeats tables.now.run.records
+    ensures { IfOk result (λ roster. AreFirstSlots tables.now.run.records
         tables.now.run.family.tasks tables.now.sizes index roster.items) }
 {
     let run = tables.run();
     if run.begun_initial(run.made_at(index)).is_some() {
-        same_seats(alloc, Slot::some(index), 1)
+        same_slots(alloc, Slot::some(index), 1)
     } else {
-        same_seats(alloc, Slot::none(), tables.size(index) as usize)
+        same_slots(alloc, Slot::none(), tables.size(index) as usize)
     }
 }
 
-/// Returns this many seats with the same slot in each.
-fn same_seats(alloc: Global, slot: Slot, count: usize) -> Result<Vec<Slot>, AllocError>
-    ensures { IfOk result (λ seats. seats.items ≡ replicate count slot) }
+/// Returns this many slots with the same slot in each.
+fn same_slots(alloc: Global, slot: Slot, count: usize) -> Result<Vec<Slot>, AllocError>
+    ensures { IfOk result (λ slots. slots.items ≡ replicate count slot) }
 {
     vec![in alloc; slot; count]
 }
 
 /// Returns whether the member that begins at a record shows that its team lacks a member. If not, it gets
-/// its seat.
+/// its slot.
 pub(crate) fn lacks_member(tables: &Tables, rosters: &mut Vec<Vec<Slot>>, at: usize) -> bool
     requires within { at < length tables.now.run.records }
     requires whole { IsWholeBefore tables.now.run.records at }
-    requires seated { AreSeated tables.now.run.records at tables.now.run.family.tasks rosters.old.items }
-    ensures { IsSeating tables.now.run.records at tables.now.run.family.tasks rosters.new.items result }
+    requires enrolled { AreEnrolled tables.now.run.records at tables.now.run.family.tasks rosters.old.items }
+    ensures { IsEnrolling tables.now.run.records at tables.now.run.family.tasks rosters.new.items result }
 {
     let run = tables.run();
     let Some(member) = run.joined(at) else {
@@ -67,7 +67,7 @@ pub(crate) fn lacks_member(tables: &Tables, rosters: &mut Vec<Vec<Slot>>, at: us
     if !fits(tables, lead, member, at) {
         return true;
     }
-    if take_seat(&mut rosters[lead], member.index as usize, index) {
+    if take_slot(&mut rosters[lead], member.index as usize, index) {
         return false;
     }
     true
@@ -107,11 +107,11 @@ fn names_size(run: &Run, lead: usize, actual: u32) -> bool
     }
 }
 
-/// Gives the seat of this number to the task at an index, unless it is taken. Returns whether it was free.
-fn take_seat(roster: &mut Vec<Slot>, number: usize, index: usize) -> bool
+/// Gives the slot of this number to the task at an index, unless it is taken. Returns whether it was free.
+fn take_slot(roster: &mut Vec<Slot>, number: usize, index: usize) -> bool
     requires inside { number < length roster.old.items }
     requires small { index < 4294967295 }
-    ensures { TakesSeat roster.old.items roster.new.items number index result }
+    ensures { TakesSlot roster.old.items roster.new.items number index result }
 {
     if roster[number].get().is_some() {
         return false;

@@ -1,5 +1,5 @@
-use Rattle.teams.specs.Seats.{AreFirstRosters}
-use Rattle.teams.proofs.seats.empty_rosters.Given as goal
+use Rattle.teams.specs.Rosters.{AreFirstRosters}
+use Rattle.teams.proofs.rosters.empty_rosters.Given as goal
 
 -- the rosters so far
 abbrev pub invariant-loop-index : goal.invariant-loop-index

@@ -1,7 +1,7 @@
 use Rattle.std.proofs.Common.{◌≡◌, ◌∙◌, length, ap, arith}
 use Rattle.task_tree.specs.Runs.{RunView}
-use Rattle.teams.proofs.SeatLemmas.{rosters_more, rosters_seated}
-use Rattle.teams.proofs.seats.empty_rosters.Goals as goal
+use Rattle.teams.proofs.RosterLemmas.{rosters_more, rosters_enrolled}
+use Rattle.teams.proofs.rosters.empty_rosters.Goals as goal
 
 pub loop-index-preserved : goal.loop-index-preserved
 loop-index-preserved c =
@@ -20,5 +20,5 @@ returns c =
     c.task_count-tasks.ensures.value ∙ ap (λ (r : RunView). length r.family.tasks) c.run.ensures.value in
     let last : c.loop-index.index ≡ length tables.sizes =
     omega (arith, c.loop-index-test.false, c.loop-index.auto.index-end, all, count) in
-    rosters_seated tables.run.records tables.run.family.tasks tables.sizes c.loop-index.index
+    rosters_enrolled tables.run.records tables.run.family.tasks tables.sizes c.loop-index.index
     c.loop-index.rosters.items are.run.family.once are.sizes last c.loop-index.invariant
