@@ -123,8 +123,8 @@ not_back_in_thread closed k i are apart less within same =
 -- ---- a record that hands a task over makes no entry
 
 suspended_unfinished : (body : Body) (t : ℕ × ℕ) → suspended_turn body ≡ Some t → finish body ≡ None
-suspended_unfinished (TaskSchedule Yield turns prior next share) t is = refl
-suspended_unfinished (TaskSchedule Switch turns prior next share) t is = refl
+suspended_unfinished (TaskSchedule Yield turns prior next claimed) t is = refl
+suspended_unfinished (TaskSchedule Switch turns prior next claimed) t is = refl
 suspended_unfinished _ t is = absurd (none-some t is)
 
 unfinished_after : {X : Type 0} (f : Body → Option X) (rs : List Record) (i : ℕ) (x : X)

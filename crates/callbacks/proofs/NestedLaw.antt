@@ -89,7 +89,7 @@ roots_next walk s (ImplicitTask Begin actual index given parallel task) outside 
         member_begins s.member s.initial walk.roots task none same
 roots_next walk s (ImplicitTask End actual index given parallel task) outside same =
     root_ends s.member s.initial walk.roots same
-roots_next walk s (TaskSchedule status turns prior next share) outside same = kept (demands_next status)
+roots_next walk s (TaskSchedule status turns prior next claimed) outside same = kept (demands_next status)
   where
     kept : (b : Bool)
         → (if b then record { roots = walk.roots; current = next } else walk).roots ≡ open_roots s

@@ -43,9 +43,9 @@ use Rattle.checker.proofs.ScheduleLemmas.{begun_root_or_explicit}
 
 sound_apart : (b : Body) → HasItsNext b → (task other : ℕ) → fulfilled b ≡ Some task → started b ≡ Some other
     → ⊥
-sound_apart (TaskSchedule status.EarlyFulfill turns prior next share) sound task other fulfils starts =
+sound_apart (TaskSchedule status.EarlyFulfill turns prior next claimed) sound task other fulfils starts =
     false≢true (sym sound ∙ ap is_some starts)
-sound_apart (TaskSchedule status.LateFulfill turns prior next share) sound task other fulfils starts =
+sound_apart (TaskSchedule status.LateFulfill turns prior next claimed) sound task other fulfils starts =
     false≢true (sym sound ∙ ap is_some starts)
 sound_apart _ sound task other fulfils starts = none-some task fulfils
 
@@ -151,7 +151,7 @@ after_current P walk (ImplicitTask End actual index flags parallel root) begins 
 after_current P walk (ImplicitTask BeginEnd actual index flags parallel root) begins starts roots runs task is
     =
     runs task is
-after_current P walk (TaskSchedule status turns prior next share) begins starts roots runs task is =
+after_current P walk (TaskSchedule status turns prior next claimed) begins starts roots runs task is =
     by (demands_next status) is
   where
     by : (d : Bool)

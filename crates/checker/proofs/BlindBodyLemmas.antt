@@ -10,59 +10,59 @@ use Rattle.ompt_events.specs.States.{moves_by}
 use Rattle.task_tree.proofs.BlindLemmas.{IsBlind}
 
 pub blind_made : IsBlind made
-blind_made (TaskSchedule status turns prior next share) = refl
+blind_made (TaskSchedule status turns prior next claimed) = refl
 blind_made _ = refl
 
 pub blind_forked : IsBlind forked
-blind_forked (TaskSchedule status turns prior next share) = refl
+blind_forked (TaskSchedule status turns prior next claimed) = refl
 blind_forked _ = refl
 
 pub blind_region_named : IsBlind region_named
-blind_region_named (TaskSchedule status turns prior next share) = refl
+blind_region_named (TaskSchedule status turns prior next claimed) = refl
 blind_region_named _ = refl
 
 pub blind_ended_root : IsBlind ended_root
-blind_ended_root (TaskSchedule status turns prior next share) = refl
+blind_ended_root (TaskSchedule status turns prior next claimed) = refl
 blind_ended_root _ = refl
 
 pub blind_started : IsBlind started
-blind_started (TaskSchedule status turns prior next share) = refl
+blind_started (TaskSchedule status turns prior next claimed) = refl
 blind_started _ = refl
 
 pub blind_wait_completed : IsBlind wait_completed
-blind_wait_completed (TaskSchedule TaskwaitComplete turns prior next share) = refl
+blind_wait_completed (TaskSchedule TaskwaitComplete turns prior next claimed) = refl
 blind_wait_completed _ = refl
 
 pub blind_created_with_deps : IsBlind created_with_deps
-blind_created_with_deps (TaskSchedule status turns prior next share) = refl
+blind_created_with_deps (TaskSchedule status turns prior next claimed) = refl
 blind_created_with_deps _ = refl
 
 pub blind_discarded : IsBlind discarded
-blind_discarded (TaskSchedule status turns prior next share) = refl
+blind_discarded (TaskSchedule status turns prior next claimed) = refl
 blind_discarded _ = refl
 
 pub blind_fulfilled : IsBlind fulfilled
-blind_fulfilled (TaskSchedule EarlyFulfill turns prior next share) = refl
-blind_fulfilled (TaskSchedule LateFulfill turns prior next share) = refl
+blind_fulfilled (TaskSchedule EarlyFulfill turns prior next claimed) = refl
+blind_fulfilled (TaskSchedule LateFulfill turns prior next claimed) = refl
 blind_fulfilled _ = refl
 
 pub blind_flags : IsBlind flags
-blind_flags (TaskSchedule status turns prior next share) = refl
+blind_flags (TaskSchedule status turns prior next claimed) = refl
 blind_flags _ = refl
 
 pub blind_named : IsBlind named
-blind_named (TaskSchedule status turns prior next share) = refl
+blind_named (TaskSchedule status turns prior next claimed) = refl
 blind_named _ = refl
 
 pub blind_suspended : IsBlind suspended
-blind_suspended (TaskSchedule Yield turns prior next share) = refl
-blind_suspended (TaskSchedule Switch turns prior next share) = refl
+blind_suspended (TaskSchedule Yield turns prior next claimed) = refl
+blind_suspended (TaskSchedule Switch turns prior next claimed) = refl
 blind_suspended _ = refl
 
 pub blind_walk : (walk : Walk) → IsBlind (after_body walk)
-blind_walk walk (TaskSchedule status turns prior next share) = refl
+blind_walk walk (TaskSchedule status turns prior next claimed) = refl
 blind_walk walk _ = refl
 
 pub blind_moves : (task : ℕ) → IsBlind (moves_by task)
-blind_moves task (TaskSchedule status turns prior next share) = refl
+blind_moves task (TaskSchedule status turns prior next claimed) = refl
 blind_moves task _ = refl

@@ -330,7 +330,7 @@ not_among rs predecessors dependent bound task answer are tells is = (
 -- a taskwait that is complete starts nothing
 sound_wait : (b : Body) → HasItsNext b → (task other : ℕ) → wait_completed b ≡ Some task
     → started b ≡ Some other → ⊥
-sound_wait (TaskSchedule TaskwaitComplete turns prior next share) sound task other completes starts =
+sound_wait (TaskSchedule TaskwaitComplete turns prior next claimed) sound task other completes starts =
     false≢true (sym sound ∙ ap is_some starts)
 sound_wait _ sound task other completes starts = none-some task completes
 

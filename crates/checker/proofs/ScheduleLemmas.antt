@@ -37,7 +37,7 @@ use Rattle.checker.specs.Merge.{turn_slot, key_of}
 -- ---- single records
 
 started_keeps : (b : Body) (task : ℕ) → started b ≡ Some task → discarded b ≡ None
-started_keeps (Cancel flags own share) task starts = absurd (none-some task starts)
+started_keeps (Cancel flags own claimed) task starts = absurd (none-some task starts)
 started_keeps _ task starts = refl
 
 begun_starts : (b : Body) (task turn : ℕ) → begun_turn b ≡ Some (task, turn) → started b ≡ Some task
@@ -72,7 +72,7 @@ awaited_fulfilled : (b : Body) (task : ℕ) → fulfilled b ≡ Some task → aw
 awaited_fulfilled b task fulfils = ap (λ o. option_or o (option_or (discarded b) (first_started b))) fulfils
 
 awaited_discard : (b : Body) (task : ℕ) → discarded b ≡ Some task → awaited b ≡ Some task
-awaited_discard (Cancel flags own share) task gone = ap (λ o. option_or o None) gone
+awaited_discard (Cancel flags own claimed) task gone = ap (λ o. option_or o None) gone
 awaited_discard _ task gone = absurd (none-some task gone)
 
 awaited_start : (b : Body) (task : ℕ) (o : Option ℕ) → fulfilled b ≡ o → ((other : ℕ) → o ≡ Some other → ⊥)
@@ -103,8 +103,8 @@ created_goes_on (TaskCreate deps flags own child) task creates = refl
 created_goes_on _ task creates = absurd (none-some task creates)
 
 suspended_finishes : (b : Body) (task turn : ℕ) → suspended_turn b ≡ Some (task, turn) → finish b ≡ None
-suspended_finishes (TaskSchedule status.Yield turns prior next share) task turn suspends = refl
-suspended_finishes (TaskSchedule status.Switch turns prior next share) task turn suspends = refl
+suspended_finishes (TaskSchedule status.Yield turns prior next claimed) task turn suspends = refl
+suspended_finishes (TaskSchedule status.Switch turns prior next claimed) task turn suspends = refl
 suspended_finishes _ task turn suspends = absurd (none-some (task, turn) suspends)
 
 -- ---- records at places

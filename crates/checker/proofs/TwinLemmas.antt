@@ -66,7 +66,7 @@ twins_alike rs ss i twins =
     ∙ through (slice_get ss i)
   where
     untold_twice : (b : Body) → untold (untold b) ≡ untold b
-    untold_twice (TaskSchedule status turns prior next share) = refl
+    untold_twice (TaskSchedule status turns prior next claimed) = refl
     untold_twice _ = refl
 
     through : (o : Option Record)

@@ -46,7 +46,7 @@ twin_places rs ss twins = ap (range_with_len 0) (twins_long rs ss twins)
 -- ---- what a task is
 
 blind_wait : (task : ℕ) → IsBlind (creates_wait task)
-blind_wait task (TaskSchedule status turns prior next share) = refl
+blind_wait task (TaskSchedule status turns prior next claimed) = refl
 blind_wait task _ = refl
 
 pub twin_made_so : (test : Body → Bool) → IsBlind test → (rs ss : List Record) → AreTwins rs ss
@@ -116,7 +116,7 @@ twin_early rs ss task i twins =
     ∙ through ss (slice_get ss i)
   where
     early_body : Body → Bool
-    early_body (TaskSchedule EarlyFulfill turns prior next share) = prior == task
+    early_body (TaskSchedule EarlyFulfill turns prior next claimed) = prior == task
     early_body _ = false
 
     early_there : Record → Bool
@@ -128,7 +128,7 @@ twin_early rs ss task i twins =
     through rs (Some r) = said r.body
       where
         said : (b : Body) → early_body (untold b) ≡ early_body b
-        said (TaskSchedule EarlyFulfill turns prior next share) = refl
+        said (TaskSchedule EarlyFulfill turns prior next claimed) = refl
         said _ = refl
 
 twin_moves_at : (rs ss : List Record) (task i : ℕ) → AreTwins rs ss → moves_at rs task i ≡ moves_at ss task i

@@ -41,7 +41,7 @@ same_lists (x ∷ xs) (y ∷ ys) same =
     ap (λ z. z ∷ xs) (same_Some x y (same 0)) ∙ ap (λ l. y ∷ l) (same_lists xs ys (λ i. same (suc i)))
 
 untold_telling : (told : Turns) (b : Body) → untold (telling told b) ≡ untold b
-untold_telling told (TaskSchedule status turns prior next share) = refl
+untold_telling told (TaskSchedule status turns prior next claimed) = refl
 untold_telling told _ = refl
 
 untold_upgraded : (rs ss : List Record) (i : ℕ) (b : Body) → untold (body_upgraded rs ss i b) ≡ untold b
@@ -263,7 +263,7 @@ starts_telling rs ss i task upgrade starts = elim (slice_get_cases rs i).1 [
     tells : (b : Body) → started b ≡ Some task
         → (told_turns (telling rule b) ≡ Some rule)
         × (begun_turn (telling rule b) ≡ Some (task, turn_counted rs i task))
-    tells (TaskSchedule status turns prior next share) is =
+    tells (TaskSchedule status turns prior next claimed) is =
         (refl, ap (option_map {U = ℕ × ℕ} (λ t. (t, turn_counted rs i task))) is)
     tells _ is = absurd (none-some task is)
 

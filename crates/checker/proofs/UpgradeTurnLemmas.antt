@@ -257,10 +257,10 @@ back_starts rs ss i task known start =
 -- a body that suspends a task is of that task, and another runs next
 suspends_on : (b : Body) (task : ℕ) → HasItsNext b → suspended b ≡ Some task
     → (running b ≡ Some task) × ((next : ℕ) × (started b ≡ Some next))
-suspends_on (TaskSchedule Yield turns prior None share) task fits is = cc
-suspends_on (TaskSchedule Yield turns prior (Some next) share) task fits is = (is, (next, refl))
-suspends_on (TaskSchedule Switch turns prior None share) task fits is = cc
-suspends_on (TaskSchedule Switch turns prior (Some next) share) task fits is = (is, (next, refl))
+suspends_on (TaskSchedule Yield turns prior None claimed) task fits is = cc
+suspends_on (TaskSchedule Yield turns prior (Some next) claimed) task fits is = (is, (next, refl))
+suspends_on (TaskSchedule Switch turns prior None claimed) task fits is = cc
+suspends_on (TaskSchedule Switch turns prior (Some next) claimed) task fits is = (is, (next, refl))
 suspends_on _ task fits is = absurd (none-some task is)
 
 -- the task that is suspended, and the turn that the record tells of it

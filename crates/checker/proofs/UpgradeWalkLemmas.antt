@@ -70,7 +70,8 @@ after_from rs thread n walk (ImplicitTask End actual index flags parallel root) 
   roots = every_rest (BeganOn rs thread (n + 1)) walk.roots from.roots;
   current = λ task is. inl (every_get (BeganOn rs thread (n + 1)) walk.roots 1 task from.roots is);
 }
-after_from rs thread n walk (TaskSchedule status turns prior next share) adds from = by (demands_next status)
+after_from rs thread n walk (TaskSchedule status turns prior next claimed) adds from =
+    by (demands_next status)
   where
     by : (d : Bool)
         → IsWalkFrom rs thread (n + 1) (if d then (record { roots = walk.roots; current = next }) else walk)

@@ -45,9 +45,9 @@ explicit_stays rs m trace none is explicit =
     ))
 
 started_named : (task : ℕ) (b : Body) → started b ≡ Some task → Contains (named b) task
-started_named task (TaskSchedule status turns prior (Some next) share) is =
+started_named task (TaskSchedule status turns prior (Some next) claimed) is =
     (1, omega arith, same_Some next task is)
-started_named task (TaskSchedule status turns prior None share) is = absurd (none-some task is)
+started_named task (TaskSchedule status turns prior None claimed) is = absurd (none-some task is)
 started_named task _ is = absurd (none-some task is)
 
 pub moves_nowhere : (rs : List Record) → IsTraceOf 1 rs → ShowsNone (by_task rs) → MovesNowhere rs

@@ -84,17 +84,17 @@ made _ = None
 
 -- the status of a task_schedule event, its prior task and its next one (19.5.2.10)
 abbrev pub schedule : Body → Option (Status × ℕ × Option ℕ)
-schedule (TaskSchedule status turns prior next share) = Some (status, prior, next)
+schedule (TaskSchedule status turns prior next claimed) = Some (status, prior, next)
 schedule _ = None
 
 -- the task that runs from here on (19.5.2.10)
 abbrev pub started : Body → Option ℕ
-started (TaskSchedule status turns prior next share) = next
+started (TaskSchedule status turns prior next claimed) = next
 started _ = None
 
 -- the turns that the record has: which one of the prior task ends, and which one of the next task begins
 abbrev pub told_turns : Body → Option Turns
-told_turns (TaskSchedule status turns prior next share) = turns
+told_turns (TaskSchedule status turns prior next claimed) = turns
 told_turns _ = None
 
 -- the same numbers; where the record has no turns, it is turn 0
@@ -110,8 +110,8 @@ begun_turn body = option_map (λ task. (task, next_turn body)) (started body)
 
 -- the task that is suspended, and the turn that it ends (19.5.2.10: ompt_task_yield and ompt_task_switch)
 abbrev pub suspended : Body → Option ℕ
-suspended (TaskSchedule Yield turns prior next share) = Some prior
-suspended (TaskSchedule Switch turns prior next share) = Some prior
+suspended (TaskSchedule Yield turns prior next claimed) = Some prior
+suspended (TaskSchedule Switch turns prior next claimed) = Some prior
 suspended _ = None
 
 abbrev pub suspended_turn : Body → Option (ℕ × ℕ)
@@ -119,30 +119,31 @@ suspended_turn body = option_map (λ task. (task, prior_turn body)) (suspended b
 
 -- the task whose event is fulfilled, early or late (12.5.2: the detach clause)
 abbrev pub fulfilled : Body → Option ℕ
-fulfilled (TaskSchedule EarlyFulfill turns prior next share) = Some prior
-fulfilled (TaskSchedule LateFulfill turns prior next share) = Some prior
+fulfilled (TaskSchedule EarlyFulfill turns prior next claimed) = Some prior
+fulfilled (TaskSchedule LateFulfill turns prior next claimed) = Some prior
 fulfilled _ = None
 
 -- the taskwait with dependences that is complete (15.5: it acts as an empty task with them)
 abbrev pub wait_completed : Body → Option ℕ
-wait_completed (TaskSchedule TaskwaitComplete turns prior next share) = Some prior
+wait_completed (TaskSchedule TaskwaitComplete turns prior next claimed) = Some prior
 wait_completed _ = None
 
 -- the task that is discarded before it began (11.5: cancellation of a taskgroup)
 abbrev pub discarded : Body → Option ℕ
-discarded (Cancel flags task share) = if has_flag flags.0 flag.discarded_task then Some task else None
+discarded (Cancel flags task claimed) = if has_flag flags.0 flag.discarded_task then Some task else None
 discarded _ = None
 
 -- the task that is finished, and its part
 abbrev pub finish : Body → Option (ℕ × Part)
-finish (TaskSchedule status turns prior next share) = option_map (λ part. (prior, part)) (status_part status)
-finish (Cancel flags task share) = if has_flag flags.0 flag.discarded_task then Some (task, Whole) else None
+finish (TaskSchedule status turns prior next claimed) =
+    option_map (λ part. (prior, part)) (status_part status)
+finish (Cancel flags task claimed) = if has_flag flags.0 flag.discarded_task then Some (task, Whole) else None
 finish _ = None
 
 -- what the record claims of the place of the task that it finishes
 abbrev pub claim : Body → Option Claim
-claim (TaskSchedule status turns prior next share) = share
-claim (Cancel flags task share) = share
+claim (TaskSchedule status turns prior next claimed) = claimed
+claim (Cancel flags task claimed) = claimed
 claim _ = None
 
 -- the task that begins or ends a synchronisation region, with the region's kind (19.5.2.13)
@@ -158,7 +159,7 @@ flags _ = None
 
 -- the flags of a cancellation (19.5.2.18)
 abbrev pub cancellation : Body → Option ℕ
-cancellation (Cancel given task share) = Some given.0
+cancellation (Cancel given task claimed) = Some given.0
 cancellation _ = None
 
 -- the task that must be running on the thread: the one that the record is of
@@ -167,14 +168,14 @@ running (ParallelBegin requested task parallel) = Some task
 running (ParallelEnd task parallel) = Some task
 running (ImplicitTask End actual index given parallel task) = Some task
 running (TaskCreate deps given task child) = Some task
-running (TaskSchedule status turns prior next share) = if demands_next status then Some prior else None
+running (TaskSchedule status turns prior next claimed) = if demands_next status then Some prior else None
 running (SyncRegion kind endpoint parallel task) = Some task
-running (Cancel given task share) = if has_flag given.0 flag.discarded_task then None else Some task
+running (Cancel given task claimed) = if has_flag given.0 flag.discarded_task then None else Some task
 running _ = None
 
 -- the task that stops running, whether or not it runs again
 abbrev pub stopped : Body → Option ℕ
-stopped (TaskSchedule status turns prior next share) = if demands_next status then Some prior else None
+stopped (TaskSchedule status turns prior next claimed) = if demands_next status then Some prior else None
 stopped _ = None
 
 -- the same task, and the turn that it ends
@@ -188,8 +189,8 @@ named (ParallelEnd task parallel) = task ∷ []
 named (ImplicitTask endpoint actual index given parallel task) = task ∷ []
 named (TaskCreate deps given task child) = task ∷ child ∷ []
 named (Dependences task list) = task ∷ []
-named (TaskSchedule status turns prior next share) =
-    prior ∷ option_to_list next ++ option_to_list (option_map (λ (c : Claim). c.root) share)
+named (TaskSchedule status turns prior next claimed) =
+    prior ∷ option_to_list next ++ option_to_list (option_map (λ (c : Claim). c.root) claimed)
 named (SyncRegion kind endpoint parallel task) = task ∷ []
-named (Cancel given task share) = task ∷ option_to_list (option_map (λ (c : Claim). c.root) share)
+named (Cancel given task claimed) = task ∷ option_to_list (option_map (λ (c : Claim). c.root) claimed)
 named _ = []

@@ -60,7 +60,7 @@ is_task task found = option_map_or (λ t. t == task) found false
 
 -- the moves of the task that the record makes: as the prior task before as the next one
 abbrev pub stops : ℕ → Body → List Move
-stops task (TaskSchedule status turns prior next share) = if prior == task then Stopped status ∷ [] else []
+stops task (TaskSchedule status turns prior next claimed) = if prior == task then Stopped status ∷ [] else []
 stops task _ = []
 
 abbrev pub moves_by : ℕ → Body → List Move
@@ -92,7 +92,7 @@ abbrev pub is_early : List Record → ℕ → ℕ → Bool
 is_early rs task i = option_map_or (λ (r : Record). early r.body) (slice_get rs i) false
   where
     early : Body → Bool
-    early (TaskSchedule status.EarlyFulfill turns prior next share) = prior == task
+    early (TaskSchedule status.EarlyFulfill turns prior next claimed) = prior == task
     early _ = false
 
 -- the places at which a task moves, in the order in which its moves are read: fulfilments ahead of its

@@ -25,7 +25,7 @@ after_body walk (ImplicitTask Begin actual index flags parallel task) =
     record { roots = task ∷ walk.roots; current = Some task }
 after_body walk (ImplicitTask End actual index flags parallel task) =
     record { roots = drop 1 walk.roots; current = slice_get walk.roots 1 }
-after_body walk (TaskSchedule status turns prior next share) =
+after_body walk (TaskSchedule status turns prior next claimed) =
     if demands_next status then record { roots = walk.roots; current = next } else walk
 after_body walk _ = walk
 

@@ -29,7 +29,7 @@ AreNamed table bits = bit_and bits (known_bits table) ≡ bits
 
 -- there is a next task exactly where the status demands one
 abbrev pub HasItsNext : Body → Type 0
-HasItsNext (TaskSchedule status turns prior next share) = is_some next ≡ demands_next status
+HasItsNext (TaskSchedule status turns prior next claimed) = is_some next ≡ demands_next status
 HasItsNext _ = ⊤
 
 -- an initial or implicit task begins or ends, but not both at once
@@ -66,10 +66,10 @@ BodyInRange (ImplicitTask endpoint actual index given parallel task) =
     (actual < 2 ^ 32) × (index < 2 ^ 32) × (parallel < 2 ^ 64) × (task < 2 ^ 64)
 BodyInRange (TaskCreate deps given task child) = (task < 2 ^ 64) × (child < 2 ^ 64)
 BodyInRange (Dependences task list) = (task < 2 ^ 64) × All (λ d. d.var < 2 ^ 64) list
-BodyInRange (TaskSchedule status turns prior next share) =
-    IfSome turns TurnsInRange × (prior < 2 ^ 64) × IfSome next (λ n. n < 2 ^ 64) × IfSome share ClaimInRange
+BodyInRange (TaskSchedule status turns prior next claimed) =
+    IfSome turns TurnsInRange × (prior < 2 ^ 64) × IfSome next (λ n. n < 2 ^ 64) × IfSome claimed ClaimInRange
 BodyInRange (SyncRegion kind endpoint parallel task) = IfSome parallel (λ n. n < 2 ^ 64) × (task < 2 ^ 64)
-BodyInRange (Cancel given task share) = (task < 2 ^ 64) × IfSome share ClaimInRange
+BodyInRange (Cancel given task claimed) = (task < 2 ^ 64) × IfSome claimed ClaimInRange
 
 pub record IsInRange (r : Record) : Type 0 where
   pub thread : r.thread < max_threads

@@ -40,7 +40,8 @@ turn_counted rs i task =
 
 -- the same body, with these turns
 abbrev pub telling : Turns → Body → Body
-telling told (TaskSchedule status turns prior next share) = TaskSchedule status (Some told) prior next share
+telling told (TaskSchedule status turns prior next claimed) =
+    TaskSchedule status (Some told) prior next claimed
 telling told body = body
 
 -- what the record at the place says in version 2: where a task runs next, in which turn its prior task is by

@@ -44,10 +44,10 @@ turns_of prior next = record {
 
 -- its record, with the claim of a task that it finishes
 abbrev pub schedule_body : ScheduleView → Option Claim → Body
-schedule_body s share =
+schedule_body s claimed =
     TaskSchedule s.status (option_map (turns_of s.prior) s.next) s.prior.id
     (option_map (λ (n : TaskView). n.id) s.next)
-    share
+    claimed
 
 -- ---- when it may come
 
@@ -137,7 +137,7 @@ abbrev pub with_discarded : CancelFlags → CancelFlags
 with_discarded given = record { 0 = bit_or given.0 flag.discarded_task }
 
 abbrev pub discard_body : TaskView → CancelFlags → Option Claim → Body
-discard_body t given share = Cancel (with_discarded given) t.id share
+discard_body t given claimed = Cancel (with_discarded given) t.id claimed
 
 -- the task has not begun, and each flag has a name
 abbrev pub may_discard : TaskView → CancelFlags → Bool

@@ -42,7 +42,7 @@ without_root s =
 abbrev pub next_standing : Standing → Body → Standing
 next_standing s (ImplicitTask Begin actual index given parallel task) = with_root s given.0 task
 next_standing s (ImplicitTask End actual index given parallel task) = without_root s
-next_standing s (TaskSchedule status turns prior next share) =
+next_standing s (TaskSchedule status turns prior next claimed) =
     record s { current = if demands_next status then next else s.current; awaited = None }
 next_standing s body = record s { awaited = created_with_deps body }
 

@@ -44,21 +44,21 @@ call_stopped (Some part) old new s told (index, concluded) same =
 
 -- one task stops and another one runs
 pub call_switched : (old new : RecorderView) (prior other : TaskView) (status : Status) (turns : Option Turns)
-    (p n : ℕ) (share : Option Claim) → IsStopped old (schedule_of prior status (Some other)) new
-    → prior.id ≡ p → other.id ≡ n → IsCalled old (TaskSchedule status turns p (Some n) share) new
-call_switched old new prior other status turns p n share stopped first second =
+    (p n : ℕ) (claimed : Option Claim) → IsStopped old (schedule_of prior status (Some other)) new
+    → prior.id ≡ p → other.id ≡ n → IsCalled old (TaskSchedule status turns p (Some n) claimed) new
+call_switched old new prior other status turns p n claimed stopped first second =
     call_stopped (status_part status) old new (schedule_of prior status (Some other))
-    (TaskSchedule status turns p (Some n) share) stopped
+    (TaskSchedule status turns p (Some n) claimed) stopped
     (ap (λ id. TaskSchedule status None id (Some other.id) None) first
     ∙ ap (λ id. TaskSchedule status None p (Some id) None) second)
 
 -- a task is discarded: its flags say so already
 pub call_discarded : (old new : RecorderView) (t : TaskView) (given : CancelFlags) (index : ℕ) (entry : Entry)
-    (task : ℕ) (share : Option Claim)
+    (task : ℕ) (claimed : Option Claim)
     → IsConcluded old entry index (discard_body t given (Some t.claim)) new
-    → bit_and given.0 64 ≡ 64 → t.id ≡ task → IsCalled old (Cancel given task share) new
-call_discarded old new t given index entry task share concluded has first =
-    call_recorded old new index new.seat (discard_body t given (Some t.claim)) (Cancel given task share)
+    → bit_and given.0 64 ≡ 64 → t.id ≡ task → IsCalled old (Cancel given task claimed) new
+call_discarded old new t given index entry task claimed concluded has first =
+    call_recorded old new index new.seat (discard_body t given (Some t.claim)) (Cancel given task claimed)
     concluded.1
     (ap (λ bits. Cancel (record { 0 = bits }) t.id None) same
     ∙ ap (λ id. Cancel given id None) first)

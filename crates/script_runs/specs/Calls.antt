@@ -10,8 +10,8 @@ use Rattle.scripts.specs.declared.script.Step.{Step}
 -- of a schedule, and at the end of an initial or implicit task the team's size, the task's number there and
 -- its flags, which are those with which it began
 abbrev pub called : Body → Body
-called (TaskSchedule status turns prior next share) = TaskSchedule status None prior next None
-called (Cancel given task share) = Cancel given task None
+called (TaskSchedule status turns prior next claimed) = TaskSchedule status None prior next None
+called (Cancel given task claimed) = Cancel given task None
 called (ImplicitTask End actual index given parallel task) =
     ImplicitTask End 0 0 (record { 0 = 0 }) parallel task
 called body = body

@@ -36,19 +36,19 @@ made_is_named task _ says = absurd (none-some task says)
 pub ended_is_named : (task : ℕ) (b : Body) → ended b ≡ Some task → Contains (named b) task
 ended_is_named task (ImplicitTask End actual index flags parallel root) says =
     head_is root task [] (same_Some root task says)
-ended_is_named task (TaskSchedule status.Complete turns prior next share) says =
+ended_is_named task (TaskSchedule status.Complete turns prior next claimed) says =
     head_is prior task _ (same_Some prior task says)
-ended_is_named task (TaskSchedule status.Cancel turns prior next share) says =
+ended_is_named task (TaskSchedule status.Cancel turns prior next claimed) says =
     head_is prior task _ (same_Some prior task says)
-ended_is_named task (TaskSchedule status.LateFulfill turns prior next share) says =
+ended_is_named task (TaskSchedule status.LateFulfill turns prior next claimed) says =
     head_is prior task _ (same_Some prior task says)
-ended_is_named task (TaskSchedule status.TaskwaitComplete turns prior next share) says =
+ended_is_named task (TaskSchedule status.TaskwaitComplete turns prior next claimed) says =
     head_is prior task _ (same_Some prior task says)
-ended_is_named task (Cancel flags own share) says =
+ended_is_named task (Cancel flags own claimed) says =
     ended_is_named_by (has_flag flags.0 flag.discarded_task) refl
   where
     ended_is_named_by : (b : Bool) → has_flag flags.0 flag.discarded_task ≡ b
-        → Contains (named (Cancel flags own share)) task
+        → Contains (named (Cancel flags own claimed)) task
     ended_is_named_by true is = head_is own task _ (same_Some own task (rw is at says))
     ended_is_named_by false is = absurd (none-some task (rw is at says))
 ended_is_named task _ says = absurd (none-some task says)

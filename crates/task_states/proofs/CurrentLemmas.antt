@@ -42,27 +42,27 @@ and_some (Some y) P x e h = let Q : ℕ → Type 0 = P in subst Q (sym (same_Som
 
 schedule_runs : (b : Body) (status : Status) (task : ℕ) (next : Option ℕ)
     → schedule b ≡ Some (status, task, next) → running b ≡ (if demands_next status then Some task else None)
-schedule_runs (TaskSchedule s turns p n share) status task next is =
+schedule_runs (TaskSchedule s turns p n claimed) status task next is =
     ap (λ (t : Status × ℕ × Option ℕ). if demands_next t.0 then Some t.1 else None)
     (same_Some (s, p, n) (status, task, next) is)
 schedule_runs _ status task next is = absurd (none-some (status, task, next) is)
 
 schedule_starts : (b : Body) (status : Status) (task : ℕ) (next : Option ℕ)
     → schedule b ≡ Some (status, task, next) → started b ≡ next
-schedule_starts (TaskSchedule s turns p n share) status task next is =
+schedule_starts (TaskSchedule s turns p n claimed) status task next is =
     ap (λ (t : Status × ℕ × Option ℕ). t.2) (same_Some (s, p, n) (status, task, next) is)
 schedule_starts _ status task next is = absurd (none-some (status, task, next) is)
 
 schedule_no_end : (b : Body) (status : Status) (task : ℕ) (next : Option ℕ)
     → schedule b ≡ Some (status, task, next) → ended_root b ≡ None
-schedule_no_end (TaskSchedule s turns p n share) status task next is = refl
+schedule_no_end (TaskSchedule s turns p n claimed) status task next is = refl
 schedule_no_end _ status task next is = absurd (none-some (status, task, next) is)
 
 schedule_waits : (b : Body) (status : Status) (task : ℕ) (next : Option ℕ)
     → schedule b ≡ Some (status, task, next) → status ≡ TaskwaitComplete → wait_completed b ≡ Some task
-schedule_waits (TaskSchedule s turns p n share) status task next is completes =
+schedule_waits (TaskSchedule s turns p n claimed) status task next is completes =
     let same : (s, p, n) ≡ (status, task, next) = same_Some (s, p, n) (status, task, next) is in
-    ap (λ (t : Status). wait_completed (TaskSchedule t turns p n share))
+    ap (λ (t : Status). wait_completed (TaskSchedule t turns p n claimed))
     (ap (λ (t : Status × ℕ × Option ℕ). t.0) same ∙ completes)
     ∙ ap (λ (t : Status × ℕ × Option ℕ). Some t.1) same
 schedule_waits _ status task next is completes = absurd (none-some (status, task, next) is)
@@ -70,7 +70,7 @@ schedule_waits _ status task next is completes = absurd (none-some (status, task
 waits_schedule : (b : Body) (status : Status) (task : ℕ) (next : Option ℕ) (own : ℕ)
     → schedule b ≡ Some (status, task, next) → wait_completed b ≡ Some own
     → (status ≡ TaskwaitComplete) × (own ≡ task)
-waits_schedule (TaskSchedule TaskwaitComplete turns p n share) status task next own is waits =
+waits_schedule (TaskSchedule TaskwaitComplete turns p n claimed) status task next own is waits =
     let same : (TaskwaitComplete, p, n) ≡ (status, task, next) =
     same_Some (TaskwaitComplete, p, n) (status, task, next) is in (
       sym (ap (λ (t : Status × ℕ × Option ℕ). t.0) same),
@@ -79,7 +79,7 @@ waits_schedule (TaskSchedule TaskwaitComplete turns p n share) status task next 
 waits_schedule _ status task next own is waits = absurd (none-some own waits)
 
 other_says : (b : Body) → schedule b ≡ None → (started b ≡ None) × (wait_completed b ≡ None)
-other_says (TaskSchedule s turns p n share) none = absurd (none-some (s, p, n) (sym none))
+other_says (TaskSchedule s turns p n claimed) none = absurd (none-some (s, p, n) (sym none))
 other_says _ none = (refl, refl)
 
 begin_says : (b : Body) (task : ℕ) → begun_root b ≡ Some task

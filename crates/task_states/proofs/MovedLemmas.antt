@@ -91,7 +91,7 @@ alone p i s stop false = refl
 -- early fulfilments
 early_by : (task i : ℕ) (b : Body) → HasItsNext b
     → passing is_early_move (made_by task i b) ≡ cond (early_for task b) (made_by task i b) []
-early_by task i (TaskSchedule status.EarlyFulfill turns prior None share) sound = of (prior == task)
+early_by task i (TaskSchedule status.EarlyFulfill turns prior None claimed) sound = of (prior == task)
   where
     of : (a : Bool)
         → passing is_early_move
@@ -99,11 +99,11 @@ early_by task i (TaskSchedule status.EarlyFulfill turns prior None share) sound 
         ≡ cond a (map (λ move. (i, move)) ((cond a (Stopped status.EarlyFulfill ∷ []) [] ++ []) ++ [])) []
     of true = refl
     of false = refl
-early_by task i (TaskSchedule status.EarlyFulfill turns prior (Some next) share) sound =
+early_by task i (TaskSchedule status.EarlyFulfill turns prior (Some next) claimed) sound =
     absurd (false≢true (sym sound))
-early_by task i (TaskSchedule s turns prior next share) sound =
+early_by task i (TaskSchedule s turns prior next claimed) sound =
     neither is_early_move i s refl refl (prior == task) (is_task task next)
-early_by task i (Cancel flags other share) sound =
+early_by task i (Cancel flags other claimed) sound =
     of (is_task task (cond (has_flag flags.0 flag.discarded_task) (Some other) None))
   where
     of : (a : Bool) → passing is_early_move (map (λ move. (i, move)) (cond a (Discarded ∷ []) [])) ≡ []
@@ -119,7 +119,7 @@ switches b = option_map_or demands_next (says_status b) false
 apart_by : (task i : ℕ) (b : Body) → HasItsNext b
     → passing is_apart (made_by task i b)
     ≡ cond (not (early_for task b) && not (switches b)) (made_by task i b) []
-apart_by task i (TaskSchedule status.EarlyFulfill turns prior None share) sound = of (prior == task)
+apart_by task i (TaskSchedule status.EarlyFulfill turns prior None claimed) sound = of (prior == task)
   where
     of : (a : Bool)
         → passing is_apart
@@ -128,19 +128,19 @@ apart_by task i (TaskSchedule status.EarlyFulfill turns prior None share) sound 
         (map (λ move. (i, move)) ((cond a (Stopped status.EarlyFulfill ∷ []) [] ++ []) ++ [])) []
     of true = refl
     of false = refl
-apart_by task i (TaskSchedule status.EarlyFulfill turns prior (Some next) share) sound =
+apart_by task i (TaskSchedule status.EarlyFulfill turns prior (Some next) claimed) sound =
     absurd (false≢true (sym sound))
-apart_by task i (TaskSchedule status.LateFulfill turns prior None share) sound =
+apart_by task i (TaskSchedule status.LateFulfill turns prior None claimed) sound =
     alone is_apart i status.LateFulfill refl (prior == task)
-apart_by task i (TaskSchedule status.LateFulfill turns prior (Some next) share) sound =
+apart_by task i (TaskSchedule status.LateFulfill turns prior (Some next) claimed) sound =
     absurd (false≢true (sym sound))
-apart_by task i (TaskSchedule status.TaskwaitComplete turns prior None share) sound =
+apart_by task i (TaskSchedule status.TaskwaitComplete turns prior None claimed) sound =
     alone is_apart i status.TaskwaitComplete refl (prior == task)
-apart_by task i (TaskSchedule status.TaskwaitComplete turns prior (Some next) share) sound =
+apart_by task i (TaskSchedule status.TaskwaitComplete turns prior (Some next) claimed) sound =
     absurd (false≢true (sym sound))
-apart_by task i (TaskSchedule s turns prior next share) sound =
+apart_by task i (TaskSchedule s turns prior next claimed) sound =
     neither is_apart i s refl refl (prior == task) (is_task task next)
-apart_by task i (Cancel flags other share) sound =
+apart_by task i (Cancel flags other claimed) sound =
     of (is_task task (cond (has_flag flags.0 flag.discarded_task) (Some other) None))
   where
     of : (a : Bool)

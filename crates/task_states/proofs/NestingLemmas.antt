@@ -178,7 +178,7 @@ roots_kept w (ImplicitTask Begin actual index flags parallel own) no_begin no_en
     absurd (none-some own (sym no_begin))
 roots_kept w (ImplicitTask End actual index flags parallel own) no_begin no_end =
     absurd (none-some own (sym no_end))
-roots_kept w (TaskSchedule status turns prior next share) no_begin no_end = by (demands_next status)
+roots_kept w (TaskSchedule status turns prior next claimed) no_begin no_end = by (demands_next status)
   where
     by : (b : Bool) → (cond b (record { roots = w.roots; current = next }) w).roots ≡ w.roots
     by true = refl

@@ -45,7 +45,7 @@ use Rattle.task_states.specs.Homes.{home_told, home_at, IsNeverEarly}
 
 -- whether the body fulfils the task's event early
 abbrev pub early_for : ℕ → Body → Bool
-early_for task (TaskSchedule EarlyFulfill turns prior next share) = prior == task
+early_for task (TaskSchedule EarlyFulfill turns prior next claimed) = prior == task
 early_for task _ = false
 
 pub early_there : (rs : List Record) (i task : ℕ) (r : Record) → slice_get rs i ≡ Some r
@@ -65,7 +65,7 @@ start_early rs i task is_trace says =
     early_there rs i task r stands ∙ of r.body sound is
   where
     of : (b : Body) → HasItsNext b → started b ≡ Some task → early_for task b ≡ false
-    of (TaskSchedule EarlyFulfill turns prior next share) sound is =
+    of (TaskSchedule EarlyFulfill turns prior next claimed) sound is =
         absurd (false≢true (sym sound ∙ ap is_some is))
     of _ sound is = refl
 
@@ -75,7 +75,7 @@ discard_early rs i task says =
     early_there rs i task r stands ∙ of r.body is
   where
     of : (b : Body) → discarded b ≡ Some task → early_for task b ≡ false
-    of (Cancel flags other share) is = refl
+    of (Cancel flags other claimed) is = refl
     of _ is = absurd (none-some task is)
 
 -- ---- which moves begin or end a turn
@@ -98,7 +98,7 @@ start_switch rs i task is_trace says =
   where
     of : (b : Body) → HasItsNext b → started b ≡ Some task
         → option_map_or demands_next (says_status b) false ≡ true
-    of (TaskSchedule s turns prior next share) sound is = sym sound ∙ ap is_some is
+    of (TaskSchedule s turns prior next claimed) sound is = sym sound ∙ ap is_some is
     of _ sound is = absurd (none-some task is)
 
 discard_switch : (rs : List Record) (i task : ℕ) → at discarded rs i ≡ Some task → is_switch rs i ≡ false
@@ -107,7 +107,7 @@ discard_switch rs i task says =
     switch_there rs i r stands ∙ of r.body is
   where
     of : (b : Body) → discarded b ≡ Some task → option_map_or demands_next (says_status b) false ≡ false
-    of (Cancel flags other share) is = refl
+    of (Cancel flags other claimed) is = refl
     of _ is = absurd (none-some task is)
 
 -- ---- the moves as the code makes them
@@ -145,7 +145,7 @@ scheduled_next rs i status task next says =
     at_get started rs i r stands ∙ of r.body is
   where
     of : (b : Body) → schedule b ≡ Some (status, task, next) → started b ≡ next
-    of (TaskSchedule s turns p n share) is =
+    of (TaskSchedule s turns p n claimed) is =
         ap (λ (t : Status × ℕ × Option ℕ). t.2) (same_Some (s, p, n) (status, task, next) is)
     of _ is = absurd (none-some (status, task, next) is)
 
@@ -250,7 +250,7 @@ schedule_moves pass rs i r status prior next moves stands says task =
         → moves task ++ cond reads (map (λ move. (i, move)) (moves_by task b)) []
         ≡ and_move pass rs i next step.Started
         (and_move pass rs i (Some prior) (step.Stopped status) moves) task
-    of (TaskSchedule s turns p n share) is =
+    of (TaskSchedule s turns p n claimed) is =
         let same : (s, p, n) ≡ (status, prior, next) = same_Some (s, p, n) (status, prior, next) is in
         two_moves (moves task) i (Stopped s) Started reads (p == task) (is_task task n)
         ∙ ap
@@ -275,7 +275,7 @@ discard_moves pass rs i r named moves stands says task =
     of : (b : Body) → discarded b ≡ Some named
         → moves task ++ cond reads (map (λ move. (i, move)) (moves_by task b)) []
         ≡ and_move pass rs i (Some named) step.Discarded moves task
-    of (Cancel flags t share) is =
+    of (Cancel flags t claimed) is =
         ap
         (λ (o : Option ℕ).
         moves task
@@ -296,8 +296,8 @@ no_moves pass rs i r moves stands no_schedule no_discard task =
 
     of : (b : Body) → schedule b ≡ None → discarded b ≡ None
         → moves task ++ cond reads (map (λ move. (i, move)) (moves_by task b)) [] ≡ moves task
-    of (TaskSchedule s turns p n share) is missing = absurd (none-some (s, p, n) (sym is))
-    of (Cancel flags t share) is missing =
+    of (TaskSchedule s turns p n claimed) is missing = absurd (none-some (s, p, n) (sym is))
+    of (Cancel flags t claimed) is missing =
         ap
         (λ (o : Option ℕ).
         moves task
@@ -369,7 +369,7 @@ pub not_early : (rs : List Record) (i : ℕ) → fulfils_early rs i ≡ false �
 not_early rs i says task = there (slice_get rs i) says
   where
     of : (b : Body) → option_map_or is_early_status (says_status b) false ≡ false → early_for task b ≡ false
-    of (TaskSchedule EarlyFulfill turns prior next share) is = absurd (false≢true (sym is))
+    of (TaskSchedule EarlyFulfill turns prior next claimed) is = absurd (false≢true (sym is))
     of _ is = refl
 
     there : (o : Option Record)

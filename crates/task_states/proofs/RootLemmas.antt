@@ -69,7 +69,8 @@ roots_after rs thread walk (ImplicitTask Begin actual index flags parallel task)
     (begins task refl, each)
 roots_after rs thread walk (ImplicitTask End actual index flags parallel task) each begins =
     every_rest (IsBegunOn rs thread) walk.roots each
-roots_after rs thread walk (TaskSchedule status turns prior next share) each begins = by (demands_next status)
+roots_after rs thread walk (TaskSchedule status turns prior next claimed) each begins =
+    by (demands_next status)
   where
     by : (b : Bool)
         → Every (IsBegunOn rs thread)

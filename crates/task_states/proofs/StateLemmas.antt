@@ -49,7 +49,7 @@ use Rattle.task_states.specs.States.{StatesView, AreStates, IsStates, IsLastStat
 -- what a record moves it names
 named_by : (task : ℕ) (b : Body) (move : Move) → Contains (moves_by task b) move
     → (subject b ≡ Some task) ⊎ (object b ≡ Some task)
-named_by task (TaskSchedule status turns prior next share) move has =
+named_by task (TaskSchedule status turns prior next claimed) move has =
     of (prior == task) refl (is_task task next) refl has
   where
     of : (a : Bool) → prior == task ≡ a → (b : Bool) → is_task task next ≡ b
@@ -58,7 +58,7 @@ named_by task (TaskSchedule status turns prior next share) move has =
     of true e b e' has' = inl (ap Some (eqb-true prior task e))
     of false e true e' has' = inr (is_the_task task next e')
     of false e false e' (i, low, is) = absurd (omega arith)
-named_by task (Cancel flags t share) move has = of (has_flag flags.0 flag.discarded_task) has
+named_by task (Cancel flags t claimed) move has = of (has_flag flags.0 flag.discarded_task) has
   where
     of : (b : Bool) → Contains (cond (is_task task (cond b (Some t) None)) (Discarded ∷ []) []) move
         → (Some t ≡ Some task) ⊎ (None ≡ Some task)
@@ -140,7 +140,7 @@ start_there rs task turn k i move has = of (is_turn task turn (at begun_turn rs 
           where
             body : (b : Body) → started b ≡ Some task
                 → Contains {X = ℕ × Move} (map (λ m. (k, m)) (moves_by task b)) (k, Started)
-            body (TaskSchedule status turns prior next share) is' =
+            body (TaskSchedule status turns prior next claimed) is' =
                 subst
                 (λ c.
                 Contains {X = ℕ × Move}

@@ -51,7 +51,7 @@ begun_own b task starts p is =
 -- and the one that ends that of the prior task
 stopped_own : (b : Body) (task prior : ℕ) (status : Status) (next : Option ℕ)
     → schedule b ≡ Some (status, prior, next) → stopped b ≡ Some task → task ≡ prior
-stopped_own (TaskSchedule s turns own follower share) task prior status next says stops =
+stopped_own (TaskSchedule s turns own follower claimed) task prior status next says stops =
     of (demands_next s) stops
     ∙ ap (λ (t : Status × ℕ × Option ℕ). t.1) (same_Some (s, own, follower) (status, prior, next) says)
   where
@@ -88,7 +88,7 @@ pub none_ended : (rs : List Record) (i : ℕ) → at schedule rs i ≡ None → 
 none_ended rs i silent = there (slice_get rs i) refl silent
   where
     of : (b : Body) → schedule b ≡ None → ended_turn b ≡ None
-    of (TaskSchedule s turns prior next share) is = absurd (none-some (s, prior, next) (sym is))
+    of (TaskSchedule s turns prior next claimed) is = absurd (none-some (s, prior, next) (sym is))
     of _ is = refl
 
     there : (o : Option Record) → slice_get rs i ≡ o
@@ -230,7 +230,7 @@ end_alone rs i prior turn other status next says here =
 
     by : (b : Body) → schedule b ≡ Some (status, prior, next)
         → stops other b ≡ cond (prior == other) (Stopped status ∷ []) []
-    by (TaskSchedule s turns p n share) is =
+    by (TaskSchedule s turns p n claimed) is =
         ap (λ (t : Status × ℕ × Option ℕ). cond (t.1 == other) (Stopped t.0 ∷ []) [])
         (same_Some (s, p, n) (status, prior, next) is)
     by _ is = absurd (none-some (status, prior, next) is)

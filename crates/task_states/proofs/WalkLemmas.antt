@@ -109,7 +109,7 @@ nothing_there run i r stands (none, no_begin, no_end, no_run) = (
 schedule_after : (w : Walk) (b : Body) (status : Status) (prior : ℕ) (next : Option ℕ)
     → schedule b ≡ Some (status, prior, next)
     → after_body w b ≡ (if demands_next status then record { roots = w.roots; current = next } else w)
-schedule_after w (TaskSchedule s turns p n share) status prior next is =
+schedule_after w (TaskSchedule s turns p n claimed) status prior next is =
     ap
     (λ (t : Status × ℕ × Option ℕ).
     if demands_next t.0 then record { roots = w.roots; current = t.2 } else w)
@@ -133,7 +133,8 @@ quiet_after w (ImplicitTask Begin actual index flags parallel own) none no_begin
     absurd (none-some own (sym no_begin))
 quiet_after w (ImplicitTask End actual index flags parallel own) none no_begin no_end =
     absurd (none-some own (sym no_end))
-quiet_after w (TaskSchedule s turns p n share) none no_begin no_end = absurd (none-some (s, p, n) (sym none))
+quiet_after w (TaskSchedule s turns p n claimed) none no_begin no_end =
+    absurd (none-some (s, p, n) (sym none))
 quiet_after w _ none no_begin no_end = refl
 
 indexed_after : (tasks : List ℕ) (walk w : Walk) (event : ThreadEvent) (b : Body) → Tells tasks b event

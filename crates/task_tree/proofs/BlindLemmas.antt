@@ -31,41 +31,41 @@ blind_at {X} f blind rs i ss j alike =
     through (Some r) = blind r.body
 
 pub blind_running : IsBlind running
-blind_running (TaskSchedule status turns prior next share) = refl
+blind_running (TaskSchedule status turns prior next claimed) = refl
 blind_running _ = refl
 
 pub blind_joined : IsBlind joined
-blind_joined (TaskSchedule status turns prior next share) = refl
+blind_joined (TaskSchedule status turns prior next claimed) = refl
 blind_joined _ = refl
 
 pub blind_creation : IsBlind creation
-blind_creation (TaskSchedule status turns prior next share) = refl
+blind_creation (TaskSchedule status turns prior next claimed) = refl
 blind_creation _ = refl
 
 pub blind_begun_root : IsBlind begun_root
-blind_begun_root (TaskSchedule status turns prior next share) = refl
+blind_begun_root (TaskSchedule status turns prior next claimed) = refl
 blind_begun_root _ = refl
 
 pub blind_created : IsBlind created
-blind_created (TaskSchedule status turns prior next share) = refl
+blind_created (TaskSchedule status turns prior next claimed) = refl
 blind_created _ = refl
 
 pub blind_begun_initial : IsBlind begun_initial
-blind_begun_initial (TaskSchedule status turns prior next share) = refl
+blind_begun_initial (TaskSchedule status turns prior next claimed) = refl
 blind_begun_initial _ = refl
 
 pub blind_dependences : IsBlind dependences
-blind_dependences (TaskSchedule status turns prior next share) = refl
+blind_dependences (TaskSchedule status turns prior next claimed) = refl
 blind_dependences _ = refl
 
 pub blind_region : IsBlind region
-blind_region (TaskSchedule status turns prior next share) = refl
+blind_region (TaskSchedule status turns prior next claimed) = refl
 blind_region _ = refl
 
 pub blind_finish : IsBlind finish
-blind_finish (TaskSchedule status turns prior next share) = refl
+blind_finish (TaskSchedule status turns prior next claimed) = refl
 blind_finish _ = refl
 
 pub blind_claim : IsBlind claim
-blind_claim (TaskSchedule status turns prior next share) = refl
+blind_claim (TaskSchedule status turns prior next claimed) = refl
 blind_claim _ = refl

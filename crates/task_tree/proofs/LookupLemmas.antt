@@ -38,16 +38,17 @@ subject_named task (ImplicitTask endpoint actual number flags parallel own) is =
     (0, omega arith, same_Some own task is)
 subject_named task (TaskCreate deps flags own child) is = (0, omega arith, same_Some own task is)
 subject_named task (Dependences own list) is = (0, omega arith, same_Some own task is)
-subject_named task (TaskSchedule status turns prior next share) is = (0, omega arith, same_Some prior task is)
+subject_named task (TaskSchedule status turns prior next claimed) is =
+    (0, omega arith, same_Some prior task is)
 subject_named task (SyncRegion kind endpoint parallel own) is = (0, omega arith, same_Some own task is)
-subject_named task (Cancel flags own share) is = (0, omega arith, same_Some own task is)
+subject_named task (Cancel flags own claimed) is = (0, omega arith, same_Some own task is)
 subject_named task _ is = absurd (none-some task is)
 
 object_named : (task : ℕ) (b : Body) → object b ≡ Some task → Contains (named b) task
 object_named task (TaskCreate deps flags own child) is = (1, omega arith, same_Some child task is)
-object_named task (TaskSchedule status turns prior (Some next) share) is =
+object_named task (TaskSchedule status turns prior (Some next) claimed) is =
     (1, omega arith, same_Some next task is)
-object_named task (TaskSchedule status turns prior None share) is = absurd (none-some task is)
+object_named task (TaskSchedule status turns prior None claimed) is = absurd (none-some task is)
 object_named task _ is = absurd (none-some task is)
 
 -- each is one that some record makes

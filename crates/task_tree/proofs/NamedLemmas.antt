@@ -60,14 +60,14 @@ dependences_subject task items _ is = absurd (none-some (task, items) is)
 
 pub finish_subject : (task : ℕ) (part : Part) (b : Body) → finish b ≡ Some (task, part)
     → subject b ≡ Some task
-finish_subject task part (TaskSchedule status turns prior next share) is = with_part (status_part status) is
+finish_subject task part (TaskSchedule status turns prior next claimed) is = with_part (status_part status) is
   where
     with_part : (o : Option Part)
         → option_map {U = ℕ × Part} (λ (p : Part). (prior, p)) o ≡ Some (task, part)
         → Some prior ≡ Some task
     with_part None is' = absurd (none-some (task, part) is')
     with_part (Some p) is' = ap (λ (q : ℕ × Part). Some q.0) (same_Some (prior, p) (task, part) is')
-finish_subject task part (Cancel flags own share) is =
+finish_subject task part (Cancel flags own claimed) is =
     ap (λ (q : ℕ × Part). Some q.0)
     (if_some (has_flag flags.0 flag.discarded_task) (own, Whole) (task, part) is)
 finish_subject task part _ is = absurd (none-some (task, part) is)
@@ -81,5 +81,5 @@ region_subject task kind endpoint _ is = absurd (none-some (task, kind, endpoint
 -- ---- the second task
 
 pub started_object : (task : ℕ) (b : Body) → started b ≡ Some task → object b ≡ Some task
-started_object task (TaskSchedule status turns prior next share) is = is
+started_object task (TaskSchedule status turns prior next claimed) is = is
 started_object task _ is = absurd (none-some task is)

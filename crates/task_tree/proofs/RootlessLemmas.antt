@@ -226,15 +226,15 @@ named_by P (ImplicitTask endpoint actual index given parallel task) =
 named_by P (TaskCreate deps given task child) =
     (named_parts P task (Some child) None, parts_named P task (Some child) None)
 named_by P (Dependences task list) = (named_parts P task None None, parts_named P task None None)
-named_by P (TaskSchedule status turns prior next share) = (
-  named_parts P prior next (option_map (λ (c : Claim). c.root) share),
-  parts_named P prior next (option_map (λ (c : Claim). c.root) share),
+named_by P (TaskSchedule status turns prior next claimed) = (
+  named_parts P prior next (option_map (λ (c : Claim). c.root) claimed),
+  parts_named P prior next (option_map (λ (c : Claim). c.root) claimed),
 )
 named_by P (SyncRegion kind endpoint parallel task) =
     (named_parts P task None None, parts_named P task None None)
-named_by P (Cancel given task share) = (
-  named_parts P task None (option_map (λ (c : Claim). c.root) share),
-  parts_named P task None (option_map (λ (c : Claim). c.root) share),
+named_by P (Cancel given task claimed) = (
+  named_parts P task None (option_map (λ (c : Claim). c.root) claimed),
+  parts_named P task None (option_map (λ (c : Claim). c.root) claimed),
 )
 named_by P _ = (
   λ has.
@@ -248,8 +248,8 @@ named_by P _ = (
       ],
 )
 
-claim_root : (P : ℕ → Type 0) (share : Option Claim)
-    → IsSomeAnd share (λ c. P c.root) ↔ IsSomeAnd (option_map (λ (c : Claim). c.root) share) P
+claim_root : (P : ℕ → Type 0) (claimed : Option Claim)
+    → IsSomeAnd claimed (λ c. P c.root) ↔ IsSomeAnd (option_map (λ (c : Claim). c.root) claimed) P
 claim_root P None = (λ h. h, λ h. h)
 claim_root P (Some c) = (λ h. h, λ h. h)
 
@@ -351,11 +351,11 @@ region_left tasks regions roots b first second finds found full no_object no_cla
 
 -- a record that may have a claim
 pub claim_left : (tasks regions : List ℕ) (roots : List (Option Standing)) (b : Body)
-    (first second : Option ℕ) (share : Option Claim)
+    (first second : Option ℕ) (claimed : Option Claim)
     → Finds tasks (subject b) first → Finds tasks (object b) second → (first ≡ None → ⊥)
-    → (IsMissing (object b) second → ⊥) → claim b ≡ share → created b ≡ None → region_named b ≡ None
-    → IsRootless tasks regions roots b → IsSomeAnd share (λ c. Contains tasks c.root → ⊥)
-claim_left tasks regions roots b first second share finds found full filled is no_child none has =
+    → (IsMissing (object b) second → ⊥) → claim b ≡ claimed → created b ≡ None → region_named b ≡ None
+    → IsRootless tasks regions roots b → IsSomeAnd claimed (λ c. Contains tasks c.root → ⊥)
+claim_left tasks regions roots b first second claimed finds found full filled is no_child none has =
     elim (rest_of tasks regions roots b first second finds found full filled has) [
       | inl claimed ↦
           let P : Option Claim → Type 0 = λ o. IsSomeAnd o (λ c. Contains tasks c.root → ⊥) in
@@ -370,9 +370,10 @@ claim_left tasks regions roots b first second share finds found full filled is n
     ]
 
 pub claim_rootless : (tasks regions : List ℕ) (roots : List (Option Standing)) (b : Body)
-    (share : Option Claim)
-    → claim b ≡ share → IsSomeAnd share (λ c. Contains tasks c.root → ⊥) → IsRootless tasks regions roots b
-claim_rootless tasks regions roots b share is has =
+    (claimed : Option Claim)
+    → claim b ≡ claimed → IsSomeAnd claimed (λ c. Contains tasks c.root → ⊥)
+    → IsRootless tasks regions roots b
+claim_rootless tasks regions roots b claimed is has =
     let P : Option Claim → Type 0 = λ o. IsSomeAnd o (λ c. Contains tasks c.root → ⊥) in
     inl
     ((named_by (λ t. Contains tasks t → ⊥) b).1

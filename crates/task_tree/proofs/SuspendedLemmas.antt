@@ -139,7 +139,7 @@ pub after_roots : (P : ℕ → Type 0) (walk : Walk) (b : Body) → ((task : ℕ
 after_roots P walk (ImplicitTask Begin actual index flags parallel task) new each = (new task refl, each)
 after_roots P walk (ImplicitTask End actual index flags parallel task) new each = every_rest P walk.roots each
 after_roots P walk (ImplicitTask BeginEnd actual index flags parallel task) new each = each
-after_roots P walk (TaskSchedule status turns prior next share) new each = by (demands_next status)
+after_roots P walk (TaskSchedule status turns prior next claimed) new each = by (demands_next status)
   where
     by : (d : Bool) → Every P (if d then (record { roots = walk.roots; current = next }) else walk).roots
     by true = each
@@ -159,13 +159,13 @@ after_current walk (ImplicitTask Begin actual index flags parallel root) task fi
 after_current walk (ImplicitTask End actual index flags parallel root) task fits is = uncovered is
 after_current walk (ImplicitTask BeginEnd actual index flags parallel root) task fits is =
     goes_on is refl refl
-after_current walk (TaskSchedule status turns prior next share) task fits is =
+after_current walk (TaskSchedule status turns prior next claimed) task fits is =
     by (demands_next status) refl next fits is
   where
     by : (d : Bool) → demands_next status ≡ d → (o : Option ℕ) → is_some o ≡ demands_next status
         → (if demands_next status then (record { roots = walk.roots; current = o }) else walk).current
         ≡ Some task
-        → ComesToRun walk (TaskSchedule status turns prior o share) task
+        → ComesToRun walk (TaskSchedule status turns prior o claimed) task
     by true e o fits' is' =
         is_started
         (sym (ap (λ d. (if d then (record { roots = walk.roots; current = o }) else walk).current) e)
@@ -326,16 +326,16 @@ pub record Suspended (b : Body) (task turn : ℕ) : Type 0 where
 
 pub suspended_parts : (b : Body) (task turn : ℕ) → HasItsNext b → HasItsTurns 2 b
     → suspended_turn b ≡ Some (task, turn) → Suspended b task turn
-suspended_parts (TaskSchedule Yield None prior None share) task turn fits told is = cc
-suspended_parts (TaskSchedule Yield (Some t) prior None share) task turn fits told is = cc
-suspended_parts (TaskSchedule Yield None prior (Some q) share) task turn fits told is = cc
-suspended_parts (TaskSchedule Yield (Some t) prior (Some q) share) task turn fits told is =
+suspended_parts (TaskSchedule Yield None prior None claimed) task turn fits told is = cc
+suspended_parts (TaskSchedule Yield (Some t) prior None claimed) task turn fits told is = cc
+suspended_parts (TaskSchedule Yield None prior (Some q) claimed) task turn fits told is = cc
+suspended_parts (TaskSchedule Yield (Some t) prior (Some q) claimed) task turn fits told is =
     let parts = some_pair_parts prior task t.prior turn is in
     record { told = t; tells = refl; turn_told = parts.1; runs = ap Some parts.0; stops = ap Some parts.0 }
-suspended_parts (TaskSchedule Switch None prior None share) task turn fits told is = cc
-suspended_parts (TaskSchedule Switch (Some t) prior None share) task turn fits told is = cc
-suspended_parts (TaskSchedule Switch None prior (Some q) share) task turn fits told is = cc
-suspended_parts (TaskSchedule Switch (Some t) prior (Some q) share) task turn fits told is =
+suspended_parts (TaskSchedule Switch None prior None claimed) task turn fits told is = cc
+suspended_parts (TaskSchedule Switch (Some t) prior None claimed) task turn fits told is = cc
+suspended_parts (TaskSchedule Switch None prior (Some q) claimed) task turn fits told is = cc
+suspended_parts (TaskSchedule Switch (Some t) prior (Some q) claimed) task turn fits told is =
     let parts = some_pair_parts prior task t.prior turn is in
     record { told = t; tells = refl; turn_told = parts.1; runs = ap Some parts.0; stops = ap Some parts.0 }
 suspended_parts b task turn fits told is = absurd (none-some (task, turn) is)

@@ -9,7 +9,7 @@ use Rattle.ompt_events.specs.Places.{at, is_own}
 
 -- what a record says, but for turns
 abbrev pub untold : Body → Body
-untold (TaskSchedule status turns prior next share) = TaskSchedule status None prior next share
+untold (TaskSchedule status turns prior next claimed) = TaskSchedule status None prior next claimed
 untold body = body
 
 -- the records at the places say the same, but for turns

@@ -15,15 +15,15 @@ subject (ParallelEnd task parallel) = Some task
 subject (ImplicitTask endpoint actual number flags parallel task) = Some task
 subject (TaskCreate deps flags task child) = Some task
 subject (Dependences task list) = Some task
-subject (TaskSchedule status turns prior next share) = Some prior
+subject (TaskSchedule status turns prior next claimed) = Some prior
 subject (SyncRegion kind endpoint parallel task) = Some task
-subject (Cancel flags task share) = Some task
+subject (Cancel flags task claimed) = Some task
 subject _ = None
 
 -- the second task that it names: the child that is created, or the next task of a schedule
 abbrev pub object : Body → Option ℕ
 object (TaskCreate deps flags task child) = Some child
-object (TaskSchedule status turns prior next share) = next
+object (TaskSchedule status turns prior next claimed) = next
 object _ = None
 
 -- the slot has the index of the task in the list of tasks, or nothing if the list does not have the task

@@ -160,8 +160,8 @@ pub enrolled_more : (rs : List Record) (n : ℕ) (tasks : List ℕ) (rosters : L
     → IsLead rs tasks m.parallel lead → slice_get tasks own ≡ Some m.member
     → slice_get rosters lead ≡ Some old → slice_get old.items m.index ≡ Some None
     → new.items ≡ set old.items m.index (Some own) → AreEnrolled rs (n + 1) tasks (set rosters lead new)
-enrolled_more rs n tasks rosters m lead own old new free apart are joins leads is_own stands_old is_free is_new
-    =
+enrolled_more rs n tasks rosters m lead own old new free apart are joins leads is_own stands_old
+    is_free is_new =
     record {
       all = length-set rosters lead new ∙ are.all;
       each = λ parallel index roster leads' stands. elim (cases_eq index lead) [

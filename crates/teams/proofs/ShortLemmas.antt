@@ -30,7 +30,8 @@ use Rattle.teams.specs.Missed.{IsBarrierMissed}
 use Rattle.teams.proofs.MissedLemmas.{AreFewestOf}
 use Rattle.teams.specs.Rosters.{IsSlotOf, AreSlots, AreEnrolled, LacksNothing, IsWholeBefore}
 use Rattle.task_states.specs.Rows.{row_items, row_at}
-use Rattle.teams.specs.Short.{IsFirstLack, AreAllEnrolled, IsMissedAt, IsMissedNowhere, FindsMissed, IsSearched}
+use Rattle.teams.specs.Short.{IsFirstLack, AreAllEnrolled, IsMissedAt, IsMissedNowhere}
+use Rattle.teams.specs.Short.{FindsMissed, IsSearched}
 use Rattle.teams.specs.Teams.{IsMemberNumbered, alone, together, AreRosters, AreBarrierBegins, IsTeams}
 use Rattle.teams.proofs.BeginLemmas.{begins_few}
 use Rattle.teams.proofs.RegionEndLemmas.{ends_at}

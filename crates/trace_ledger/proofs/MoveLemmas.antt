@@ -51,11 +51,11 @@ Finishes moves part = (k : ℕ) × (move : Move) × (slice_get moves k ≡ Some 
 
 body_finishes : (task : ℕ) (part : Part) (b : RecordBody) → finish b ≡ Some (task, part)
     → Finishes (moves_by task b) part
-body_finishes task part (TaskSchedule status turns prior next share) is = of (status_part status) refl is
+body_finishes task part (TaskSchedule status turns prior next claimed) is = of (status_part status) refl is
   where
     of : (found : Option Part) → status_part status ≡ found
         → option_map {U = ℕ × Part} (λ (p : Part). (prior, p)) found ≡ Some (task, part)
-        → Finishes (moves_by task (TaskSchedule status turns prior next share)) part
+        → Finishes (moves_by task (TaskSchedule status turns prior next claimed)) part
     of None told is = absurd (none-some (task, part) is)
     of (Some own) told is =
         let same = same_Some (prior, own) (task, part) is in
@@ -66,7 +66,7 @@ body_finishes task part (TaskSchedule status turns prior next share) is = of (st
           ap (λ l. slice_get ((l ++ cond (is_task task next) (Started ∷ []) []) ++ []) 0) here,
           told ∙ ap (λ (f : ℕ × Part). Some f.1) same,
         )
-body_finishes task part (Cancel flags own share) is = of (has_flag flags.0 flag.discarded_task) is
+body_finishes task part (Cancel flags own claimed) is = of (has_flag flags.0 flag.discarded_task) is
   where
     of : (b : Bool) → cond {A = Option (ℕ × Part)} b (Some (own, Whole)) None ≡ Some (task, part)
         → Finishes (cond (is_task task (cond b (Some own) None)) (Discarded ∷ []) []) part
@@ -172,11 +172,11 @@ none_apart status.EarlyFulfill own told e = absurd (none-some own told)
 none_apart _ own told e = cc
 
 body_ends : (task : ℕ) (part : Part) (b : RecordBody) → finish b ≡ Some (task, part) → Finish task part b
-body_ends task part (TaskSchedule status turns prior next share) is = of (status_part status) refl is
+body_ends task part (TaskSchedule status turns prior next claimed) is = of (status_part status) refl is
   where
     by : (b : Bool) → demands_next status ≡ b → prior ≡ task → status_part status ≡ Some part
         → cond (prior == task) (Stopped status ∷ []) [] ≡ Stopped status ∷ []
-        → Finish task part (TaskSchedule status turns prior next share)
+        → Finish task part (TaskSchedule status turns prior next claimed)
     by true e its ends here = in_turn status (ap (λ b. cond b (Some prior) None) e ∙ ap Some its) here ends
     by false e its ends here =
         aside (Stopped status) 0
@@ -185,14 +185,14 @@ body_ends task part (TaskSchedule status turns prior next share) is = of (status
 
     of : (found : Option Part) → status_part status ≡ found
         → option_map {U = ℕ × Part} (λ (p : Part). (prior, p)) found ≡ Some (task, part)
-        → Finish task part (TaskSchedule status turns prior next share)
+        → Finish task part (TaskSchedule status turns prior next claimed)
     of None told is = absurd (none-some (task, part) is)
     of (Some own) told is =
         let same = same_Some (prior, own) (task, part) is in
         let its : prior ≡ task = ap (λ (f : ℕ × Part). f.0) same in
         by (demands_next status) refl its (told ∙ ap (λ (f : ℕ × Part). Some f.1) same)
         (ap (λ b. cond b (Stopped status ∷ []) []) (eq-eqb prior task its))
-body_ends task part (Cancel flags own share) is =
+body_ends task part (Cancel flags own claimed) is =
     let there = of (has_flag flags.0 flag.discarded_task) is in
     aside Discarded 0 there.0 refl there.1
   where

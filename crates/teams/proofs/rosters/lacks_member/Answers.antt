@@ -6,7 +6,8 @@ use Rattle.task_tree.specs.Runs.{RunView}
 use Rattle.task_tree.specs.Subjects.{Calls}
 use Rattle.teams.proofs.CallLemmas.{call_same, read_at}
 use Rattle.teams.proofs.MemberLemmas.{joined_at_root, never_of, lead_there, lead_within}
-use Rattle.teams.proofs.RosterLemmas.{lacks_none, enrolled_same, enrolled_more, slot_within, slot_taken, slot_free}
+use Rattle.teams.proofs.RosterLemmas.{lacks_none, enrolled_same, enrolled_more, slot_within}
+use Rattle.teams.proofs.RosterLemmas.{slot_taken, slot_free}
 use Rattle.teams.proofs.RosterLemmas.{lead_of_member}
 use Rattle.teams.proofs.rosters.lacks_member.Goals as goal
 
@@ -137,7 +138,8 @@ take_slot-requires-clause-inside c =
     (c.team.ensures ∙ ap Some c.in-Some-team.is) in
     let leads = lead_of_member rs tasks c.args.at lead m there joins in
     let old = c.index_mut.result.now in
-    let within = lead_within rs tasks c.args.rosters.now.items m.parallel lead leads c.requires.enrolled.all in
+    let within =
+    lead_within rs tasks c.args.rosters.now.items m.parallel lead leads c.requires.enrolled.all in
     let stands = read_at c.args.rosters.now.items lead old within c.index_mut.ensures.value in
     let slots = c.requires.enrolled.each m.parallel lead old leads stands in
     slot_within rs c.args.at tasks m old.items c.if-not-fits.ensures slots
@@ -187,7 +189,8 @@ returns-then-take_slot c =
     (c.team.ensures ∙ ap Some c.in-Some-team.is) in
     let leads = lead_of_member rs tasks c.args.at lead m there joins in
     let old = c.index_mut.result.now in
-    let within = lead_within rs tasks c.args.rosters.now.items m.parallel lead leads c.requires.enrolled.all in
+    let within =
+    lead_within rs tasks c.args.rosters.now.items m.parallel lead leads c.requires.enrolled.all in
     let stands = read_at c.args.rosters.now.items lead old within c.index_mut.ensures.value in
     let slots = c.requires.enrolled.each m.parallel lead old leads stands in (
       slot_free rs c.args.at tasks m old.items are.run.family.noted joins c.if-not-fits.ensures slots
@@ -227,7 +230,8 @@ returns c =
     (c.team.ensures ∙ ap Some c.in-Some-team.is) in
     let leads = lead_of_member rs tasks c.args.at lead m there joins in
     let old = c.index_mut.result.now in
-    let within = lead_within rs tasks c.args.rosters.now.items m.parallel lead leads c.requires.enrolled.all in
+    let within =
+    lead_within rs tasks c.args.rosters.now.items m.parallel lead leads c.requires.enrolled.all in
     let stands = read_at c.args.rosters.now.items lead old within c.index_mut.ensures.value in
     let slots = c.requires.enrolled.each m.parallel lead old leads stands in (
       ap is_some joins,

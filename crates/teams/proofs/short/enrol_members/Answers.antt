@@ -33,5 +33,6 @@ returns c =
     let last : c.loop-number.number ≡ length rs =
     omega (arith, c.loop-number-test.false, c.loop-number.auto.number-end, count) in
     let P : ℕ → Type 0 = IsWholeBefore rs in
-    let Q : ℕ → Type 0 = λ n. AreEnrolled rs n c.args.tables.now.run.family.tasks c.loop-number.rosters.items in
+    let Q : ℕ → Type 0 =
+    λ n. AreEnrolled rs n c.args.tables.now.run.family.tasks c.loop-number.rosters.items in
     (subst P last c.loop-number.invariant.whole, subst Q last c.loop-number.invariant.enrolled)
