@@ -39,7 +39,7 @@ use Rattle.task_tree.specs.Runs.{RunView}
 use Rattle.teams.specs.declared.members.Members.{Members}
 use Rattle.teams.specs.Members.{AreMembers, IsLead, AreLeads, IsLeadOf, old_lead, new_lead, IsTeamThere}
 use Rattle.teams.specs.Members.{there_alone, there_joined, IsInTeam, in_own, in_joined, IsInNone, AreInTeams}
-use Rattle.teams.specs.Members.{IsLeadAt, AreSizes, Leads}
+use Rattle.teams.specs.Members.{IsLeadAt, AreSizes, Leads, HasRegionHashers}
 use Rattle.teams.specs.Teams.{AreTeams}
 
 -- ---- the record by which a task begins
@@ -360,9 +360,15 @@ pub lead_of_is : (rs : List Record) (n : ℕ) (tasks : List ℕ) (old new : Lead
     → IsLeadOf old new m.parallel index lead → IsLead rs tasks m.parallel lead
 lead_of_is rs n tasks old new m index lead are joins here (old_lead found same) =
     are.known m.parallel lead found
-lead_of_is rs n tasks old new m index lead are joins here (new_lead missing is updates) =
+lead_of_is rs n tasks old new m index lead are joins here (new_lead missing is updates _) =
     let P : ℕ → Type 0 = IsLead rs tasks m.parallel in
     subst P (sym is) (lead_new rs n tasks old m index are joins here missing)
+
+-- a lead that is noted leaves the hashers
+pub hashers_stay : (run : RunView) (old new : Leads) (parallel index lead : ℕ) → HasRegionHashers run old
+    → IsLeadOf old new parallel index lead → HasRegionHashers run new
+hashers_stay run old new parallel index lead has (old_lead found same) = rw same has
+hashers_stay run old new parallel index lead has (new_lead missing is updates still) = still ∙ has
 
 -- ---- the teams of tasks
 

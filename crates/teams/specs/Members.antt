@@ -1,7 +1,7 @@
 -- Teams by index of the task, and how many members each has, while the records are visited. The number of a
 -- team is the index of its first member.
 use Rattle.std.specs.Prelude.{ℕ, ◌≡◌, ◌<◌, List, length, Option, Some, None, nat_eq, slice_get}
-use Rattle.indexmap.specs.IndexMap.{IndexMap, get, Updates}
+use Rattle.indexmap.specs.IndexMap.{IndexMap, get, Updates, hasher_of as map_hasher}
 use Rattle.index_tables.specs.declared.seeded.Seeded.{Seeded}
 use Rattle.ompt_events.specs.declared.records.Record.{Record}
 use Rattle.ompt_events.specs.declared.records.Membership.{Membership}
@@ -30,11 +30,15 @@ pub record AreLeads (rs : List Record) (n : ℕ) (tasks : List ℕ) (leads : Lea
   pub none : (parallel k : ℕ) (m : Membership) → get nat_eq leads parallel ≡ None → k < n
       → at joined rs k ≡ Some m → m.parallel ≡ parallel → ⊥
 
+-- the map has the hashers that the run's family has for a table of regions
+abbrev pub HasRegionHashers : RunView → Leads → Type 0
+HasRegionHashers run leads = map_hasher leads ≡ run.family.region_hashers
+
 -- the lead that a map has for a parallel region, or else this index from now on
 pub data IsLeadOf (old new : Leads) (parallel index lead : ℕ) : Type 0 where
   old_lead : get nat_eq old parallel ≡ Some lead → new ≡ old → IsLeadOf old new parallel index lead
   new_lead : get nat_eq old parallel ≡ None → lead ≡ index → Updates nat_eq old new parallel (Some index)
-      → IsLeadOf old new parallel index lead
+      → map_hasher new ≡ map_hasher old → IsLeadOf old new parallel index lead
 
 -- the number of the team that the task at the index is in by the record at a place
 pub data IsTeamThere (rs : List Record) (tasks : List ℕ) (i index : ℕ) : Option ℕ → Type 0 where

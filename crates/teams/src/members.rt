@@ -1,7 +1,7 @@
 //! The team of each task, and how many members each team has. The number of a team is the index of its first
 //! member.
 ghost use Rattle.std.specs.Prelude.{◌≡◌, ◌<◌, ◌+◌, None, IfOk, OnOk, length, replicate};
-ghost use Rattle.teams.specs.Members.{AreLeads, IsLeadOf, AreMembers};
+ghost use Rattle.teams.specs.Members.{AreLeads, IsLeadOf, HasRegionHashers, AreMembers};
 
 use index_tables::{Seeded, Slot};
 use indexmap::IndexMap;
@@ -50,8 +50,10 @@ fn note_member(
 ) -> Result<(), AllocError>
     requires within { at < length run.now.records }
     requires leads { AreLeads run.now.records at run.now.family.tasks leads.old }
+    requires seeded { HasRegionHashers run.now leads.old }
     requires members { AreMembers run.now at members.old }
     ensures leads { OnOk result (AreLeads run.now.records (at + 1) run.now.family.tasks leads.new) }
+    ensures seeded { OnOk result (HasRegionHashers run.now leads.new) }
     ensures members { OnOk result (AreMembers run.now (at + 1) members.new) }
 {
     let Some(index) = run.begun_root(at) else {

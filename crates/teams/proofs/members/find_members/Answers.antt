@@ -1,4 +1,5 @@
-use Rattle.std.proofs.Common.{◌≡◌, ℕ, length, subst, arith}
+use Rattle.std.proofs.Common.{◌≡◌, ◌∙◌, ℕ, length, subst, ap, arith}
+use Rattle.task_tree.specs.Family.{FamilyView}
 use Rattle.teams.specs.Members.{AreMembers}
 use Rattle.teams.proofs.MemberLemmas.{leads_start, members_start}
 use Rattle.teams.proofs.members.find_members.Goals as goal
@@ -8,6 +9,9 @@ loop-at-init c = record {
   leads =
       leads_start c.args.run.now.records c.args.run.now.family.tasks c.with_hasher-leads.result
       c.with_hasher-leads.ensures.empty;
+  seeded =
+      c.with_hasher-leads.ensures.hasher ∙ c.region_hashers.ensures
+      ∙ ap (λ (family : FamilyView). family.region_hashers) c.family.ensures.value;
   members =
       members_start c.args.run.now c.task_count.result c.in_ok-members.members c.task_count.ensures.value
       c.in_ok-members.ensures.teams c.in_ok-members.ensures.sizes;

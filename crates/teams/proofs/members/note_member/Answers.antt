@@ -6,7 +6,7 @@ use Rattle.task_tree.proofs.SubjectLemmas.{call_task, call_none}
 use Rattle.teams.specs.Members.{there_alone, there_joined, IsLeadAt}
 use Rattle.teams.proofs.CallLemmas.{read_at}
 use Rattle.teams.proofs.MemberLemmas.{joined_at_root, root_at_initial, lead_of_is, lead_within, size_few}
-use Rattle.teams.proofs.MemberLemmas.{sizes_same, sizes_more, members_none, team_put}
+use Rattle.teams.proofs.MemberLemmas.{sizes_same, sizes_more, members_none, team_put, hashers_stay}
 use Rattle.teams.proofs.members.note_member.Goals as goal
 
 pub returns-in_default-clause-members : goal.returns-in_default-clause-members
@@ -134,6 +134,11 @@ overflow_add-index_mut c =
     let inside = c.requires.within in
     let small : c.index_mut-3.result.now < 2 ^ 22 = omega (arith, few, many, inside) in
     search rules
+
+pub returns-clause-seeded : goal.returns-clause-seeded
+returns-clause-seeded c =
+    hashers_stay c.args.run.now c.args.leads.now c.lead_of.new.leads c.in-Some-joined.member.parallel
+    c.in-Some.index c.in_ok-lead.lead c.requires.seeded c.in_ok-lead.ensures
 
 pub returns-clause-members : goal.returns-clause-members
 returns-clause-members c =
