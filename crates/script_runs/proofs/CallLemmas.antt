@@ -2,6 +2,7 @@
 use Rattle.std.proofs.Common.{ℕ, length, ◌≡◌, ◌∙◌, ◌++◌, ◌∷◌, [], Some, None, Option, map, ap}
 use Rattle.std.proofs.Common.{arith}
 use Rattle.std.proofs.lemmas.List.{map-append}
+use Rattle.std.specs.Prelude.{option_map}
 use Rattle.std.specs.Int.Bits.{bit_and, bit_or, or_add_and}
 use Rattle.ompt_events.specs.declared.records.Body.{Body}
 use Rattle.ompt_events.specs.declared.records.Body.TheVariants.{TaskSchedule, Cancel}
@@ -42,15 +43,17 @@ call_stopped None old new s told (seen, observed) same =
 call_stopped (Some part) old new s told (index, concluded) same =
     call_recorded old new index new.seat (schedule_body s (Some s.prior.claim)) told concluded.1 same
 
--- one task stops and another one runs
-pub call_switched : (old new : RecorderView) (prior other : TaskView) (status : Status) (turns : Option Turns)
-    (p n : ℕ) (claimed : Option Claim) → IsStopped old (schedule_of prior status (Some other)) new
-    → prior.id ≡ p → other.id ≡ n → IsCalled old (TaskSchedule status turns p (Some n) claimed) new
-call_switched old new prior other status turns p n claimed stopped first second =
-    call_stopped (status_part status) old new (schedule_of prior status (Some other))
-    (TaskSchedule status turns p (Some n) claimed) stopped
-    (ap (λ id. TaskSchedule status None id (Some other.id) None) first
-    ∙ ap (λ id. TaskSchedule status None p (Some id) None) second)
+-- one task stops or is fulfilled, and another one may run
+pub call_scheduled : (old new : RecorderView) (prior : TaskView) (other : Option TaskView) (status : Status)
+    (turns : Option Turns) (p : ℕ) (next : Option ℕ) (share : Option Claim)
+    → IsStopped old (schedule_of prior status other) new → prior.id ≡ p
+    → option_map (λ (t : TaskView). t.id) other ≡ next
+    → IsCalled old (TaskSchedule status turns p next share) new
+call_scheduled old new prior other status turns p next share stopped first second =
+    call_stopped (status_part status) old new (schedule_of prior status other)
+    (TaskSchedule status turns p next share) stopped
+    (ap (λ id. TaskSchedule status None id (option_map (λ (t : TaskView). t.id) other) None) first
+    ∙ ap (λ ids. TaskSchedule status None p ids None) second)
 
 -- a task is discarded: its flags say so already
 pub call_discarded : (old new : RecorderView) (t : TaskView) (given : CancelFlags) (index : ℕ) (entry : Entry)

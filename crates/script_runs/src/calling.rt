@@ -1,5 +1,5 @@
 //! A step of a script as a call on a recorder.
-ghost use Rattle.std.specs.Prelude.{◌≡◌, OnOk, IfOk};
+ghost use Rattle.std.specs.Prelude.{◌≡◌, OnOk, IfOk, option_map};
 ghost use Rattle.ompt_events.specs.declared.records.Body.TheVariants.{Dependences};
 ghost use Rattle.credit_ledger.specs.Places.{ledger_id};
 ghost use Rattle.script_runs.specs.Parts.{IsCalled};
@@ -27,11 +27,15 @@ impl Values {
         of_task(self.first.take(), task)
     }
 
-    /// Takes the second value, and returns it. Fails with WrongState if it is not that of this task.
-    fn take_second(&mut self, task: u64) -> Result<TaskData, CallFault>
-        ensures { IfOk result (λ value. value.id ≡ task) }
+    /// Takes the second value if a next task is named, and returns it. Fails with WrongState if it is not that
+    /// of this task.
+    fn take_next(&mut self, next: Option<u64>) -> Result<Option<TaskData>, CallFault>
+        ensures { IfOk result (λ value. option_map (λ v. v.id) value ≡ next) }
     {
-        of_task(self.second.take(), task)
+        match next {
+            Some(task) => Ok(Some(of_task(self.second.take(), task)?)),
+            None => Ok(None),
+        }
     }
 }
 
@@ -62,8 +66,7 @@ pub(crate) fn call<R: Wait>(
     match body {
         Body::ThreadBegin { kind } => recorder.ompt_callback_thread_begin(*kind),
         Body::ThreadEnd => recorder.ompt_callback_thread_end(),
-        Body::TaskSchedule { next: Some(_), .. } => switch(recorder, ledger, wait, body, values),
-        Body::TaskSchedule { next: None, .. } => fulfil(recorder, ledger, wait, body, values),
+        Body::TaskSchedule { .. } => schedule(recorder, ledger, wait, body, values),
         Body::SyncRegion { .. } => region(recorder, ledger, wait, body, values),
         Body::Cancel { .. } => cancel(recorder, ledger, wait, body, values),
         _ => call_alone(recorder, body, values),
@@ -188,8 +191,9 @@ fn copied(alloc: Global, list: &[Dep]) -> Result<Vec<Dep>, CallFault>
     }
 }
 
-/// Makes the call of a task that stops where another one runs next.
-fn switch<R: Wait>(
+/// Makes the call of a task that stops where another one runs next, or that is fulfilled, or complete as a
+/// taskwait.
+fn schedule<R: Wait>(
     recorder: &mut Recorder,
     ledger: &SharedLedger,
     wait: &R,
@@ -209,46 +213,12 @@ fn switch<R: Wait>(
     else {
         return Err(CallFault::WrongState);
     };
-    let Some(next) = next else {
-        return Err(CallFault::WrongState);
-    };
     let value = values.take_first(*prior)?;
-    let mut other = values.take_second(*next)?;
-    match recorder.ompt_callback_task_schedule(ledger, wait, value, *status, Some(&mut other)) {
+    let mut other = values.take_next(*next)?;
+    match recorder.ompt_callback_task_schedule(ledger, wait, value, *status, other.as_mut()) {
         Ok(back) => {
             values.first = back;
-            values.second = Some(other);
-            Ok(())
-        }
-        Err((_, fault)) => Err(fault),
-    }
-}
-
-/// Makes the call of a task that is fulfilled, or complete as a taskwait.
-fn fulfil<R: Wait>(
-    recorder: &mut Recorder,
-    ledger: &SharedLedger,
-    wait: &R,
-    body: &Body,
-    values: &mut Values,
-) -> Result<(), CallFault>
-    requires { recorder.old.ledger ≡ ledger_id ledger.now }
-    ensures ledger { recorder.new.ledger ≡ recorder.old.ledger }
-    ensures called { OnOk result (IsCalled recorder.old body.now recorder.new) }
-{
-    let Body::TaskSchedule {
-        status,
-        prior,
-        next: None,
-        ..
-    } = body
-    else {
-        return Err(CallFault::WrongState);
-    };
-    let value = values.take_first(*prior)?;
-    match recorder.ompt_callback_task_schedule(ledger, wait, value, *status, None) {
-        Ok(back) => {
-            values.first = back;
+            values.second = other;
             Ok(())
         }
         Err((_, fault)) => Err(fault),
