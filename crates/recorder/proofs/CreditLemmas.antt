@@ -33,11 +33,6 @@ is_event Event = true
 is_event Whole = false
 is_event Body = false
 
-abbrev is_body : Part → Bool
-is_body Body = true
-is_body Whole = false
-is_body Event = false
-
 -- a task that is finished whole was not detached
 found-whole : (st : State) (s : Status) (after : State) → status_part s ≡ Some Whole
     → next_state_of st s ≡ Some after → is_detached st ≡ false
@@ -130,28 +125,8 @@ parts thread t status.Detach Body after is_part is =
     (credit_of (in_state t st))) (sym found.1) (moves-body thread t found.0)
 parts thread t status.LateFulfill Event after is_part is =
     moves-event thread t (found-event t.state after is)
-parts thread t status.LateFulfill Body after is_part is =
-    absurd (false≢true (ap is_body (same_Some Event Body is_part)))
-parts thread t status.Complete Body after is_part is =
-    absurd (false≢true (ap is_body (same_Some Whole Body is_part)))
-parts thread t status.Cancel Body after is_part is =
-    absurd (false≢true (ap is_body (same_Some Whole Body is_part)))
-parts thread t status.TaskwaitComplete Body after is_part is =
-    absurd (false≢true (ap is_body (same_Some Whole Body is_part)))
-parts thread t status.Yield Body after is_part is = absurd (none-some Body is_part)
-parts thread t status.Switch Body after is_part is = absurd (none-some Body is_part)
-parts thread t status.EarlyFulfill Body after is_part is = absurd (none-some Body is_part)
-parts thread t status.Detach Event after is_part is =
-    absurd (false≢true (ap is_event (same_Some Body Event is_part)))
-parts thread t status.Complete Event after is_part is =
-    absurd (false≢true (ap is_event (same_Some Whole Event is_part)))
-parts thread t status.Cancel Event after is_part is =
-    absurd (false≢true (ap is_event (same_Some Whole Event is_part)))
-parts thread t status.TaskwaitComplete Event after is_part is =
-    absurd (false≢true (ap is_event (same_Some Whole Event is_part)))
-parts thread t status.Yield Event after is_part is = absurd (none-some Event is_part)
-parts thread t status.Switch Event after is_part is = absurd (none-some Event is_part)
-parts thread t status.EarlyFulfill Event after is_part is = absurd (none-some Event is_part)
+parts thread t s Body after is_part is = absurd (let said : status_part s ≡ Some Body = is_part in cc)
+parts thread t s Event after is_part is = absurd (let said : status_part s ≡ Some Event = is_part in cc)
 
 -- a schedule that the tasks allow
 pub moves_credit : (r : RecorderView) (s : ScheduleView) (part : Part) → may_schedule r s ≡ true
