@@ -538,6 +538,19 @@ no_creation rs i own kind endpoint says = of (at creation rs i) refl
     of None e = refl
     of (Some (p, t)) e = absurd (creates_no_region rs i p t own kind endpoint e says)
 
+-- a region of another kind does not end there
+no_other_region : (rs : List Record) (n task p b : ℕ) (kind other : SyncKind) (endpoint : Endpoint)
+    → kind ≢ other → at region rs n ≡ Some (task, kind, endpoint) → IsRegion rs n p other b → ⊥
+no_other_region rs n task p b kind other endpoint apart says there =
+    let ends = ends_at rs n p b other there in
+    apart (same_says rs n task p kind other endpoint ends.endpoint says ends.says).1
+
+wait_no_group : Taskwait ≢ Taskgroup
+wait_no_group same = cc
+
+group_no_wait : Taskgroup ≢ Taskwait
+group_no_wait same = cc
+
 -- the end of a taskwait
 pub ended_mark : (done : DoneView) (n task limit : ℕ) (nodes : List Node) → AreLimitMarks done nodes
     → at region (records_of done) n ≡ Some (task, Taskwait, End)
@@ -554,11 +567,7 @@ ended_mark done n task limit nodes marks says right = record {
     groups =
         λ p b c t there from less creates.
         absurd
-        (let ends = ends_at (records_of done) n p b Taskgroup there in
-        let same =
-        (same_says (records_of done) n task p Taskwait Taskgroup End ends.endpoint says
-        ends.says).1 in
-        cc);
+        (no_other_region (records_of done) n task p b Taskwait Taskgroup End wait_no_group says there);
   };
 }
   where
@@ -590,11 +599,7 @@ begun_mark done n task limit endpoint says not_end right = record {
     groups =
         λ p b c t there from less creates.
         absurd
-        (let ends = ends_at (records_of done) n p b Taskgroup there in
-        let same =
-        (same_says (records_of done) n task p Taskwait Taskgroup endpoint ends.endpoint says
-        ends.says).1 in
-        cc);
+        (no_other_region (records_of done) n task p b Taskwait Taskgroup endpoint wait_no_group says there);
   };
 }
   where
@@ -625,11 +630,7 @@ group_mark done n task limit endpoint says not_end = record {
     waits =
         λ p b there.
         absurd
-        (let ends = ends_at (records_of done) n p b Taskwait there in
-        let same =
-        (same_says (records_of done) n task p Taskgroup Taskwait endpoint ends.endpoint says
-        ends.says).1 in
-        cc);
+        (no_other_region (records_of done) n task p b Taskgroup Taskwait endpoint group_no_wait says there);
     groups = groups;
   };
 }

@@ -21,11 +21,7 @@ bounds-meetings-team c =
 
 pub offset_bounds-meetings-team : goal.offset_bounds-meetings-team
 offset_bounds-meetings-team c =
-    let in_team = c.team.ensures ∙ ap Some c.in-Some.is in
-    let inside : c.in-Some.team < length c.args.meetings.now =
-    own_row c.args.done.now c.args.at c.args.end.task c.in-Some.team c.args.end.begin c.args.meetings.now
-    c.run-run.ensures.is_done.teams c.requires.met c.requires.ends in_team in
-    search rules
+    let inside : c.in-Some.team < length c.args.meetings.now = bounds-meetings-team c in search rules
 
 pub index-requires : goal.index-requires
 index-requires c =
