@@ -1,5 +1,6 @@
 -- How each phase of a check hands on that no cause so far occurs.
 use Rattle.std.proofs.Common.{◌≡◌, ◌∙◌, ℕ, zero, suc, ◌≤◌, ◌&&◌, List, [], ◌∷◌, ◌++◌, Bool, true, false, refl}
+use Rattle.std.proofs.Common.{length}
 use Rattle.std.proofs.Common.{sym, ap, subst, arith, inl, inr}
 use Rattle.std.proofs.Math.Dec.{ltb, leb}
 use Rattle.std.proofs.lemmas.Bool.{leb-true, false≢true}
@@ -18,10 +19,15 @@ use Rattle.ompt_events.specs.CauseNames.{cause_number, all_causes, before}
 use Rattle.ompt_events.specs.Causes.{HasCause, IsFreeOf, Shows, ShowsNowhere}
 use Rattle.ompt_events.specs.Faults.{IsFault, IsShownFault}
 use Rattle.task_tree.specs.Runs.{RunView}
-use Rattle.task_tree.specs.Own.{OwnView, of_regions, of_teams, of_claims}
+use Rattle.task_tree.specs.Own.{OwnView, IsOwnFault, of_regions, of_teams, of_claims}
+use Rattle.task_tree.specs.OwnOrder.{AreAllPlaces}
 use Rattle.task_tree.specs.Families.{IsOwnOf}
-use Rattle.task_tree.proofs.ShownLemmas.{own_free}
-use Rattle.checker.specs.Search.{IsClear, IsLeastFound, state_causes, edge_causes}
+use Rattle.task_tree.proofs.ShownLemmas.{own_fault, own_free}
+use Rattle.task_states.specs.States.{StatesView}
+use Rattle.depend_edges.specs.Edges.{EdgesView}
+use Rattle.teams.specs.Teams.{TeamsView, IsTeams, own_of}
+use Rattle.checker.specs.Search.{IsClear, IsLeastFound, AreStatesOf, AreEdgesOf, IsSoundView}
+use Rattle.checker.specs.Search.{state_causes, edge_causes}
 
 -- the causes with greater numbers than this one
 abbrev pub beyond : Cause → List Cause
@@ -220,3 +226,74 @@ pub memory_alone : (rs : List Record) (sought : List Cause) (fault : Fault) → 
 memory_alone rs sought Memory clear found = refl
 memory_alone rs sought (Malformed i cause) clear found =
     absurd (clear cause found.sought_for i found.found.shown)
+
+-- ---- from phase to phase of a run
+
+-- a fault of the states is the least cause
+pub states_least : (rs : List Record) (run : RunView) (fault : Fault) → run.records ≡ rs
+    → IsClear rs (before NotCurrent) → IsShownFault run.records state_causes fault → IsLeastFound rs fault
+states_least rs run fault of_file clear found =
+    least_more rs (before NotCurrent) state_causes (beyond RegionOrder) fault refl clear
+    (rw of_file at found)
+
+-- what is clear once they are made
+made_states : (rs : List Record) (run : RunView) (own : OwnView) (states : StatesView) → run.records ≡ rs
+    → IsClear rs (before NotCurrent) → AreStatesOf run own states → IsClear rs (before TeamShort)
+made_states rs run own states of_file clear made =
+    clear_more rs (before NotCurrent) state_causes clear (rw of_file at made.clear)
+
+-- a fault of the teams then
+pub teams_least : (rs : List Record) (run : RunView) (own : OwnView) (states : StatesView) (fault : Fault)
+    → run.records ≡ rs → IsOwnOf rs own → IsClear rs (before NotCurrent) → AreStatesOf run own states
+    → IsOwnFault states.regions.own TeamShort fault → IsLeastFound rs fault
+teams_least rs run own states fault of_file is_own clear made found =
+    let places : AreAllPlaces own.places (length own.run.records) =
+    rw made.of_own at made.are.regions.own.places in
+    least_more rs (before TeamShort) (TeamShort ∷ []) (beyond TeamShort) fault refl
+    (made_states rs run own states of_file clear made)
+    (own_fault rs own TeamShort fault of_teams is_own places (rw made.of_own at found))
+
+-- what is clear once the teams are made
+made_teams : (rs : List Record) (run : RunView) (own : OwnView) (states : StatesView) (teams : TeamsView)
+    → run.records ≡ rs → IsOwnOf rs own → IsClear rs (before NotCurrent) → AreStatesOf run own states
+    → teams.run ≡ states.regions.own.run → IsTeams teams → IsClear rs (before NestedParallel)
+made_teams rs run own states teams of_file is_own clear made same are =
+    teams_clear rs own is_own (made_states rs run own states of_file clear made)
+    (rw (same, made.of_own) at are.whole)
+
+-- a fault of the edges then
+pub edges_least : (rs : List Record) (run : RunView) (own : OwnView) (states : StatesView) (teams : TeamsView)
+    (fault : Fault)
+    → run.records ≡ rs → IsOwnOf rs own → IsClear rs (before NotCurrent) → AreStatesOf run own states
+    → teams.run ≡ states.regions.own.run → IsTeams teams → IsShownFault run.records edge_causes fault
+    → IsLeastFound rs fault
+edges_least rs run own states teams fault of_file is_own clear made same are found =
+    least_more rs (before NestedParallel) edge_causes (beyond ShareWrong) fault refl
+    (made_teams rs run own states teams of_file is_own clear made same are) (rw of_file at found)
+
+-- and if the edges are made, the run is sound
+pub made_sound : (rs : List Record) (run : RunView) (own : OwnView) (states : StatesView) (teams : TeamsView)
+    (edges : EdgesView)
+    → run.records ≡ rs → IsOwnOf rs own → IsClear rs (before NotCurrent) → AreStatesOf run own states
+    → teams.run ≡ states.regions.own.run → teams.places ≡ states.regions.own.places → IsTeams teams
+    → AreEdgesOf run own edges
+    → IsSoundView (record { run = run; own = own_of teams }) × (run.records ≡ rs) × (edges.run ≡ teams.run)
+made_sound rs run own states teams edges of_file is_own clear made same_run same_places are edges_made =
+    let with_own = rw made.of_own at same_run in
+    let same : own_of teams ≡ own = same_own (own_of teams) own with_own (rw made.of_own at same_places) in (
+      record {
+        sound = record {
+          is_run = rw made.of_run at made.are.run;
+          clear = rw of_file
+              (clear_more rs (before NestedParallel) edge_causes
+              (made_teams rs run own states teams of_file is_own clear made same_run are)
+              (rw of_file at edges_made.clear));
+        };
+        one = record {
+          is_own = are.placed;
+          of_file = rw (same, of_file) is_own;
+        };
+      },
+      of_file,
+      rw (edges_made.of_run, with_own) refl,
+    )

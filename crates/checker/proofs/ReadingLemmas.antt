@@ -187,6 +187,11 @@ alike_verdict a b (Yes order) alike is = alike_yes a b order alike is
 alike_verdict a b (No i why) alike is = alike_no a b i why alike is
 alike_verdict a b (Malformed i cause) alike is = alike_least a b i cause alike is
 
+pub alike_verdicts : (a b : Reading) (verdict : Verdict) → AreAlike a b
+    → IsVerdictBy a verdict ↔ IsVerdictBy b verdict
+alike_verdicts a b verdict alike =
+    (alike_verdict a b verdict alike, alike_verdict b a verdict (alike_back a b alike))
+
 alike_order : (a b : Reading) (i task : ℕ) (order : List ℕ) → AreAlike a b → IsCounterOrderBy a i task order
     → IsCounterOrderBy b i task order
 alike_order a b i task order alike is = record {
@@ -204,6 +209,11 @@ alike_counter a b i task (Some order) alike is = alike_order a b i task order al
 alike_counter a b i task None alike none = λ free missed.
     let back = alike_back a b alike in
     none (alike_none b a back free) (alike_missed b a i task back missed)
+
+pub alike_counters : (a b : Reading) (i task : ℕ) (found : Option (List ℕ)) → AreAlike a b
+    → IsCounterBy a i task found ↔ IsCounterBy b i task found
+alike_counters a b i task found alike =
+    (alike_counter a b i task found alike, alike_counter b a i task found (alike_back a b alike))
 
 -- ---- the order of the file
 
