@@ -45,13 +45,13 @@ call_stopped (Some part) old new s told (index, concluded) same =
 
 -- one task stops or is fulfilled, and another one may run
 pub call_scheduled : (old new : RecorderView) (prior : TaskView) (other : Option TaskView) (status : Status)
-    (turns : Option Turns) (p : ℕ) (next : Option ℕ) (share : Option Claim)
+    (turns : Option Turns) (p : ℕ) (next : Option ℕ) (claimed : Option Claim)
     → IsStopped old (schedule_of prior status other) new → prior.id ≡ p
     → option_map (λ (t : TaskView). t.id) other ≡ next
-    → IsCalled old (TaskSchedule status turns p next share) new
-call_scheduled old new prior other status turns p next share stopped first second =
+    → IsCalled old (TaskSchedule status turns p next claimed) new
+call_scheduled old new prior other status turns p next claimed stopped first second =
     call_stopped (status_part status) old new (schedule_of prior status other)
-    (TaskSchedule status turns p next share) stopped
+    (TaskSchedule status turns p next claimed) stopped
     (ap (λ id. TaskSchedule status None id (option_map (λ (t : TaskView). t.id) other) None) first
     ∙ ap (λ ids. TaskSchedule status None p ids None) second)
 

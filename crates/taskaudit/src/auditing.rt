@@ -17,16 +17,19 @@ use ompt_events::Trace;
 use std::alloc::Global;
 use std::thread::Threads;
 
-/// Reads a trace file to its end, checks it and writes the report of its verdict.
+/// Reads a trace file to its end, checks it, and writes what is shown of its verdict: the report alone, or
+/// behind it also an order that shows it, of a yes one that the file allows, of a no one in which the named
+/// task is not complete at the named record.
 pub fn audit<I: Source, O: Sink>(
     alloc: Global,
+    shown: Shown,
     source: &mut I,
     sink: &mut O,
 ) -> Result<Outcome, AuditFault>
     ensures reports { IfOk result
-        (Reports Shown.Report (I.remaining source.old) (O.contents sink.old) (O.contents sink.new)) }
+        (Reports shown (I.remaining source.old) (O.contents sink.old) (O.contents sink.new)) }
     ensures leaves { IfErr result
-        (Leaves Shown.Report (I.remaining source.old) (O.contents sink.old) (O.contents sink.new)) }
+        (Leaves shown (I.remaining source.old) (O.contents sink.old) (O.contents sink.new)) }
     ensures unreadable { IfErr result (IsReadRightly (I.remaining source.old) (I.remaining source.new)) }
 
     // A fault of the source or of the sink is told exactly where it occurs.
@@ -37,32 +40,9 @@ pub fn audit<I: Source, O: Sink>(
         (record { turns = O.stalls sink.new; breaks = O.breaks sink.new }) }
     ensures memory { result ≢ Err (AuditFault.Write WriteFault.Memory) }
 {
-    audit_for(alloc, Shown::Report, source, sink)
-}
-
-/// Reads a trace file to its end, checks it, and writes the report of its verdict and behind it an order that
-/// shows it: of a yes one that the file allows, of a no one in which the named task is not complete at the
-/// named record.
-pub fn audit_order<I: Source, O: Sink>(
-    alloc: Global,
-    source: &mut I,
-    sink: &mut O,
-) -> Result<Outcome, AuditFault>
-    ensures reports { IfOk result
-        (Reports Shown.Order (I.remaining source.old) (O.contents sink.old) (O.contents sink.new)) }
-    ensures leaves { IfErr result
-        (Leaves Shown.Order (I.remaining source.old) (O.contents sink.old) (O.contents sink.new)) }
-    ensures unreadable { IfErr result (IsReadRightly (I.remaining source.old) (I.remaining source.new)) }
-
-    // A fault of the source or of the sink is told exactly where it occurs.
-    ensures devices { TellsDevices result
-        (record { turns = I.agains source.old; breaks = I.breaks source.old })
-        (record { turns = I.agains source.new; breaks = I.breaks source.new })
-        (record { turns = O.stalls sink.old; breaks = O.breaks sink.old })
-        (record { turns = O.stalls sink.new; breaks = O.breaks sink.new }) }
-    ensures memory { result ≢ Err (AuditFault.Write WriteFault.Memory) }
-{
-    audit_for(alloc, Shown::Order, source, sink)
+    let trace = read(alloc, source).map_err(AuditFault::Read)?;
+    let (verdict, text) = answer(alloc, shown, &trace)?;
+    put(&verdict, text.as_slice(), sink)
 }
 
 /// Who does an audit on several threads.
@@ -76,9 +56,10 @@ pub struct Crew<'a, R, G> {
     pub gate: &'a G,
 }
 
-/// Does the same as [`audit`] by the workers of the crew, which read and check side by side. The source is read
-/// ahead of the lines that are judged. Fails as [`audit`] does, and where there are no workers or more than
-/// [`MAX_WORKERS`], which is tried before anything is read, or where the gate refuses a worker.
+/// Does the same as [`audit`] with the report alone, by the workers of the crew, which read and check side by
+/// side. The source is read ahead of the lines that are judged. Fails as [`audit`] does, and if there are no
+/// workers or more than [`MAX_WORKERS`], which is tried before anything is read, or if the gate refuses a
+/// worker.
 pub fn audit_on<R: Threads + Sync, G: Gate + Sync, I: Source, O: Sink>(
     alloc: Global,
     crew: Crew<R, G>,
@@ -111,30 +92,6 @@ pub fn audit_on<R: Threads + Sync, G: Gate + Sync, I: Source, O: Sink>(
     }
     let recorded = read_on(crew.threads, alloc, source, crew.workers).map_err(AuditFault::Read)?;
     let (verdict, text) = answer_on(alloc, crew, &recorded)?;
-    put(&verdict, text.as_slice(), sink)
-}
-
-/// Reads a trace file to its end, checks it and writes what is shown of its verdict.
-fn audit_for<I: Source, O: Sink>(
-    alloc: Global,
-    shown: Shown,
-    source: &mut I,
-    sink: &mut O,
-) -> Result<Outcome, AuditFault>
-    ensures reports { IfOk result
-        (Reports shown (I.remaining source.old) (O.contents sink.old) (O.contents sink.new)) }
-    ensures leaves { IfErr result
-        (Leaves shown (I.remaining source.old) (O.contents sink.old) (O.contents sink.new)) }
-    ensures unreadable { IfErr result (IsReadRightly (I.remaining source.old) (I.remaining source.new)) }
-    ensures devices { TellsDevices result
-        (record { turns = I.agains source.old; breaks = I.breaks source.old })
-        (record { turns = I.agains source.new; breaks = I.breaks source.new })
-        (record { turns = O.stalls sink.old; breaks = O.breaks sink.old })
-        (record { turns = O.stalls sink.new; breaks = O.breaks sink.new }) }
-    ensures memory { result ≢ Err (AuditFault.Write WriteFault.Memory) }
-{
-    let trace = read(alloc, source).map_err(AuditFault::Read)?;
-    let (verdict, text) = answer(alloc, shown, &trace)?;
     put(&verdict, text.as_slice(), sink)
 }
 

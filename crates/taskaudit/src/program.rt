@@ -6,7 +6,7 @@ ghost use Rattle.taskaudit.specs.Commands.{AsksVersion};
 ghost use Rattle.taskaudit.specs.Programs.{DoesAsked, IsRefused, Ends, Runs, ShowsVersion};
 ghost use Rattle.taskaudit.specs.Statuses.{exit_status_of};
 
-use crate::auditing::{Crew, audit, audit_on, audit_order};
+use crate::auditing::{Crew, audit, audit_on};
 use crate::record::record;
 use crate::report::{WRONG_WORDS, fault_status, usage_status};
 use crate::telling::{Console, tell};
@@ -69,13 +69,13 @@ pub fn serve<S: AsStr, R: Threads + Wait + Sync, I: Source, O: Sink>(
         (I.remaining source.old) (O.contents sink.old) (O.contents sink.new)) }
 {
     match job(alloc, words) {
-        Ok(Job::Check(None)) => audit(alloc, source, sink)
+        Ok(Job::Check(None)) => audit(alloc, Shown::Report, source, sink)
             .map(Done::Judged)
             .map_err(Refusal::Audit),
         Ok(Job::Check(Some(workers))) => audit_by(alloc, rt, workers, source, sink)
             .map(Done::Judged)
             .map_err(Refusal::Audit),
-        Ok(Job::Order) => audit_order(alloc, source, sink)
+        Ok(Job::Order) => audit(alloc, Shown::Order, source, sink)
             .map(Done::Judged)
             .map_err(Refusal::Audit),
         Ok(Job::Record) => record(rt, alloc, source, sink)

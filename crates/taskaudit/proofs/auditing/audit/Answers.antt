@@ -2,7 +2,7 @@ use Rattle.std.proofs.Common.{rules, ◌≡◌, List, ℕ, Ok, OnOk, IfErr, take
 use Rattle.std.specs.Io.KnownBytes.{Appends}
 use Rattle.taskaudit.specs.Audits.{IsWriteFault}
 use Rattle.taskaudit.proofs.AuditLemmas.{reports_of, leaves_of}
-use Rattle.taskaudit.proofs.auditing.audit_for.Goals as goal
+use Rattle.taskaudit.proofs.auditing.audit.Goals as goal
 
 pub returns-clause-reports : goal.returns-clause-reports
 returns-clause-reports g c =
