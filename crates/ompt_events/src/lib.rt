@@ -5,6 +5,7 @@
 //! that `specs/Lib.antt` gives, and `laws` says what follows from the two hardest of them.
 #![tactic(auto)]
 
+mod boxed_claim;
 mod cause;
 mod deps;
 mod fault;
@@ -17,6 +18,7 @@ mod records;
 mod state;
 mod trace;
 
+pub use boxed_claim::BoxedClaim;
 pub use cause::Cause;
 pub use deps::{Dep, Deps};
 pub use fault::{Fault, exclude};

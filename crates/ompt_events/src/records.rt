@@ -5,6 +5,7 @@ ghost use Rattle.ompt_events.specs.Flags.{has_flag};
 ghost use Rattle.ompt_events.specs.Records.{begun_root, ended_root, joined, begun_initial, forked, region_named, creation, created, created_with_deps, dependences, made, schedule, started, told_turns, begun_turn, suspended_turn, ended_turn, fulfilled, wait_completed, discarded, running, region, flags, claim, named, finish};
 ghost use Rattle.ompt_events.specs.Regions.{ends_wait};
 
+use crate::boxed_claim::BoxedClaim;
 use crate::deps::{Dep, Deps};
 use crate::flags::{CancelFlags, TaskFlags};
 use crate::named::NamedTasks;
@@ -108,7 +109,7 @@ pub enum Body {
         turns: Option<Turns>,
         prior: u64,
         next: Option<u64>,
-        claim: Option<Claim>,
+        claim: Option<BoxedClaim>,
     },
     /// `task` begins or ends a synchronisation region (19.5.2.13).
     SyncRegion {
@@ -122,7 +123,7 @@ pub enum Body {
     Cancel {
         flags: CancelFlags,
         task: u64,
-        claim: Option<Claim>,
+        claim: Option<BoxedClaim>,
     },
 }
 
@@ -437,7 +438,10 @@ impl Body {
         ensures { option_copied result ≡ claim self.now }
     {
         match self {
-            Body::TaskSchedule { claim, .. } | Body::Cancel { claim, .. } => claim.as_ref(),
+            Body::TaskSchedule { claim, .. } | Body::Cancel { claim, .. } => match claim {
+                Some(claim) => Some(claim.get()),
+                None => None,
+            },
             _ => None,
         }
     }
@@ -503,10 +507,10 @@ fn is_initial(flags: TaskFlags) -> bool
 }
 
 /// Returns the root of the claim.
-fn claimed_root(claim: &Option<Claim>) -> Option<u64>
+fn claimed_root(claim: &Option<BoxedClaim>) -> Option<u64>
     ensures { result ≡ option_map (λ c. c.root) claim.now }
 {
-    claim.as_ref().map(|claim| claim.root)
+    claim.as_ref().map(|claim| claim.get().root)
 }
 
 /// Returns whether a cancellation discards its task.
@@ -516,5 +520,5 @@ fn discards(flags: CancelFlags) -> bool
     flags.contains(CancelFlags::DISCARDED_TASK)
 }
 
-// A record takes at most 104 bytes beside its lists.
-const _: () = prove!(std::mem::size_of::<Record>() <= 104);
+// A record takes at most 72 bytes beside its claim and its lists.
+const _: () = prove!(std::mem::size_of::<Record>() <= 72);

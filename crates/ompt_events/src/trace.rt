@@ -2,6 +2,7 @@
 ghost use Rattle.std.specs.Prelude.{◌≡◌, ◌↔◌, IsTrue, IfOk, IfErr, MatchOption, is_some, IfSome, length, ◌≤◌, ◌<◌, ◌^◌, ◌⊎◌};
 ghost use Rattle.ompt_events.specs.Traces.{IsSound, IsTrace, IsTraceOf, IsSoundIn, HasItsTurns, IsFirstRefused, IsInRange, BodyInRange, ClaimInRange, TurnsInRange};
 
+use crate::boxed_claim::BoxedClaim;
 use crate::names::Endpoint;
 use crate::records::{Body, Claim, Record, Turns};
 use std::marker::Model;
@@ -185,11 +186,11 @@ impl Body {
 }
 
 /// Returns whether the claimed path, if there is one, is within the limit.
-fn is_short(claim: &Option<Claim>) -> bool
+fn is_short(claim: &Option<BoxedClaim>) -> bool
     ensures { IsTrue result ↔ IfSome claim.now (λ claim. length claim.path ≤ MAX_DEPTH) }
 {
     match claim {
-        Some(claim) => claim.path.as_slice().len() <= MAX_DEPTH,
+        Some(claim) => claim.get().path.as_slice().len() <= MAX_DEPTH,
         None => true,
     }
 }
@@ -274,11 +275,11 @@ fn read_turns(turns: Option<Turns>)
 }
 
 /// Ensures that each number of the claim, if there is one, is within the range of its type.
-fn read_claimed(claim: &Option<Claim>)
+fn read_claimed(claim: &Option<BoxedClaim>)
     ensures { IfSome claim.now ClaimInRange }
 {
     if let Some(claim) = claim {
-        read_claim(claim);
+        read_claim(claim.get());
     }
 }
 

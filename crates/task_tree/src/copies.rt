@@ -1,7 +1,7 @@
 //! Copies of records. The lists in a record need memory.
 ghost use Rattle.std.specs.Prelude.{◌≡◌, IfOk};
 
-use ompt_events::{Body, Claim, Dep, Deps, Path, Record};
+use ompt_events::{Body, BoxedClaim, Claim, Dep, Deps, Path, Record};
 use std::alloc::{AllocError, Global};
 
 /// Returns a copy of the record.
@@ -58,17 +58,19 @@ fn deps_of(alloc: Global, list: &Deps) -> Result<Deps, AllocError>
 }
 
 /// Returns a copy of the claim, if there is one.
-fn claim_of(alloc: Global, claim: &Option<Claim>) -> Result<Option<Claim>, AllocError>
+fn claim_of(alloc: Global, claim: &Option<BoxedClaim>) -> Result<Option<BoxedClaim>, AllocError>
     ensures { IfOk result (λ copy. copy ≡ claim.now) }
 {
     let Some(claim) = claim else {
         return Ok(None);
     };
-    Ok(Some(Claim {
+    let claim = claim.get();
+    let copy = Claim {
         kept: claim.kept,
         root: claim.root,
         path: path_of(alloc, &claim.path)?,
-    }))
+    };
+    Ok(Some(BoxedClaim::new(alloc, copy)?))
 }
 
 /// Returns a copy of the path.

@@ -13,7 +13,7 @@ ghost use Rattle.task_tree.specs.declared.roots.Standing.{Standing};
 use crate::standing_slot::StandingSlot;
 use crate::subjects::Subjects;
 use index_tables::{Numbering, Slot};
-use ompt_events::{Body, Claim, Record};
+use ompt_events::{Body, BoxedClaim, Record};
 
 /// Returns the place of the first record that names a task which no record makes, creates one whose chain
 /// of parents reaches no root, or ends or joins a parallel region that no record begins.
@@ -116,7 +116,7 @@ fn has_no_root(task: Slot, roots: &[StandingSlot]) -> bool
 
 /// Returns whether the claim, if there is one, names a root that no record makes.
 fn claims_unmade(
-    claim: &Option<Claim>,
+    claim: &Option<BoxedClaim>,
     task: Slot,
     tasks: &Numbering,
     roots: &[StandingSlot],
@@ -125,7 +125,10 @@ fn claims_unmade(
     ensures { IsTrue result ↔ IsSomeAnd claim.now (λ claim. Contains tasks.now claim.root → ⊥) }
 {
     match claim {
-        Some(claim) => !is_root_of(claim.root, task, roots) && !tasks.contains(claim.root),
+        Some(claim) => {
+            let root = claim.get().root;
+            !is_root_of(root, task, roots) && !tasks.contains(root)
+        }
         None => false,
     }
 }

@@ -13,7 +13,7 @@ use crate::hints::Hints;
 use crate::links::{Linked, link_child, no_counts, no_links};
 use crate::rootless::names_no_region;
 use index_tables::{Numbering, Slot};
-use ompt_events::{Body, Claim, Record};
+use ompt_events::{Body, BoxedClaim, Record};
 use std::alloc::{AllocError, Global};
 
 /// By place of the record the indices of the tasks that it names.
@@ -224,7 +224,7 @@ fn checked(index: Option<usize>, known: &mut bool) -> Slot
 
 /// Looks up the root that is claimed. Looks first at the index that the thread's last claim found.
 fn check_claim(
-    claim: &Option<Claim>,
+    claim: &Option<BoxedClaim>,
     thread: u8,
     tasks: &Numbering,
     hints: &mut Hints,
@@ -236,7 +236,8 @@ fn check_claim(
     let Some(claim) = claim else {
         return;
     };
-    match tasks.index_near(claim.root, hints.root(thread)) {
+    let root = claim.get().root;
+    match tasks.index_near(root, hints.root(thread)) {
         Some(index) => hints.note_root(thread, index),
         None => *known = false,
     }

@@ -1,3 +1,5 @@
+use Rattle.std.proofs.Common.{◌∙◌, ap, Some}
+use Rattle.ompt_events.specs.declared.records.Claim.{Claim}
 use Rattle.ompt_events.proofs.ListLemmas.{get_contains}
 use Rattle.task_tree.proofs.subjects.check_claim.Goals as goal
 
@@ -7,5 +9,6 @@ returns-in-Some-index_near c =
       yes,
       rw c.in-Some.is
           (get_contains c.args.tasks.now c.in-Some.claim.root c.in-Some-index_near.index
-          ((c.index_near.ensures c.in-Some-index_near.index).0 c.in-Some-index_near.is)),
+          ((c.index_near.ensures c.in-Some-index_near.index).0 c.in-Some-index_near.is
+          ∙ ap (λ (claim : Claim). Some claim.root) c.get.ensures)),
     )
