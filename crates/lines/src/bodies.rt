@@ -15,7 +15,7 @@ use crate::objects::{
     thread_kind, truth,
 };
 use crate::tables::members;
-use ompt_events::{Body, Claim, Deps, MAX_DEPENDENCES, MAX_DEPTH, Path, Turns};
+use ompt_events::{Body, BoxedClaim, Claim, Deps, MAX_DEPENDENCES, MAX_DEPTH, Path, Turns};
 use std::alloc::Global;
 
 /// A callback as a line says it, its numbers cut short where they are past their limits.
@@ -29,7 +29,7 @@ pub struct Loose {
 /// The same of a claim, if the record makes one.
 #[derive(Debug, Drop)]
 pub(crate) struct LooseClaim {
-    pub(crate) claim: Option<Claim>,
+    pub(crate) claim: Option<BoxedClaim>,
     pub(crate) fits: bool,
 }
 
@@ -86,11 +86,12 @@ macro_rules! read_body {
 
 // A claim.
 macro_rules! read_claim {
-    ($given:tt Claim { $($field:ident: $kind:ident $name:ident),* }) => {{
-        $(let $field = look_up!($kind $name $given);)*
+    (($object:ident $alloc:ident) Claim { $($field:ident: $kind:ident $name:ident),* }) => {{
+        $(let $field = look_up!($kind $name ($object $alloc));)*
         let fits = true;
         $(let fits = fits!($kind $field fits);)*
-        Ok(LooseClaim { claim: Some(Claim { $($field: cut!($kind $field $given)),* }), fits })
+        let claim = Claim { $($field: cut!($kind $field ($object $alloc))),* };
+        Ok(LooseClaim { claim: Some(found!(boxed($alloc, claim))), fits })
     }};
 }
 
@@ -205,6 +206,13 @@ fn claim(alloc: Global, object: &Object<'_, '_>) -> Result<LooseClaim, ReadCause
         (option_map (λ c. loose_claim (Some c)) (spec.claim_said (object_data object.now))) ReadCause.Field) }
 {
     members!(Claim read_claim (object alloc))
+}
+
+/// Returns the claim in memory of its own. Fails only out of memory.
+fn boxed(alloc: Global, claim: Claim) -> Result<BoxedClaim, ReadCause>
+    ensures { IsSaid result (Ok claim) }
+{
+    BoxedClaim::new(alloc, claim).map_err(|_| ReadCause::Memory)
 }
 
 /// Returns the turns of a record, if it has any.

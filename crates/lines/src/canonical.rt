@@ -7,7 +7,7 @@ use crate::parts::{
     task_flags, thread_kind, truth,
 };
 use crate::tables::line_parts;
-use ompt_events::{Body, Claim, Record, Status, Turns};
+use ompt_events::{Body, BoxedClaim, Claim, Path, Record, Status, Turns};
 use std::alloc::Global;
 
 // A part of a line, by the kind of its value.
@@ -220,12 +220,15 @@ fn finishing(alloc: Global, line: &[u8]) -> Option<Record>
     ensures { IfSome result (λ event. line.now ≡ line_of event) }
 {
     line_parts!(finishing take_parts
-        (alloc line (Record {
-            thread, seq, seen,
-            body: Body::TaskSchedule {
-                status, turns: None, prior, next, claim: Some(Claim { kept, root, path }),
-            },
-        }))
+        (alloc line {
+            let Some(claim) = claim_of(alloc, kept, root, path) else {
+                return None;
+            };
+            Record {
+                thread, seq, seen,
+                body: Body::TaskSchedule { status, turns: None, prior, next, claim: Some(claim) },
+            }
+        })
         kept next path prior root seen seq status thread)
 }
 
@@ -250,14 +253,19 @@ fn finishing_in_turn(alloc: Global, line: &[u8]) -> Option<Record>
     ensures { IfSome result (λ event. line.now ≡ line_of event) }
 {
     line_parts!(finishing_in_turn take_parts
-        (alloc line (Record {
-            thread, seq, seen,
-            body: Body::TaskSchedule {
-                status,
-                turns: Some(Turns { prior: prior_turn, next: next_turn }),
-                prior, next, claim: Some(Claim { kept, root, path }),
-            },
-        }))
+        (alloc line {
+            let Some(claim) = claim_of(alloc, kept, root, path) else {
+                return None;
+            };
+            Record {
+                thread, seq, seen,
+                body: Body::TaskSchedule {
+                    status,
+                    turns: Some(Turns { prior: prior_turn, next: next_turn }),
+                    prior, next, claim: Some(claim),
+                },
+            }
+        })
         kept next next_turn path prior prior_turn root seen seq status thread)
 }
 
@@ -287,11 +295,23 @@ fn discarding(alloc: Global, line: &[u8]) -> Option<Record>
     ensures { IfSome result (λ event. line.now ≡ line_of event) }
 {
     line_parts!(discarding take_parts
-        (alloc line (Record {
-            thread, seq, seen,
-            body: Body::Cancel { flags, task, claim: Some(Claim { kept, root, path }) },
-        }))
+        (alloc line {
+            let Some(claim) = claim_of(alloc, kept, root, path) else {
+                return None;
+            };
+            Record { thread, seq, seen, body: Body::Cancel { flags, task, claim: Some(claim) } }
+        })
         flags kept path root seen seq task thread)
+}
+
+/// Returns the claim of these. Returns none if it is out of memory.
+fn claim_of(alloc: Global, kept: u32, root: u64, path: Path) -> Option<BoxedClaim>
+    ensures { IfSome result (λ claim. claim ≡ record { kept = kept; root = root; path = path }) }
+{
+    match BoxedClaim::new(alloc, Claim { kept, root, path }) {
+        Ok(claim) => Some(claim),
+        Err(_) => None,
+    }
 }
 
 /// Reads the last members of a line that names a task.

@@ -109,12 +109,12 @@ pub fn put_record(out: &mut Vec<u8>, event: &Record) -> Result<(), AllocError>
         } => match turns {
             Some(turns) => match claim {
                 Some(claim) => {
-                    put_finishing_in_turn(out, head, *status, *turns, *prior, *next, claim)
+                    put_finishing_in_turn(out, head, *status, *turns, *prior, *next, claim.get())
                 }
                 None => put_switching_in_turn(out, head, *status, *turns, *prior, *next),
             },
             None => match claim {
-                Some(claim) => put_finishing(out, head, *status, *prior, *next, claim),
+                Some(claim) => put_finishing(out, head, *status, *prior, *next, claim.get()),
                 None => put_switching(out, head, *status, *prior, *next),
             },
         },
@@ -125,7 +125,7 @@ pub fn put_record(out: &mut Vec<u8>, event: &Record) -> Result<(), AllocError>
             task,
         } => put_sync_region(out, head, *kind, *endpoint, *parallel, *task),
         Body::Cancel { flags, task, claim } => match claim {
-            Some(claim) => put_discarding(out, head, *flags, *task, claim),
+            Some(claim) => put_discarding(out, head, *flags, *task, claim.get()),
             None => put_cancelling(out, head, *flags, *task),
         },
     }

@@ -4,7 +4,7 @@ use Rattle.lines.proofs.canonical.discarding.Goals as goal
 
 pub returns : goal.returns
 returns c =
-    Takes-whole _ _ _
+    rw c.in-Some-claim_of.ensures (Takes-whole _ _ _
     (line-discarding
     (record {
       thread = c.in-Some-task_tail.thread;
@@ -19,4 +19,4 @@ returns c =
     (Takes-both _ _ _ _ _ c.in-Some.ensures
     (Takes-both _ _ _ _ _ c.in-Some-short.ensures
     (Takes-both _ _ _ _ _ c.in-Some-path.ensures
-    (Takes-both _ _ _ _ _ c.in-Some-id.ensures c.in-Some-task_tail.ensures))))
+    (Takes-both _ _ _ _ _ c.in-Some-id.ensures c.in-Some-task_tail.ensures)))))

@@ -4,7 +4,7 @@ use Rattle.lines.proofs.canonical.finishing_in_turn.Goals as goal
 
 pub returns : goal.returns
 returns c =
-    Takes-whole _ _ _
+    rw c.in-Some-claim_of.ensures (Takes-whole _ _ _
     (line-finishing_in_turn
     (record {
       thread = c.in-Some-status_tail.thread;
@@ -24,4 +24,4 @@ returns c =
     (Takes-both _ _ _ _ _ c.in-Some-path.ensures
     (Takes-both _ _ _ _ _ c.in-Some-id.ensures
     (Takes-both _ _ _ _ _ c.in-Some-short-2.ensures
-    (Takes-both _ _ _ _ _ c.in-Some-id-2.ensures c.in-Some-status_tail.ensures)))))))
+    (Takes-both _ _ _ _ _ c.in-Some-id-2.ensures c.in-Some-status_tail.ensures))))))))
