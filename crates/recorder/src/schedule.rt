@@ -19,7 +19,7 @@ use crate::standing::is_task;
 use crate::task::TaskData;
 use bitflags::Flags;
 use credit_ledger::SharedLedger;
-use ompt_events::{Body, CancelFlags, Claim, Part, Status, Turns};
+use ompt_events::{Body, BoxedClaim, CancelFlags, Part, Status, Turns};
 use std::marker::Model;
 use std::sync::Wait;
 
@@ -46,7 +46,7 @@ impl<'a> Model for Schedule<'a> {
 
 impl<'a> Schedule<'a> {
     /// Returns the body of its record, with the claim of a task that it finishes.
-    fn body(&self, claim: Option<Claim>) -> Body
+    fn body(&self, claim: Option<BoxedClaim>) -> Body
         ensures { result ≡ schedule_body self.now claim }
     {
         Body::TaskSchedule {
@@ -422,7 +422,7 @@ impl Recorder {
 }
 
 /// Returns the body of the record of a discard.
-fn discard_body(task: &TaskData, flags: CancelFlags, claim: Option<Claim>) -> Body
+fn discard_body(task: &TaskData, flags: CancelFlags, claim: Option<BoxedClaim>) -> Body
     ensures { result ≡ Cancel flags task.now.id claim }
 {
     Body::Cancel {

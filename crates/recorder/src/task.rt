@@ -10,7 +10,7 @@ ghost use Rattle.recorder.specs.Tasks.{parent_of, place_of, is_initial_task, is_
 use bitflags::Flags;
 use credit_ledger::Entry;
 use ompt_events::{
-    Body, Claim, Endpoint, MAX_DEPTH, Part, Path, State, Status, SyncKind, TaskFlags,
+    Body, BoxedClaim, Claim, Endpoint, MAX_DEPTH, Part, Path, State, Status, SyncKind, TaskFlags,
 };
 use std::alloc::{AllocError, Global};
 use std::marker::Model;
@@ -194,7 +194,7 @@ impl TaskData {
 
     /// Returns the entry that the ledger gets when the part of the task is finished on the thread, and the
     /// claim of its record.
-    pub(crate) fn finish(&self, thread: u8, part: Part) -> Result<(Entry, Claim), AllocError>
+    pub(crate) fn finish(&self, thread: u8, part: Part) -> Result<(Entry, BoxedClaim), AllocError>
         ensures entry { IfOk result (λ made. made.0 ≡ entry_of_part thread part self.now) }
         ensures claim { IfOk result (λ made. made.1 ≡ self.now.claim) }
         ensures short { IfOk result (λ made. (length made.0.path ≤ 1024) × (length made.1.path ≤ 1024)) }
@@ -213,7 +213,7 @@ impl TaskData {
             root: self.claim.root,
             path: self.claim.path.copied(alloc)?,
         };
-        Ok((entry, claim))
+        Ok((entry, BoxedClaim::new(alloc, claim)?))
     }
 }
 
