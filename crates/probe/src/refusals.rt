@@ -1,7 +1,7 @@
 //! Lists of records that are no trace for a reason that no file has, and a thread's buffer.
 use anyhow::Result;
 use ompt_events::{
-    Body, CancelFlags, Claim, Endpoint, Path, Record, Status, TaskFlags, Trace, Turns,
+    Body, BoxedClaim, CancelFlags, Claim, Endpoint, Path, Record, Status, TaskFlags, Trace, Turns,
 };
 use std::alloc::{AllocError, Global};
 use thread_buffers::Buffer;
@@ -91,11 +91,14 @@ fn buffered(rt: &HostRuntime) -> Result<()> {
 
 /// A record that stands after the begin of an initial task, and what it shows.
 fn last_record(alloc: Global, number: u8) -> Result<(&'static str, Record), AllocError> {
-    let claim = Claim {
-        kept: 0,
-        root: 1,
-        path: Path::from_vec(Vec::new(alloc)),
-    };
+    let claim = BoxedClaim::new(
+        alloc,
+        Claim {
+            kept: 0,
+            root: 1,
+            path: Path::from_vec(Vec::new(alloc)),
+        },
+    )?;
     Ok(match number {
         0 => ("every task flag", creates(TaskFlags(0xf800_001f))),
         1 => ("a task flag without a name", creates(TaskFlags(0x24))),
@@ -157,7 +160,7 @@ fn creates(flags: TaskFlags) -> Record {
     })
 }
 
-fn cancels(flags: CancelFlags, claim: Option<Claim>) -> Record {
+fn cancels(flags: CancelFlags, claim: Option<BoxedClaim>) -> Record {
     record(Body::Cancel {
         flags,
         task: 1,
@@ -165,7 +168,7 @@ fn cancels(flags: CancelFlags, claim: Option<Claim>) -> Record {
     })
 }
 
-fn stops(status: Status, claim: Option<Claim>) -> Record {
+fn stops(status: Status, claim: Option<BoxedClaim>) -> Record {
     record(Body::TaskSchedule {
         status,
         turns: None,
