@@ -15,6 +15,7 @@ use certificate::{Sink, Source, WriteFault, read, read_on, write_bytes};
 use checker::{CheckFault, Gate, MAX_WORKERS, Verdict, check, check_on, check_with_counter};
 use ompt_events::Trace;
 use std::alloc::Global;
+use std::mem::forget;
 use std::thread::Threads;
 
 /// Reads a trace file to its end, checks it, and writes what is shown of its verdict: the report alone, or
@@ -42,6 +43,7 @@ pub fn audit<I: Source, O: Sink>(
 {
     let trace = read(alloc, source).map_err(AuditFault::Read)?;
     let (verdict, text) = answer(alloc, shown, &trace)?;
+    leave(trace);
     put(&verdict, text.as_slice(), sink)
 }
 
@@ -92,7 +94,14 @@ pub fn audit_on<R: Threads + Sync, G: Gate + Sync, I: Source, O: Sink>(
     }
     let recorded = read_on(crew.threads, alloc, source, crew.workers).map_err(AuditFault::Read)?;
     let (verdict, text) = answer_on(alloc, crew, &recorded)?;
+    leave(recorded);
     put(&verdict, text.as_slice(), sink)
+}
+
+/// Leaves the trace to the end of the process, which comes soon. To free a list for each record that finishes
+/// a task would take a twentieth of the audit.
+fn leave(trace: Trace) {
+    forget(trace);
 }
 
 /// Writes what is shown of the verdict, and returns its kind.
