@@ -131,6 +131,9 @@ pub(crate) fn number(rest: &[u8]) -> Option<(u64, &[u8])>
     digits(rest, first)
 }
 
+/// A number of fewer digits is read without a test of the length.
+const NEAR_DIGITS: usize = 8;
+
 /// Takes the same if the first digit is known, and is not 0.
 #[inline(always)]
 fn digits(rest: &[u8], first: u64) -> Option<(u64, &[u8])>
@@ -140,17 +143,51 @@ fn digits(rest: &[u8], first: u64) -> Option<(u64, &[u8])>
     requires front { slice_index rest.now 0 ≡ 48 + first }
     ensures { IfSome result (λ taken. Takes rest.now (decimal taken.0) taken.1.now) }
 {
-    let front = &rest[..rest.len().min(SAFE_DIGITS)];
+    if rest.len() >= NEAR_DIGITS {
+        // The loop over a slice of this length is unrolled.
+        let (number, len) = leading(&rest[..NEAR_DIGITS], first);
+        if len < NEAR_DIGITS {
+            return Some((number, &rest[len..]));
+        }
+    }
+    many_digits(rest, first)
+}
+
+/// Takes the same, however many digits there are.
+#[inline(never)]
+fn many_digits(rest: &[u8], first: u64) -> Option<(u64, &[u8])>
+    requires some { 0 < first }
+    requires digit { first ≤ 9 }
+    requires within { 0 < length rest.now }
+    requires front { slice_index rest.now 0 ≡ 48 + first }
+    ensures { IfSome result (λ taken. Takes rest.now (decimal taken.0) taken.1.now) }
+{
+    let (number, len) = leading(&rest[..rest.len().min(SAFE_DIGITS)], first);
+    if len < SAFE_DIGITS {
+        return Some((number, &rest[len..]));
+    }
+    with_last_digit(rest, number, len)
+}
+
+/// Returns the number of the digits in front, the first of which is known and not 0, and how many they are.
+#[inline(always)]
+fn leading(front: &[u8], first: u64) -> (u64, usize)
+    requires some { 0 < first }
+    requires digit { first ≤ 9 }
+    requires within { 0 < length front.now }
+    requires short { length front.now ≤ 19 }
+    requires front { slice_index front.now 0 ≡ 48 + first }
+    ensures some { 0 < result.0 }
+    ensures within { result.1 ≤ length front.now }
+    ensures taken { take result.1 front.now ≡ decimal result.0 }
+{
     let mut number = first;
     let mut len = 1;
     'digits: while let Some(next) = digit(front, len) {
         number = 10 * number + next;
         len += 1;
     }
-    if len < SAFE_DIGITS {
-        return Some((number, &rest[len..]));
-    }
-    with_last_digit(rest, number, len)
+    (number, len)
 }
 
 /// Returns the number of the first digits, with one digit more if there is one.
@@ -488,6 +525,11 @@ pub(crate) fn room_for_items(rest: &[u8]) -> usize {
     room
 }
 
+/// Returns how many numbers a list has at most: each has a digit, and all but the last a comma behind it.
+fn room_for_numbers(rest: &[u8]) -> usize {
+    memchr(b']', rest).unwrap_or(0).div_ceil(2)
+}
+
 /// Returns how many dependences a list has at most: each but the last is followed by a brace and a comma.
 fn room_for_dependences(rest: &[u8]) -> usize {
     let len = memchr(b']', rest).unwrap_or(0);
@@ -526,7 +568,7 @@ fn path_alone(alloc: Global, rest: &[u8]) -> Option<(Path, &[u8])>
         (compact_text (array (items_of (map whole_number taken.0)))) taken.1.now) }
 {
     let mut rest = after(rest, "[")?;
-    let mut numbers = Vec::with_capacity(alloc, room_for_items(rest)).ok()?;
+    let mut numbers = Vec::with_capacity(alloc, room_for_numbers(rest)).ok()?;
     let mut later = false;
     'numbers: for _ in 0..MAX_DEPTH {
         let Some((number, behind)) = next_number(rest, later) else {
