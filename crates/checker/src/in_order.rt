@@ -158,7 +158,7 @@ fn note_end(
     requires lasts { AreLastSuspensions run.now.records run.now.family.tasks lasts.old.items }
     ensures { OnOk result (AreLastSuspensions run.now.records run.now.family.tasks lasts.new.items) }
 {
-    if run.record(at).body.told_turns().is_none() {
+    if !run.tells_turns(at) {
         return Ok(());
     }
     match suspended_at(run, at) {

@@ -8,7 +8,7 @@ ghost use Rattle.checker.specs.Makers.{is_named, IsNaming};
 ghost use Rattle.checker.specs.Schedule.{EachAwaitsOne};
 
 use crate::suspensions::Suspensions;
-use ompt_events::{Cause, Fault, exclude, finish};
+use ompt_events::{Cause, Fault, exclude};
 use std::alloc::{AllocError, Global};
 use std::collections::BTreeSet;
 use std::marker::Model;
@@ -98,10 +98,13 @@ struct Named {
 fn entry_count(run: &Run) -> usize
     ensures { result ≡ entries_in run.now.records }
 {
-    run.records()
-        .iter()
-        .filter(|event| finish(event).is_some())
-        .count()
+    let mut count = 0;
+    for at in 0..run.len() {
+        if run.is_finishing(at) {
+            count += 1;
+        }
+    }
+    count
 }
 
 /// Returns by entry of the ledger the record that makes it. Fails with EntryTwice at the first finishing

@@ -161,8 +161,9 @@ pub(crate) fn clear_order(alloc: Global, sound: &Sound) -> Result<Order, Fault>
     ensures clear { OnOk result (IsClear sound.now.run.records all_causes) }
     ensures least { IfErr result (IsLeastFound sound.now.run.records) }
 {
+    let run = sound.run();
     let order = order_of(alloc, sound)?;
-    exclude(Cause::TargetTask, target(sound.trace))?;
+    exclude(Cause::TargetTask, target(run))?;
     Ok(order)
 }
 

@@ -81,7 +81,6 @@ pub(crate) fn begun_at(run: &Run, at: usize) -> Option<Begin>
     ensures { MatchOption result (says_at begun_turn run.now.records at ≡ None)
         (λ begin. IsStartOf run.now.records run.now.family.tasks at begin.index begin.turn) }
 {
-    let (_, turn) = run.record(at).body.begun_turn()?;
-    let index = run.started(at)?;
+    let (index, turn) = run.begun_turn(at)?;
     Some(Begin { index, turn })
 }

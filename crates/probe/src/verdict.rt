@@ -6,7 +6,7 @@ use anyhow::Result;
 use checker::{Order, Verdict, check, counter_order};
 use ompt_events::Trace;
 use std::alloc::{AllocError, Global};
-use task_states::{gap, target};
+use task_states::gap;
 
 /// Prints the answers of the calls on the trace of standard input.
 pub fn of_input(rt: &HostRuntime) -> Result<()> {
@@ -16,8 +16,7 @@ pub fn of_input(rt: &HostRuntime) -> Result<()> {
 /// Prints the answers of the calls on the trace.
 fn of_trace(rt: &HostRuntime, trace: &Trace) -> Result<()> {
     let gap = gap(trace);
-    let target = target(trace);
-    println!(rt; "gap {gap:?}, target {target:?}")?;
+    println!(rt; "gap {gap:?}")?;
     let verdict = again!(rt, _, check(rt.alloc(), trace))?;
     tell(rt, &verdict)
 }

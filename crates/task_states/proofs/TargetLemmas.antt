@@ -1,40 +1,20 @@
 -- Which records make target tasks.
-use Rattle.std.proofs.Common.{◌≡◌, ◌∙◌, ℕ, ◌<◌, ◌≤◌, List, length, get_or, arith, sym}
+use Rattle.std.proofs.Common.{ℕ, ◌<◌, ◌≤◌, List, length, arith}
 use Rattle.ompt_events.specs.declared.records.Record.{Record}
 use Rattle.ompt_events.specs.declared.cause.Cause.TheVariants.{TargetTask}
-use Rattle.ompt_events.specs.Records.{made, flags}
+use Rattle.ompt_events.specs.Records.{made}
 use Rattle.ompt_events.specs.Causes.{HasCause, MakesTarget, target_task, IsFirstWith, IsFreeOf}
-use Rattle.ompt_events.proofs.PlaceLemmas.{at_read, at_within}
-use Rattle.task_states.specs.Targets.{IsTargetMade}
+use Rattle.ompt_events.proofs.PlaceLemmas.{at_within}
 
 pub makes_target_task : (rs : List Record) (i : ℕ) → HasCause rs i TargetTask → MakesTarget rs i
 makes_target_task rs i (target_task makes) = makes
 
--- the record that was read makes no target task
-pub no_target : (rs : List Record) (i : ℕ) (r : Record) → i < length rs → r ≡ get_or rs i r
-    → (IsTargetMade r.body → ⊥) → MakesTarget rs i → ⊥
-no_target rs i r within read none (task, bits, makes, given, has) =
-    none (
-      task,
-      bits,
-      sym (at_read made rs i r within read) ∙ makes,
-      sym (at_read flags rs i r within read) ∙ given,
-      has,
-    )
-
 -- the first record that makes one
-pub first_target : (rs : List Record) (i : ℕ) (r : Record) → i < length rs → r ≡ get_or rs i r
-    → IsTargetMade r.body → ((k : ℕ) → k < i → MakesTarget rs k → ⊥) → IsFirstWith rs TargetTask i
-first_target rs i r within read (task, bits, makes, given, has) free = record {
+pub first_target : (rs : List Record) (i : ℕ) → i < length rs → MakesTarget rs i
+    → ((k : ℕ) → k < i → MakesTarget rs k → ⊥) → IsFirstWith rs TargetTask i
+first_target rs i within makes free = record {
   within = within;
-  has =
-      target_task (
-        task,
-        bits,
-        at_read made rs i r within read ∙ makes,
-        at_read flags rs i r within read ∙ given,
-        has,
-      );
+  has = target_task makes;
   first = λ k below cause. free k below (makes_target_task rs k cause);
 }
 

@@ -1,10 +1,8 @@
 //! Which thread each explicit task runs on.
-ghost use Rattle.std.specs.Prelude.{ℕ, ◌≡◌, ◌<◌, ◌↔◌, ◌∷◌, [], Some, false, IfOk, IfErr, OnOk, is_some, length, replicate, slice_get};
+ghost use Rattle.std.specs.Prelude.{ℕ, ◌≡◌, ◌<◌, ◌↔◌, ◌∷◌, [], Some, false, IfOk, IfErr, OnOk, length, replicate, slice_get};
 ghost use Rattle.ompt_events.specs.declared.cause.Cause.TheVariants.{Moved};
 ghost use Rattle.ompt_events.specs.Causes.{IsFreeOf};
 ghost use Rattle.ompt_events.specs.Faults.{IsFault};
-ghost use Rattle.ompt_events.specs.Places.{at as says_at};
-ghost use Rattle.ompt_events.specs.Records.{told_turns};
 ghost use Rattle.ompt_events.specs.Tree.{IsExplicit};
 ghost use Rattle.task_tree.specs.Runs.{IsRun};
 ghost use Rattle.task_states.specs.declared.homes.Home.TheVariants.{Nowhere};
@@ -86,7 +84,7 @@ pub(crate) fn find_moved<'a>(alloc: Global, run: &Run<'a>) -> Result<Schedules<'
     for at in 0..run.len() {
         any_early |= fulfils_early(run, at);
         if let Some(index) = explicit_start(run, at) {
-            let told = tells_turns(run, at);
+            let told = run.tells_turns(at);
             let Some(home) = home_after(homes[index], run.thread(at), told) else {
                 return Err(Fault::Malformed {
                     at,
@@ -123,14 +121,6 @@ fn explicit_start(run: &Run, at: usize) -> Option<usize>
     } else {
         None
     }
-}
-
-/// Returns whether the record has turns.
-fn tells_turns(run: &Run, at: usize) -> bool
-    requires { at < length run.now.records }
-    ensures { result ≡ is_some (says_at told_turns run.now.records at) }
-{
-    run.record(at).body.told_turns().is_some()
 }
 
 /// Returns where a task runs that now runs on this thread, or none where it ran on another one and no turns

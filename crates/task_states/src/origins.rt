@@ -6,12 +6,10 @@ ghost use Rattle.ompt_events.specs.Causes.{IsFreeOf};
 ghost use Rattle.ompt_events.specs.States.{nature_of, has_moved};
 ghost use Rattle.task_tree.specs.Runs.{IsRun};
 ghost use Rattle.task_states.specs.Homes.{home_at};
-ghost use Rattle.task_states.specs.Progress.{is_at, is_many, is_turn_step, is_wait_made, the_nature, AreNatures, AreHomes};
+ghost use Rattle.task_states.specs.Progress.{is_at, is_many, is_turn_step, the_nature, AreNatures, AreHomes};
 
 use crate::homes::{Home, Schedules};
 use crate::moves::{Move, Nature, is_turn_move};
-use bitflags::Flags;
-use ompt_events::TaskFlags;
 use std::alloc::{AllocError, Global};
 use std::marker::Model;
 use task_tree::Run;
@@ -161,21 +159,10 @@ fn nature_at(run: &Run, index: usize) -> Nature
     if !run.is_explicit(index) {
         return Nature::Root;
     }
-    if is_wait_made(run, run.made_at(index)) {
+    if run.makes_wait(run.made_at(index)) {
         Nature::Wait
     } else {
         Nature::Plain
-    }
-}
-
-/// Returns whether the task that the record makes is a taskwait with dependences (OpenMP 5.2, 15.5).
-fn is_wait_made(run: &Run, at: usize) -> bool
-    requires { at < length run.now.records }
-    ensures { result ≡ is_wait_made run.now.records at }
-{
-    match run.record(at).body.flags() {
-        Some(flags) => flags.contains(TaskFlags::TASKWAIT),
-        None => false,
     }
 }
 

@@ -185,8 +185,8 @@ fn kind_of(run: &Run, place: usize) -> Option<SyncKind>
     if place >= run.len() {
         return None;
     }
-    let (_, kind, _) = run.record(place).body.region()?;
-    Some(kind)
+    let event = run.region(place)?;
+    Some(event.kind)
 }
 
 /// Returns whether the region is a barrier, and the task is explicit, so that it may have none.

@@ -1,27 +1,36 @@
 //! Whether a task is to run on a device.
-ghost use Rattle.std.specs.Prelude.{◌≡◌, MatchOption, IsTrue, ◌↔◌};
+ghost use Rattle.std.specs.Prelude.{◌≡◌, ◌<◌, ◌↔◌, MatchOption, IsTrue, length};
 ghost use Rattle.ompt_events.specs.Flags as flag;
 ghost use Rattle.ompt_events.specs.Flags.{has_flag};
 ghost use Rattle.ompt_events.specs.declared.cause.Cause.TheVariants.{TargetTask};
-ghost use Rattle.ompt_events.specs.Causes.{IsFreeOf, IsFirstWith};
+ghost use Rattle.ompt_events.specs.Causes.{IsFreeOf, IsFirstWith, MakesTarget};
 ghost use Rattle.task_states.specs.Targets.{IsTargetMade};
 
 use bitflags::Flags;
-use ompt_events::{Body, Endpoint, TaskFlags, Trace};
+use ompt_events::{Body, Endpoint, TaskFlags};
+use task_tree::Run;
 
 /// Returns the first record that makes a target task, one with the flag `target` (OpenMP 5.2, 13.8 and
 /// `ompt_task_flag_t`). Such a task runs on a device, whose events are not in the file. Takes no memory from
 /// the heap, and one step for each record.
-pub fn target(trace: &Trace) -> Option<usize>
-    ensures { MatchOption result (IsFreeOf trace.now.records TargetTask)
-        (IsFirstWith trace.now.records TargetTask) }
+pub fn target(run: &Run) -> Option<usize>
+    ensures { MatchOption result (IsFreeOf run.now.records TargetTask)
+        (IsFirstWith run.now.records TargetTask) }
 {
-    for (at, event) in trace.records().iter().enumerate() {
-        if makes_target(&event.body) {
+    for at in 0..run.len() {
+        if is_target_there(run, at) {
             return Some(at);
         }
     }
     None
+}
+
+/// Returns whether the record at a place makes a target task. Looks at records that make a task alone.
+fn is_target_there(run: &Run, at: usize) -> bool
+    requires { at < length run.now.records }
+    ensures { IsTrue result ↔ MakesTarget run.now.records at }
+{
+    run.makes(at) && makes_target(&run.record(at).body)
 }
 
 /// Returns whether the record makes a target task.

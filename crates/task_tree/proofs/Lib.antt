@@ -39,3 +39,4 @@ pub mod ShownLemmas
 pub mod ArrangedLemmas
 pub mod TreeLemmas
 pub mod OwnRunLemmas
+pub mod PackedLemmas

@@ -1,5 +1,5 @@
 //! Parents, numbers, roots and children.
-ghost use Rattle.std.specs.Prelude.{ℕ, ◌≡◌, ◌↔◌, ◌<◌, List, [], ◌∷◌, Some, None, IfOk, IfErr, IsTrue, length, slice_get, slice_index_or};
+ghost use Rattle.std.specs.Prelude.{ℕ, ◌≡◌, ◌↔◌, ◌<◌, List, [], ◌∷◌, Some, None, IfOk, IfErr, IsTrue, length, option_map, slice_get, slice_index_or};
 ghost use Rattle.ompt_events.specs.declared.records.Record.{Record};
 ghost use Rattle.ompt_events.specs.declared.cause.Cause.TheVariants.{CreatedTwice, Rootless};
 ghost use Rattle.ompt_events.specs.Faults.{IsFault};
@@ -7,11 +7,13 @@ ghost use Rattle.ompt_events.specs.Records.{made};
 ghost use Rattle.ompt_events.specs.Places.{at as says_at};
 ghost use Rattle.ompt_events.specs.Tree.{IsRoot, IsExplicit, IsParent, IsChild, HasPath, children};
 ghost use Rattle.task_tree.specs.Family.{IsFamilyOf, HasRegionSeed, AreInFileOrder, IsLinkOf, IsStandingOf};
+ghost use Rattle.task_tree.specs.Packed.{packed};
 ghost use Rattle.task_tree.specs.Subjects.{subject, object, Calls};
 
 use crate::link_slot::LinkSlot;
 use crate::links::{Link, Linked};
 use crate::makers::{Made, find_made};
+use crate::packed::PackedEvent;
 use crate::rootless::find_rootless;
 use crate::roots::{Standing, find_roots};
 use crate::rows::find_rows;
@@ -28,6 +30,7 @@ use std::marker::Model;
 pub struct Family {
     tasks: Numbering,
     places: Vec<u32>,
+    events: Vec<PackedEvent>,
     subjects: Vec<Slot>,
     objects: Vec<Slot>,
     rows: Rows,
@@ -44,6 +47,7 @@ impl Model for Family {
     ghost view = { λ family. record {
       tasks = family.tasks;
       places = family.places.items;
+      events = family.events.items;
       subjects = family.subjects.items;
       objects = family.objects.items;
       rows = family.rows;
@@ -73,7 +77,11 @@ impl Family {
             places,
             regions,
         } = find_made(alloc, records)?;
-        let Lookup { named, linked } = find_subjects(alloc, records, &tasks, &regions)?;
+        let Lookup {
+            events,
+            named,
+            linked,
+        } = find_subjects(alloc, records, &tasks, &regions)?;
         let Linked { counts, links } = linked;
         let rows = find_rows(alloc, tasks.as_slice(), counts.as_slice(), links.as_slice())?;
         drop(counts);
@@ -83,6 +91,7 @@ impl Family {
         Ok(Family {
             tasks,
             places,
+            events,
             subjects: named.subjects,
             objects: named.objects,
             rows,
@@ -125,6 +134,15 @@ impl Family {
             → says_at made records result ≡ slice_get self.now.tasks index }
     {
         self.places[index] as usize
+    }
+
+    /// Returns the packed event of the record at a place.
+    pub(crate) fn event(&self, at: usize) -> PackedEvent
+        requires { at < length self.now.events }
+        ensures { (records : List Record) → IsFamilyOf records self.now
+            → option_map packed (slice_get records at) ≡ Some result }
+    {
+        self.events[at]
     }
 
     /// Returns the index of the task that the record at a place is of: the root that begins or ends, the

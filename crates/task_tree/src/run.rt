@@ -1,18 +1,25 @@
 //! The records of a trace with the family of its tasks. All phases of an audit take them.
-ghost use Rattle.std.specs.Prelude.{ℕ, ◌≡◌, ◌↔◌, ◌<◌, Option, Some, None, IsTrue, MatchOption, is_some, length, option_copied, slice_get};
+ghost use Rattle.std.specs.Option.{option_map_or};
+ghost use Rattle.std.specs.Prelude.{ℕ, ◌≡◌, ◌↔◌, ◌<◌, Option, Some, None, IsTrue, MatchOption, false, is_some, length, option_copied, option_map, slice_get, if◌then◌else◌};
 ghost use Rattle.ompt_events.specs.declared.records.Body.{Body};
-ghost use Rattle.ompt_events.specs.Records.{begun_initial, begun_root, claim, created, created_with_deps, creation, dependences, discarded, ended_root, finish, forked, fulfilled, joined, made, region, running, schedule, started, wait_completed};
+ghost use Rattle.ompt_events.specs.Records.{begun_initial, begun_root, begun_turn, claim, created, created_with_deps, creation, dependences, discarded, ended_root, finish, flags, forked, fulfilled, joined, made, region, running, schedule, started, told_turns, wait_completed};
+ghost use Rattle.ompt_events.specs.Flags as flag;
+ghost use Rattle.ompt_events.specs.Flags.{has_flag};
 ghost use Rattle.ompt_events.specs.Places.{at as says_at, thread_at, seen_at};
 ghost use Rattle.ompt_events.specs.Causes.{known_after};
 ghost use Rattle.ompt_events.specs.Tree.{IsExplicit, HasPath, children};
 ghost use Rattle.task_tree.specs.Family.{IsFamilyOf};
 ghost use Rattle.task_tree.specs.Lineage.{parent_index};
+ghost use Rattle.task_tree.specs.Packed.{act_of, packed};
+ghost use Rattle.task_tree.specs.Rising.{IsStartOf};
 ghost use Rattle.task_tree.specs.Runs.{schedule_status, IsRun, IsIndexOf, IsCreation, IsFinish, IsRegionEvent, IsSchedule, IsThreadEvent, IsNoThreadEvent, IsFork, IsNoWaitEvent, IsWaitEvent, AreDependences};
 ghost use Rattle.task_tree.specs.Subjects.{subject, object};
 
 use crate::family::Family;
+use crate::packed::{Act, PackedEvent};
+use bitflags::Flags;
 use ompt_events::{
-    Claim, Dep, Endpoint, Membership, Part, Record, Status, SyncKind, Trace, WaitKind, finish,
+    Claim, Dep, Endpoint, Membership, Part, Record, Status, SyncKind, TaskFlags, Trace, WaitKind,
 };
 use std::marker::Model;
 
@@ -171,7 +178,7 @@ impl<'a> Run<'a> {
         requires { at < length self.now.records }
         ensures { thread_at self.now.records at ≡ Some result }
     {
-        self.record(at).thread
+        self.event(at).thread
     }
 
     /// Returns the ledger length that the record names.
@@ -179,7 +186,7 @@ impl<'a> Run<'a> {
         requires { at < length self.now.records }
         ensures { result ≡ seen_at self.now.records at }
     {
-        self.record(at).seen
+        self.event(at).seen
     }
 
     /// Returns the task that the record is of: the root that begins or ends, the parent that creates, the
@@ -205,7 +212,9 @@ impl<'a> Run<'a> {
         ensures { MatchOption result (says_at creation self.now.records at ≡ None)
             (λ made. IsCreation self.now at made.parent made.child) }
     {
-        self.record(at).body.creation()?;
+        if !self.act(at).creates() {
+            return None;
+        }
         let parent = self.subject_of(at)?;
         let child = self.object_of(at)?;
         Some(Creation { parent, child })
@@ -216,7 +225,7 @@ impl<'a> Run<'a> {
         requires { at < length self.now.records }
         ensures { IsIndexOf self.now started at result }
     {
-        self.object_if(self.record(at).body.started(), at)
+        self.object_if(self.act(at).starts(), at)
     }
 
     /// Returns the explicit task that is created there.
@@ -224,7 +233,30 @@ impl<'a> Run<'a> {
         requires { at < length self.now.records }
         ensures { IsIndexOf self.now created at result }
     {
-        self.object_if(self.record(at).body.created(), at)
+        self.object_if(self.act(at).creates(), at)
+    }
+
+    /// Returns whether the record makes a task.
+    pub fn makes(&self, at: usize) -> bool
+        requires { at < length self.now.records }
+        ensures { result ≡ is_some (says_at made self.now.records at) }
+    {
+        self.act(at).makes()
+    }
+
+    /// Returns whether the record makes a taskwait with dependences (15.5): it has the flag `taskwait`.
+    pub fn makes_wait(&self, at: usize) -> bool
+        requires { at < length self.now.records }
+        ensures { result ≡ option_map_or (λ bits. has_flag bits flag.taskwait)
+            (says_at flags self.now.records at) false }
+    {
+        match self.act(at).creates_wait() {
+            Some(wait) => wait,
+            None => match self.record(at).body.flags() {
+                Some(flags) => flags.contains(TaskFlags::TASKWAIT),
+                None => false,
+            },
+        }
     }
 
     /// Returns the task whose event is fulfilled there, early or late (12.5.2).
@@ -232,7 +264,7 @@ impl<'a> Run<'a> {
         requires { at < length self.now.records }
         ensures { IsIndexOf self.now fulfilled at result }
     {
-        self.subject_if(self.record(at).body.fulfilled(), at)
+        self.subject_if(self.act(at).fulfils(), at)
     }
 
     /// Returns the task that is discarded there before it began (11.5).
@@ -240,7 +272,7 @@ impl<'a> Run<'a> {
         requires { at < length self.now.records }
         ensures { IsIndexOf self.now discarded at result }
     {
-        self.subject_if(self.record(at).body.discarded(), at)
+        self.subject_if(self.act(at).discards(), at)
     }
 
     /// Returns the taskwait with dependences that is complete there (15.5).
@@ -248,7 +280,7 @@ impl<'a> Run<'a> {
         requires { at < length self.now.records }
         ensures { IsIndexOf self.now wait_completed at result }
     {
-        self.subject_if(self.record(at).body.wait_completed(), at)
+        self.subject_if(self.act(at).completes_wait(), at)
     }
 
     /// Returns the task that must be running on the record's thread.
@@ -256,7 +288,7 @@ impl<'a> Run<'a> {
         requires { at < length self.now.records }
         ensures { IsIndexOf self.now running at result }
     {
-        self.subject_if(self.record(at).body.running(), at)
+        self.subject_if(self.act(at).runs(), at)
     }
 
     /// Returns the task that is finished there, and how much of it.
@@ -265,7 +297,7 @@ impl<'a> Run<'a> {
         ensures { MatchOption result (says_at finish self.now.records at ≡ None)
             (λ found. IsFinish self.now at found.task found.part) }
     {
-        let (_, part) = finish(self.record(at))?;
+        let part = self.act(at).finishes()?;
         let task = self.subject_of(at)?;
         Some(Finishing { task, part })
     }
@@ -275,7 +307,7 @@ impl<'a> Run<'a> {
         requires { at < length self.now.records }
         ensures { result ≡ is_some (says_at finish self.now.records at) }
     {
-        finish(self.record(at)).is_some()
+        self.act(at).finishes().is_some()
     }
 
     /// Returns the ledger length that is known after the record: one more than it names if it makes an
@@ -293,7 +325,7 @@ impl<'a> Run<'a> {
         ensures { MatchOption result (says_at region self.now.records at ≡ None)
             (λ event. IsRegionEvent self.now at event.task event.kind event.endpoint) }
     {
-        let (_, kind, endpoint) = self.record(at).body.region()?;
+        let (kind, endpoint) = self.act(at).region()?;
         let task = self.subject_of(at)?;
         Some(RegionEvent {
             task,
@@ -310,8 +342,7 @@ impl<'a> Run<'a> {
         requires { at < length self.now.records }
         ensures { result ≡ says_at schedule_status self.now.records at }
     {
-        let (status, _, _) = self.record(at).body.schedule()?;
-        Some(status)
+        self.act(at).status()
     }
 
     /// Returns the task_schedule event there, if the record is one (19.5.2.10).
@@ -320,7 +351,7 @@ impl<'a> Run<'a> {
         ensures { MatchOption result (says_at schedule self.now.records at ≡ None)
             (λ event. IsSchedule self.now at event.status event.prior event.next) }
     {
-        let (status, _, _) = self.record(at).body.schedule()?;
+        let status = self.act(at).status()?;
         let prior = self.subject_of(at)?;
         let next = self.object_of(at);
         Some(Schedule {
@@ -328,6 +359,29 @@ impl<'a> Run<'a> {
             prior,
             next,
         })
+    }
+
+    /// Returns whether the record has turns.
+    pub fn tells_turns(&self, at: usize) -> bool
+        requires { at < length self.now.records }
+        ensures { result ≡ is_some (says_at told_turns self.now.records at) }
+    {
+        self.act(at).tells_turns()
+    }
+
+    /// Returns the task that runs from the record on, if one is scheduled, and the turn that it begins: turn
+    /// 0 if the record has no turns.
+    pub fn begun_turn(&self, at: usize) -> Option<(usize, u32)>
+        requires { at < length self.now.records }
+        ensures { MatchOption result (says_at begun_turn self.now.records at ≡ None)
+            (λ begin. IsStartOf self.now.records self.now.family.tasks at begin.0 begin.1) }
+    {
+        let index = self.started(at)?;
+        if !self.tells_turns(at) {
+            return Some((index, 0));
+        }
+        let (_, turn) = self.record(at).body.begun_turn()?;
+        Some((index, turn))
     }
 
     /// Returns what the record says of the tasks that its thread runs (12.9), if it says anything of them.
@@ -357,8 +411,7 @@ impl<'a> Run<'a> {
         ensures { MatchOption result (says_at forked self.now.records at ≡ None)
             (IsFork self.now at) }
     {
-        self.record(at).body.forked()?;
-        self.subject_of(at)
+        self.subject_if(self.act(at).forks(), at)
     }
 
     /// Returns the begin or end of a region that waits for tasks (15.3, 15.4 and 15.5), if the record is
@@ -368,7 +421,7 @@ impl<'a> Run<'a> {
         ensures { MatchOption result (IsNoWaitEvent self.now at)
             (λ event. IsWaitEvent self.now at event.task event.kind event.endpoint) }
     {
-        let (_, kind, endpoint) = self.record(at).body.region()?;
+        let (kind, endpoint) = self.act(at).region()?;
         let kind = kind.wait_kind()?;
         let task = self.subject_of(at)?;
         Some(WaitEvent {
@@ -383,7 +436,7 @@ impl<'a> Run<'a> {
         requires { at < length self.now.records }
         ensures { IsIndexOf self.now begun_root at result }
     {
-        self.subject_if(self.record(at).body.begun_root(), at)
+        self.subject_if(self.act(at).begins_root(), at)
     }
 
     /// Returns the initial or implicit task that ends there.
@@ -391,7 +444,7 @@ impl<'a> Run<'a> {
         requires { at < length self.now.records }
         ensures { IsIndexOf self.now ended_root at result }
     {
-        self.subject_if(self.record(at).body.ended_root(), at)
+        self.subject_if(self.act(at).ends_root(), at)
     }
 
     /// Returns the initial task that begins there.
@@ -399,7 +452,7 @@ impl<'a> Run<'a> {
         requires { at < length self.now.records }
         ensures { IsIndexOf self.now begun_initial at result }
     {
-        self.subject_if(self.record(at).body.begun_initial(), at)
+        self.subject_if(self.act(at).begins_initial(), at)
     }
 
     /// Returns the number in its team of the implicit task that begins there, with the team and its size.
@@ -408,7 +461,11 @@ impl<'a> Run<'a> {
         requires { at < length self.now.records }
         ensures { result ≡ says_at joined self.now.records at }
     {
-        self.record(at).body.joined()
+        if self.act(at).joins() {
+            self.record(at).body.joined()
+        } else {
+            None
+        }
     }
 
     /// Returns the claim of the record that finishes a task, if it has one.
@@ -424,7 +481,7 @@ impl<'a> Run<'a> {
         requires { at < length self.now.records }
         ensures { IsIndexOf self.now created_with_deps at result }
     {
-        self.object_if(self.record(at).body.created_with_deps(), at)
+        self.object_if(self.act(at).creates_with_deps(), at)
     }
 
     /// Returns the dependences that the record lists, and the task that has them (15.9.5).
@@ -433,6 +490,9 @@ impl<'a> Run<'a> {
         ensures { MatchOption result (says_at dependences self.now.records at ≡ None)
             (λ list. AreDependences self.now at list.0 list.1.now) }
     {
+        if !self.act(at).depends() {
+            return None;
+        }
         let (_, items) = self.record(at).body.dependences()?;
         let task = self.subject_of(at)?;
         Some((task, items))
@@ -440,6 +500,22 @@ impl<'a> Run<'a> {
 }
 
 impl Run<'_> {
+    /// Returns the packed event of the record at a place. A run has one for each record.
+    fn event(&self, at: usize) -> PackedEvent
+        requires { at < length self.now.records }
+        ensures { option_map packed (slice_get self.now.records at) ≡ Some result }
+    {
+        self.family.event(at)
+    }
+
+    /// Returns what the record at a place says, without what it names.
+    fn act(&self, at: usize) -> Act
+        requires { at < length self.now.records }
+        ensures { (body : Body) → says_at Some self.now.records at ≡ Some body → act_of body ≡ result }
+    {
+        self.event(at).act
+    }
+
     /// Returns the same as `subject`. A run has an entry for each record, so none is missed.
     fn subject_of(&self, at: usize) -> Option<usize>
         requires { at < length self.now.records }
@@ -457,25 +533,25 @@ impl Run<'_> {
     }
 
     /// Returns the index of the task that the record is of, if the record names one in this way.
-    fn subject_if(&self, named: Option<u64>, at: usize) -> Option<usize>
+    fn subject_if(&self, named: bool, at: usize) -> Option<usize>
         requires { at < length self.now.records }
-        ensures { (says : Body → Option ℕ) → named ≡ says_at says self.now.records at
-            → ((task : ℕ) (body : Body) → says body ≡ Some task → subject body ≡ Some task)
+        ensures { (says : Body → Option ℕ)
+            → ((body : Body) → says_at Some self.now.records at ≡ Some body
+            → says body ≡ (if named then subject body else None))
             → IsIndexOf self.now says at result }
     {
-        named?;
-        self.subject_of(at)
+        if named { self.subject_of(at) } else { None }
     }
 
     /// Returns the index of the second task of the record, if the record names one in this way.
-    fn object_if(&self, named: Option<u64>, at: usize) -> Option<usize>
+    fn object_if(&self, named: bool, at: usize) -> Option<usize>
         requires { at < length self.now.records }
-        ensures { (says : Body → Option ℕ) → named ≡ says_at says self.now.records at
-            → ((task : ℕ) (body : Body) → says body ≡ Some task → object body ≡ Some task)
+        ensures { (says : Body → Option ℕ)
+            → ((body : Body) → says_at Some self.now.records at ≡ Some body
+            → says body ≡ (if named then object body else None))
             → IsIndexOf self.now says at result }
     {
-        named?;
-        self.object_of(at)
+        if named { self.object_of(at) } else { None }
     }
 }
 

@@ -6,11 +6,13 @@ ghost use Rattle.ompt_events.specs.Causes.{IsFreeOf};
 ghost use Rattle.task_tree.specs.Makers.{AreNoted};
 ghost use Rattle.index_tables.specs.Numbering.{AreApart};
 ghost use Rattle.task_tree.specs.Links.{AreChildCounts, AreLinks};
+ghost use Rattle.task_tree.specs.Packed.{ArePacked};
 ghost use Rattle.task_tree.specs.Rootless.{NamesNoRegion, NamesKnown, AllNameKnown};
 ghost use Rattle.task_tree.specs.Subjects.{subject, object, Finds, AreFound};
 
 use crate::hints::Hints;
 use crate::links::{Linked, link_child, no_counts, no_links};
+use crate::packed::PackedEvent;
 use crate::rootless::names_no_region;
 use index_tables::{Numbering, Slot};
 use ompt_events::{Body, BoxedClaim, Record};
@@ -26,13 +28,16 @@ pub(crate) struct Subjects {
     pub(crate) known: bool,
 }
 
-/// What one pass over the records finds: the tasks that they name, and the links of those that they create.
+/// What one pass over the records finds: their packed events, the tasks that they name, and the links of
+/// those that they create.
 pub(crate) struct Lookup {
+    pub(crate) events: Vec<PackedEvent>,
     pub(crate) named: Subjects,
     pub(crate) linked: Linked,
 }
 
-/// Returns the tasks that the records name, and the link of each task that they create to its parent.
+/// Returns the packed events of the records, the tasks that they name, and the link of each task that they
+/// create to its parent.
 pub(crate) fn find_subjects(
     alloc: Global,
     records: &[Record],
@@ -44,6 +49,7 @@ pub(crate) fn find_subjects(
     requires once { IsFreeOf records.now CreatedTwice }
     requires few { length records.now ≤ 2 ^ 22 }
     requires few_tasks { length tasks.now ≤ 2 ^ 22 }
+    ensures events { IfOk result (λ found. ArePacked records.now found.events.items) }
     ensures subjects { IfOk result (λ found. AreFound subject records.now
         (length records.now) tasks.now found.named.subjects.items) }
     ensures objects { IfOk result (λ found. AreFound object records.now
@@ -55,6 +61,7 @@ pub(crate) fn find_subjects(
     ensures links { IfOk result (λ found. AreLinks records.now
         (length records.now) tasks.now found.linked.links.items) }
 {
+    let mut events = Vec::with_capacity(alloc, records.len())?;
     let mut subjects = no_slots(alloc, records.len())?;
     let mut objects = no_slots(alloc, records.len())?;
     let mut counts = no_counts(alloc, tasks.as_slice().len())?;
@@ -62,6 +69,7 @@ pub(crate) fn find_subjects(
     let mut hints = Hints::new();
     let mut known = true;
     for (at, event) in records.iter().enumerate() {
+        events.push(PackedEvent::of(event))?;
         let found = look_up(event, tasks, regions, &mut hints, &mut known);
         subjects[at] = found.subject;
         objects[at] = found.object;
@@ -70,6 +78,7 @@ pub(crate) fn find_subjects(
         }
     }
     Ok(Lookup {
+        events,
         named: Subjects {
             subjects,
             objects,

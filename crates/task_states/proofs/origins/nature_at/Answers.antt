@@ -13,25 +13,25 @@ returns-then-not-is_explicit c = λ task stands.
     (λ explicit.
     false≢true (sym c.if-not-is_explicit.true ∙ (c.is_explicit.ensures task stands).1 explicit)))
 
-pub is_wait_made-requires : goal.is_wait_made-requires
-is_wait_made-requires c =
+pub makes_wait-requires : goal.makes_wait-requires
+makes_wait-requires c =
     made_within c.args.run.now.records c.args.run.now.family.tasks c.args.index c.made_at.result
     c.requires.within c.made_at.ensures
 
-pub returns-then-is_wait_made : goal.returns-then-is_wait_made
-returns-then-is_wait_made c = λ task stands.
+pub returns-then-makes_wait : goal.returns-then-makes_wait
+returns-then-makes_wait c = λ task stands.
     let run = c.args.run.now in
     sym
     (explicit_nature run.records run.family.tasks c.args.index task c.made_at.result _
     c.requires.is_run.family.once c.made_at.ensures stands
     ((c.is_explicit.ensures task stands).0 c.if-not-is_explicit.false)
-    (sym c.is_wait_made.ensures ∙ c.if-is_wait_made.true))
+    (sym c.makes_wait.ensures ∙ c.if-makes_wait.true))
 
-pub returns-else-is_wait_made : goal.returns-else-is_wait_made
-returns-else-is_wait_made c = λ task stands.
+pub returns-else-makes_wait : goal.returns-else-makes_wait
+returns-else-makes_wait c = λ task stands.
     let run = c.args.run.now in
     sym
     (explicit_nature run.records run.family.tasks c.args.index task c.made_at.result _
     c.requires.is_run.family.once c.made_at.ensures stands
     ((c.is_explicit.ensures task stands).0 c.if-not-is_explicit.false)
-    (sym c.is_wait_made.ensures ∙ c.if-is_wait_made.false))
+    (sym c.makes_wait.ensures ∙ c.if-makes_wait.false))

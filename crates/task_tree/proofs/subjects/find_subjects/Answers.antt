@@ -1,5 +1,6 @@
-use Rattle.std.proofs.Common.{◌≡◌, ◌∙◌, ◌+◌, length, sym, arith}
-use Rattle.std.specs.Prelude.{IsTrue}
+use Rattle.std.proofs.Common.{◌≡◌, ◌∙◌, ◌+◌, [], ◌∷◌, ◌++◌, length, sym, ap, arith}
+use Rattle.std.specs.Prelude.{IsTrue, take}
+use Rattle.task_tree.specs.Packed.{ArePacked}
 use Rattle.std.proofs.lemmas.Option.{slice_get_within}
 use Rattle.ompt_events.specs.Records.{creation}
 use Rattle.ompt_events.specs.Places.{at}
@@ -9,6 +10,7 @@ use Rattle.task_tree.proofs.RootlessLemmas.{known_start, known_more}
 use Rattle.task_tree.specs.Subjects.{subject, object}
 use Rattle.task_tree.proofs.SubjectLemmas.{up_to_start, up_to_more, up_to_end, created_names, finds_slot}
 use Rattle.task_tree.proofs.SubjectLemmas.{slot_holds, some_there}
+use Rattle.task_tree.proofs.PackedLemmas.{packed_start, packed_more, packed_end}
 use Rattle.task_tree.proofs.LinkLemmas.{counts_start, links_start, counts_other, links_other, counts_linked}
 use Rattle.task_tree.proofs.LinkLemmas.{links_linked, count_small}
 use Rattle.task_tree.proofs.subjects.find_subjects.Goals as goal
@@ -16,6 +18,7 @@ use Rattle.task_tree.proofs.subjects.find_subjects.Goals.{then-is_some, else-is_
 
 pub loop-at-init : goal.loop-at-init
 loop-at-init c = record {
+  events = packed_start c.args.records.now _ c.in_ok-events.ensures.items;
   subjects =
       up_to_start subject c.args.records.now c.args.tasks.now c.in_ok-subjects.subjects.items
       c.in_ok-subjects.ensures;
@@ -64,6 +67,10 @@ loop-at-preserved c =
     let i = c.loop-at.at in
     let tasks = c.args.tasks.now in
     let event = c.index-records-at.result in
+    let events : ArePacked (take (i + 1) rs) c.push.new.self.items =
+    packed_more rs i c.loop-at.events.items c.push.new.self.items event c.loop-at-test.true
+    c.index-records-at.is c.loop-at.invariant.events
+    (c.in_ok-push.ensures.items ∙ ap (λ e. c.loop-at.events.items ++ e ∷ []) c.of.ensures) in
     let of : at subject rs i ≡ subject event.body =
     at_read subject rs i event c.loop-at-test.true c.index-records-at.is in
     let names : at object rs i ≡ object event.body =
@@ -95,6 +102,7 @@ loop-at-preserved c =
           (finds_slot tasks _ found.object child c.requires.apart c.look_up-found.ensures.object
           both.1) in
           rw (w.counts-is, w.links-is) (record {
+            events = events;
             subjects = subjects;
             objects = objects;
             known = known;
@@ -110,6 +118,7 @@ loop-at-preserved c =
       | else-is_some w ↦
           let none = says ∙ none_from_test c.creation.result (sym c.is_some.ensures ∙ w.if-is_some.false) in
           rw (w.counts-is, w.links-is) (record {
+            events = events;
             subjects = subjects;
             objects = objects;
             known = known;
@@ -117,6 +126,12 @@ loop-at-preserved c =
             links = links_other rs i tasks c.loop-at.links.items c.loop-at.invariant.links none;
           })
     ]
+
+pub returns-clause-events : goal.returns-clause-events
+returns-clause-events c =
+    let all : c.loop-at.at ≡ length c.args.records.now =
+    omega (arith, c.loop-at-test.false, c.loop-at.auto.at-end) in
+    packed_end c.args.records.now c.loop-at.at c.loop-at.events.items all c.loop-at.invariant.events
 
 pub returns-clause-subjects : goal.returns-clause-subjects
 returns-clause-subjects c =

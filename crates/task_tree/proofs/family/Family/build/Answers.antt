@@ -10,20 +10,20 @@ use Rattle.task_tree.proofs.family.Family.build.Goals as goal
 pub find_rows-requires-clause-counted : goal.find_rows-requires-clause-counted
 find_rows-requires-clause-counted c =
     rw (c.as_slice-2.ensures.value, c.as_slice-3.ensures.value)
-    (links_counted c.records-records.result.now c.in_ok-tasks.field-0.tasks _ _ c.in_ok-named.ensures.counts
-    c.in_ok-named.ensures.links)
+    (links_counted c.records-records.result.now c.in_ok-tasks.field-0.tasks _ _ c.in_ok-events.ensures.counts
+    c.in_ok-events.ensures.links)
 
 pub find_rows-requires-clause-single : goal.find_rows-requires-clause-single
 find_rows-requires-clause-single c =
     rw c.as_slice-3.ensures.value
     (links_single c.records-records.result.now c.in_ok-tasks.field-0.tasks _
-    c.in_ok-tasks.ensures.places.apart c.in_ok-named.ensures.links)
+    c.in_ok-tasks.ensures.places.apart c.in_ok-events.ensures.links)
 
 pub find_roots-requires-clause-rows : goal.find_roots-requires-clause-rows
 find_roots-requires-clause-rows c =
     rows_children c.records-records.result.now c.in_ok-tasks.field-0.tasks _ _ c.in_ok-rows.rows
     c.in_ok-tasks.ensures.tasks c.in_ok-tasks.ensures.places.apart c.in_ok-tasks.ensures.free
-    c.in_ok-named.ensures.counts c.in_ok-named.ensures.links c.in_ok-rows.ensures.within
+    c.in_ok-events.ensures.counts c.in_ok-events.ensures.links c.in_ok-rows.ensures.within
     (rw c.as_slice-2.ensures.value at c.in_ok-rows.ensures.offsets)
     (rw (c.as_slice.ensures, c.as_slice-3.ensures.value) at c.in_ok-rows.ensures.filled)
 
@@ -32,7 +32,7 @@ returns-clause-family c =
     let children : AreChildren c.records-records.result.now c.in_ok-tasks.field-0.tasks c.in_ok-rows.rows =
     rows_children c.records-records.result.now c.in_ok-tasks.field-0.tasks _ _ c.in_ok-rows.rows
     c.in_ok-tasks.ensures.tasks c.in_ok-tasks.ensures.places.apart c.in_ok-tasks.ensures.free
-    c.in_ok-named.ensures.counts c.in_ok-named.ensures.links c.in_ok-rows.ensures.within
+    c.in_ok-events.ensures.counts c.in_ok-events.ensures.links c.in_ok-rows.ensures.within
     (rw c.as_slice-2.ensures.value at c.in_ok-rows.ensures.offsets)
     (rw (c.as_slice.ensures, c.as_slice-3.ensures.value) at c.in_ok-rows.ensures.filled) in
     search rules
