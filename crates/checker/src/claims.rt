@@ -55,6 +55,5 @@ fn is_right(run: &Run, index: usize, claim: &Claim) -> bool
     ensures { (task : ℕ) → slice_get run.now.family.tasks index ≡ Some task
         → IsTrue result ↔ IsRightClaim run.now.records task claim.now }
 {
-    claim.kept as usize == run.child_count(index)
-        && run.has_path(index, claim.root, claim.path.as_slice())
+    claim.kept as usize == run.child_count(index) && run.has_path(index, claim.root, &claim.path)
 }

@@ -1,3 +1,4 @@
+pub mod ClaimPathLemmas
 pub mod TraceLemmas
 pub mod PlaceLemmas
 pub mod RecordLemmas

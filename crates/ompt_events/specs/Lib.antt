@@ -3,6 +3,7 @@
 -- in them; what happens before what and orders; when a task is complete and where it must be; causes.
 pub mod Names
 pub mod Flags
+pub mod ClaimPath
 pub mod Records
 pub mod Places
 pub mod Limits

@@ -7,6 +7,7 @@
 
 mod boxed_claim;
 mod cause;
+mod claim_path;
 mod deps;
 mod fault;
 mod flags;
@@ -20,6 +21,7 @@ mod trace;
 
 pub use boxed_claim::BoxedClaim;
 pub use cause::Cause;
+pub use claim_path::ClaimPath;
 pub use deps::{Dep, Deps};
 pub use fault::{Fault, exclude};
 pub use flags::{CancelFlags, TaskFlags};

@@ -1,7 +1,6 @@
 //! The path of a task below its root. Contracts see it as a list of numbers.
-ghost use Rattle.std.specs.Prelude.{◌≡◌, ◌<◌, ◌^◌, ◌++◌, ◌∷◌, [], All, IfOk};
+ghost use Rattle.std.specs.Prelude.{◌≡◌};
 
-use std::alloc::{AllocError, Global};
 use std::marker::Model;
 
 /// The place of a task below its root: the numbers of the children, from the root down.
@@ -47,33 +46,6 @@ impl Path {
         ensures { result.now ≡ self.now }
     {
         self.numbers.as_slice()
-    }
-
-    /// Returns a copy of the path. Fails only when out of memory.
-    pub fn copied(&self, alloc: Global) -> Result<Path, AllocError>
-        ensures { IfOk result (λ copy. copy ≡ self.now) }
-    {
-        let mut numbers = Vec::new(alloc);
-        numbers.extend_from_slice(self.as_slice())?;
-        Ok(Path::from_vec(numbers))
-    }
-
-    /// Returns the path of a child, from its number and the path of its parent. Fails only when out of
-    /// memory.
-    pub fn child(&self, alloc: Global, number: u32) -> Result<Path, AllocError>
-        ensures { IfOk result (λ path. path ≡ self.now ++ number ∷ []) }
-    {
-        let mut numbers = Vec::with_capacity(alloc, self.numbers.len() + 1)?;
-        numbers.extend_from_slice(self.as_slice())?;
-        numbers.push(number)?;
-        Ok(Path::from_vec(numbers))
-    }
-
-    /// Ensures that each is a number of 32 bits. Compiles to nothing.
-    pub(crate) fn read_numbers(&self)
-        ensures { All (λ n. n < 2 ^ 32) self.now }
-    {
-        let _numbers = self.numbers.as_slice();
     }
 
     /// Returns the numbers, and drops the path around them. Takes no memory.

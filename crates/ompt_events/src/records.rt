@@ -6,11 +6,11 @@ ghost use Rattle.ompt_events.specs.Records.{begun_root, ended_root, joined, begu
 ghost use Rattle.ompt_events.specs.Regions.{ends_wait};
 
 use crate::boxed_claim::BoxedClaim;
+use crate::claim_path::ClaimPath;
 use crate::deps::{Dep, Deps};
 use crate::flags::{CancelFlags, TaskFlags};
 use crate::named::NamedTasks;
 use crate::names::{Endpoint, Status, SyncKind, ThreadKind};
-use crate::path::Path;
 use bitflags::Flags;
 
 /// How much of a task a finishing record finishes. A detachable task (OpenMP 5.2, 12.5.2)
@@ -30,7 +30,7 @@ pub struct Claim {
     /// The initial or implicit task at the top of the task's tree.
     pub root: u64,
     /// The numbers of the children from the root down to the task, at most 1,024 of them.
-    pub path: Path,
+    pub path: ClaimPath,
 }
 
 /// Which turns a task_schedule event ends and begins, in files of version 2. A task runs in turns: it starts
@@ -520,5 +520,8 @@ fn discards(flags: CancelFlags) -> bool
     flags.contains(CancelFlags::DISCARDED_TASK)
 }
 
-// A record takes at most 72 bytes beside its claim and its lists.
+// A record takes at most 72 bytes beside its claim and its lists, and a claim at most 56 beside the list of a
+// path that is not kept in it.
 const _: () = prove!(std::mem::size_of::<Record>() <= 72);
+
+const _: () = prove!(std::mem::size_of::<Claim>() <= 56);

@@ -190,7 +190,7 @@ fn is_short(claim: &Option<BoxedClaim>) -> bool
     ensures { IsTrue result ↔ IfSome claim.now (λ claim. length claim.path ≤ MAX_DEPTH) }
 {
     match claim {
-        Some(claim) => claim.get().path.as_slice().len() <= MAX_DEPTH,
+        Some(claim) => claim.get().path.len() <= MAX_DEPTH,
         None => true,
     }
 }

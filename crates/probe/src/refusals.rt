@@ -1,7 +1,8 @@
 //! Lists of records that are no trace for a reason that no file has, and a thread's buffer.
 use anyhow::Result;
 use ompt_events::{
-    Body, BoxedClaim, CancelFlags, Claim, Endpoint, Path, Record, Status, TaskFlags, Trace, Turns,
+    Body, BoxedClaim, CancelFlags, Claim, ClaimPath, Endpoint, Record, Status, TaskFlags, Trace,
+    Turns,
 };
 use std::alloc::{AllocError, Global};
 use thread_buffers::Buffer;
@@ -96,7 +97,7 @@ fn last_record(alloc: Global, number: u8) -> Result<(&'static str, Record), Allo
         Claim {
             kept: 0,
             root: 1,
-            path: Path::from_vec(Vec::new(alloc)),
+            path: ClaimPath::new(),
         },
     )?;
     Ok(match number {

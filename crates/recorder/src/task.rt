@@ -10,7 +10,8 @@ ghost use Rattle.recorder.specs.Tasks.{parent_of, place_of, is_initial_task, is_
 use bitflags::Flags;
 use credit_ledger::Entry;
 use ompt_events::{
-    Body, BoxedClaim, Claim, Endpoint, MAX_DEPTH, Part, Path, State, Status, SyncKind, TaskFlags,
+    Body, BoxedClaim, Claim, ClaimPath, Endpoint, MAX_DEPTH, Part, State, Status, SyncKind,
+    TaskFlags,
 };
 use std::alloc::{AllocError, Global};
 use std::marker::Model;
@@ -119,7 +120,7 @@ impl TaskData {
             claim: Claim {
                 kept: 0,
                 root: id,
-                path: Path::from_vec(Vec::new(alloc)),
+                path: ClaimPath::new(),
             },
             regions: Vec::new(alloc),
         }
@@ -206,7 +207,7 @@ impl TaskData {
             kept: self.claim.kept,
             task: self.id,
             root: self.claim.root,
-            path: self.claim.path.copied(alloc)?,
+            path: self.claim.path.to_path(alloc)?,
         };
         let claim = Claim {
             kept: self.claim.kept,
@@ -327,7 +328,7 @@ impl TaskData {
     pub(crate) fn is_deep(&self) -> bool
         ensures { result ≡ is_deep self.now }
     {
-        self.claim.path.as_slice().len() >= MAX_DEPTH
+        self.claim.path.len() >= MAX_DEPTH
     }
 
     /// Returns whether it has as many children as a task may have.

@@ -1,7 +1,7 @@
 -- Whether the path that is climbed from a task is another one.
 use Rattle.std.proofs.Common.{◌≡◌, ◌≢◌, ◌∙◌, ℕ, suc, ◌<◌, ◌+◌, ◌-◌, Bool, List, [], ◌∷◌, ◌++◌, length, drop}
 use Rattle.std.proofs.Common.{get_or, reverse, Option, Some, None, refl, sym, ap, subst, arith, length-append}
-use Rattle.std.proofs.lemmas.Option.{none-some, same_Some}
+use Rattle.std.proofs.lemmas.Option.{none-some, same_Some, get_or_from_slice_get}
 use Rattle.std.proofs.lemmas.List.{reverse-reverse, reverse-append}
 use Rattle.std.proofs.Math.Seq.{drop-cons}
 use Rattle.std.specs.Prelude.{◌↔◌, IsTrue, slice_get}
@@ -24,6 +24,13 @@ pub record IsClimbing (rs : List Record) (tasks : List ℕ) (root : ℕ) (whole 
 get_mid : (xs ys : List ℕ) (y d : ℕ) → get_or (xs ++ y ∷ ys) (length xs) d ≡ y
 get_mid [] ys y d = refl
 get_mid (x ∷ xs) ys y d = get_mid xs ys y d
+
+-- the number that the path has where a step arrives
+pub number_above : (path : List ℕ) (len steps number : ℕ) → len ≡ length path
+    → slice_get path (len - 1 - steps) ≡ Some number → get_or path (length path - 1 - steps) number ≡ number
+number_above path len steps number long is =
+    get_or_from_slice_get path (length path - 1 - steps) number number
+    (subst (λ n. slice_get path (n - 1 - steps) ≡ Some number) long is)
 
 -- the number at which a step arrives
 pub climbing_more : (rs : List Record) (family : FamilyView) (root index steps d : ℕ) (whole path : List ℕ)

@@ -5,11 +5,12 @@ ghost use Rattle.ompt_events.specs.Tree.{HasPath, children};
 ghost use Rattle.task_tree.specs.Family.{IsFamilyOf};
 
 use crate::family::Family;
+use ompt_events::ClaimPath;
 
 impl Family {
     /// Returns whether the task at this index has this root and this path, the numbers of the children from
     /// the root down. Climbs at most as many steps as the path has numbers.
-    pub fn has_path(&self, index: usize, root: u64, path: &[u32]) -> bool
+    pub fn has_path(&self, index: usize, root: u64, path: &ClaimPath) -> bool
         requires { index < length self.now.tasks }
         ensures { (records : List Record) → IsFamilyOf records self.now → (task : ℕ)
             → slice_get self.now.tasks index ≡ Some task
@@ -28,7 +29,7 @@ impl Family {
     }
 
     /// Returns whether this path, which has the length of that of the task at this index, is the same.
-    fn climbs(&self, index: usize, path: &[u32]) -> bool
+    fn climbs(&self, index: usize, path: &ClaimPath) -> bool
         ensures { (records : List Record) → IsFamilyOf records self.now → (root task : ℕ) (whole : List ℕ)
             → slice_get self.now.tasks index ≡ Some task → HasPath records root task whole
             → length whole ≡ length path.now → IsTrue result ↔ (whole ≡ path.now) }
@@ -38,7 +39,7 @@ impl Family {
             let Some(link) = self.link_at(current) else {
                 return false;
             };
-            if link.number != path[path.len() - 1 - step] {
+            if link.number != path.number(path.len() - 1 - step) {
                 return false;
             }
             current = link.parent as usize;

@@ -1,7 +1,7 @@
 //! Copies of records. The lists in a record need memory.
 ghost use Rattle.std.specs.Prelude.{◌≡◌, IfOk};
 
-use ompt_events::{Body, BoxedClaim, Claim, Dep, Deps, Path, Record};
+use ompt_events::{Body, BoxedClaim, Claim, Dep, Deps, Record};
 use std::alloc::{AllocError, Global};
 
 /// Returns a copy of the record.
@@ -68,16 +68,7 @@ fn claim_of(alloc: Global, claim: &Option<BoxedClaim>) -> Result<Option<BoxedCla
     let copy = Claim {
         kept: claim.kept,
         root: claim.root,
-        path: path_of(alloc, &claim.path)?,
+        path: claim.path.copied(alloc)?,
     };
     Ok(Some(BoxedClaim::new(alloc, copy)?))
-}
-
-/// Returns a copy of the path.
-fn path_of(alloc: Global, path: &Path) -> Result<Path, AllocError>
-    ensures { IfOk result (λ copy. copy ≡ path.now) }
-{
-    let mut numbers = Vec::new(alloc);
-    numbers.extend_from_slice(path.as_slice())?;
-    Ok(Path::from_vec(numbers))
 }

@@ -19,7 +19,8 @@ use crate::family::Family;
 use crate::packed::{Act, PackedEvent};
 use bitflags::Flags;
 use ompt_events::{
-    Claim, Dep, Endpoint, Membership, Part, Record, Status, SyncKind, TaskFlags, Trace, WaitKind,
+    Claim, ClaimPath, Dep, Endpoint, Membership, Part, Record, Status, SyncKind, TaskFlags, Trace,
+    WaitKind,
 };
 use std::marker::Model;
 
@@ -629,7 +630,7 @@ impl<'a> Run<'a> {
 
     /// Returns whether the task at this index has this root and this path, the numbers of the children from
     /// the root down. Takes at most as many steps as the path has numbers.
-    pub fn has_path(&self, index: usize, root: u64, path: &[u32]) -> bool
+    pub fn has_path(&self, index: usize, root: u64, path: &ClaimPath) -> bool
         requires { index < length self.now.family.tasks }
         ensures { (task : ℕ) → slice_get self.now.family.tasks index ≡ Some task
             → IsTrue result ↔ HasPath self.now.records root task path.now }

@@ -23,6 +23,6 @@ pub(crate) fn entry_of(alloc: Global, event: &Record) -> Result<Option<Entry>, A
         kept: claim.kept,
         task,
         root: claim.root,
-        path: claim.path.copied(alloc)?,
+        path: claim.path.to_path(alloc)?,
     }))
 }
