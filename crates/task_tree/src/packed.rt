@@ -118,9 +118,10 @@ impl Act {
         }
     }
 
-    /// Returns whether the task that is created is a taskwait with dependences (15.5).
+    /// Returns, if a task is created, whether it is a taskwait with dependences (15.5).
     pub(crate) fn creates_wait(self) -> Option<bool>
-        ensures { (body : Body) (wait : Bool) → act_of body ≡ self → result ≡ Some wait
+        ensures any { (body : Body) → act_of body ≡ self → is_some result ≡ is_some (created body) }
+        ensures wait { (body : Body) (wait : Bool) → act_of body ≡ self → result ≡ Some wait
             → wait ≡ option_map_or (λ bits. has_flag bits flag.taskwait) (flags body) false }
     {
         match self {
@@ -296,7 +297,7 @@ impl Act {
 
     /// Returns whether the task is an implicit one that begins.
     pub(crate) fn joins(self) -> bool
-        ensures { (body : Body) → act_of body ≡ self → result ≡ false → joined body ≡ None }
+        ensures { (body : Body) → act_of body ≡ self → result ≡ is_some (joined body) }
     {
         match self {
             Act::Root {
@@ -309,7 +310,7 @@ impl Act {
 
     /// Returns whether the record lists dependences.
     pub(crate) fn depends(self) -> bool
-        ensures { (body : Body) → act_of body ≡ self → result ≡ false → dependences body ≡ None }
+        ensures { (body : Body) → act_of body ≡ self → result ≡ is_some (dependences body) }
     {
         match self {
             Act::Depend => true,
