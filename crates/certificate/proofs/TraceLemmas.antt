@@ -124,6 +124,18 @@ with_header-empty after (Ok version) h =
     let is : after ≡ none = cc in
     ap (λ (t : TraceView). length t.records) is
 
+pub text_adds-record : (newest n : ℕ) (before : TraceView) (line : List ℕ) → (n ≡ 1 → ⊥)
+    → text_adds newest n before line ≡ with_record before (line_says before.version line)
+text_adds-record newest n before line other =
+    elim (n == 1) as
+    (λ b.
+    n == 1 ≡ b
+    → cond b (with_header (header_says newest line)) (with_record before (line_says before.version line))
+    ≡ with_record before (line_says before.version line)) [
+      | true ↦ λ is. absurd (other (eqb-true n 1 is))
+      | false ↦ λ _. refl
+    ] refl
+
 pub Grows-text : (newest n : ℕ) (before after : TraceView) (line : List ℕ)
     → Ok after ≡ text_adds newest n before line → Grows n before.records after.records
 Grows-text newest n before after line h =

@@ -6,7 +6,7 @@ ghost use Rattle.certificate.specs.Blocks.{AreCuts, IsPiece};
 
 use crate::window::MAX_LINE;
 use json::Scratch;
-use lines::{ReadCause, record, record_as_written};
+use lines::{ReadCause, record, record_in_front};
 use memchr::memchr;
 use ompt_events::Record;
 use std::alloc::{AllocError, Global};
@@ -137,6 +137,29 @@ fn judge_line(
     requires room { piece.old.tasks + 1 < 2 ^ 64 }
     ensures { TakesLine version rest.now piece.old result piece.new }
 {
+    match record_in_front(alloc, version, rest) {
+        Some((event, len)) => {
+            piece.add(event)?;
+            Ok(len + 1)
+        }
+        None => judge_other_line(alloc, version, rest, piece, scratch),
+    }
+}
+
+/// Does the same for any line: searches for its end first.
+#[inline(never)]
+fn judge_other_line(
+    alloc: Global,
+    version: u32,
+    rest: &[u8],
+    piece: &mut Piece,
+    scratch: &mut Scratch,
+) -> Result<usize, ReadCause>
+    requires whole { IsWholeLines rest.now }
+    requires some { 0 < length rest.now }
+    requires room { piece.old.tasks + 1 < 2 ^ 64 }
+    ensures { TakesLine version rest.now piece.old result piece.new }
+{
     match memchr(b'\n', rest) {
         Some(len) if len <= MAX_LINE => {
             judge_text(alloc, version, &rest[..len], piece, scratch)?;
@@ -147,28 +170,9 @@ fn judge_line(
     }
 }
 
-/// Judges the text of a line. It is not inlined: with the other forms beside it, a line in written form
-/// takes longer.
-#[inline(never)]
-fn judge_text(
-    alloc: Global,
-    version: u32,
-    text: &[u8],
-    piece: &mut Piece,
-    scratch: &mut Scratch,
-) -> Result<(), ReadCause>
-    requires { piece.old.tasks + 1 < 2 ^ 64 }
-    ensures { TakesText version text.now piece.old result piece.new }
-{
-    match record_as_written(alloc, version, text) {
-        Some(event) => piece.add(event),
-        None => judge_other(alloc, version, text, piece, scratch),
-    }
-}
-
 /// Judges the text of a line in any form.
 #[inline(never)]
-fn judge_other(
+fn judge_text(
     alloc: Global,
     version: u32,
     text: &[u8],

@@ -1,19 +1,20 @@
 //! The reader of trace files.
-ghost use Rattle.std.specs.Prelude.{◌≡◌, ◌≤◌, ℕ, List, Option, Ok, true, IfOk, IfErr, IfSome};
+ghost use Rattle.std.specs.Prelude.{◌≡◌, ◌≤◌, ◌+◌, ◌*◌, ℕ, List, Option, Some, None, Ok, true, IfOk, IfErr, IfSome, length, take};
 ghost use Rattle.std.specs.Result.{result_err, result_map_both};
 ghost use Rattle.certificate.specs.Files.{text_adds, traces, with_header, with_record};
 ghost use Rattle.lines.specs.RecordLines.{IsSaid, header_says, line_says};
 ghost use Rattle.std.specs.Io.KnownBytes.{Keeps, prepend_known};
 ghost use Rattle.certificate.specs.Counts.{TakesTurns, breaks_told, cause_told};
 ghost use Rattle.certificate.specs.Reading.{IsReadAnswer, IsAnswerTo, IsBetween, IsAfter, Grows};
-ghost use Rattle.certificate.specs.Windows.{ShowsLine, ShowsFault};
+ghost use Rattle.certificate.specs.Windows.{LineFeedAt, ShowsLine, ShowsFault};
+ghost use Rattle.lines.specs.Limits.{max_line};
 
 use crate::device::{MAX_TURNS, Source};
 use crate::faults::ReadFault;
 use crate::kept::Kept;
 use crate::window::{MAX_LINE, Window};
 use json::Scratch;
-use lines::{ReadCause, TRACES, header, record, record_as_written};
+use lines::{ReadCause, TRACES, header, record, record_as_written, record_in_front};
 use ompt_events::{MAX_RECORDS, Trace};
 use std::alloc::Global;
 
@@ -112,6 +113,40 @@ fn read_line<S: Source>(
         (S.agains source.new) }
     ensures breaks { S.breaks source.new ≡ breaks_told (result_err result) (S.breaks source.old) }
 {
+    match take_front(alloc, line, window, kept) {
+        Some((len, taken)) => {
+            taken?;
+            window.skip(len + 1);
+            Ok(true)
+        }
+        None => read_other_line(alloc, newest, line, window, source, turns, kept, scratch),
+    }
+}
+
+/// Does the same for any line: searches for its end first.
+#[inline(never)]
+fn read_other_line<S: Source>(
+    alloc: Global,
+    newest: u32,
+    line: u32,
+    window: &mut Window,
+    source: &mut S,
+    turns: &mut u32,
+    kept: &mut Kept,
+    scratch: &mut Scratch,
+) -> Result<bool, ReadCause>
+    requires newest { newest ≤ 2 }
+    requires line { 1 ≤ line }
+    requires turns { turns.old ≤ MAX_TURNS }
+    ensures after { (known : Option (List ℕ)) → IsBetween (traces newest) known line kept.old window.old
+        (S.remaining source.old)
+        → IsAfter (traces newest) result known line kept.new window.new (S.remaining source.new) }
+    ensures grows { result ≡ Ok true → Grows line kept.old.records kept.new.records }
+    ensures version { kept.old.version ≤ newest → IfOk result (λ _. kept.new.version ≤ newest) }
+    ensures turns { TakesTurns (result_err result) turns.old turns.new (S.agains source.old)
+        (S.agains source.new) }
+    ensures breaks { S.breaks source.new ≡ breaks_told (result_err result) (S.breaks source.old) }
+{
     match next_line(window, source, turns)? {
         Some(len) => {
             take_text(alloc, newest, line, window.front(len), kept, scratch)?;
@@ -121,6 +156,31 @@ fn read_line<S: Source>(
         None if line == 1 => Err(ReadCause::Header),
         None => Ok(false),
     }
+}
+
+/// Keeps the record of the line with this number, with which the window begins, if all of it is there and it
+/// is in written form. Returns the length of the line, and whether the record is kept. It is not inlined:
+/// with the other forms beside it, such a line takes longer.
+#[inline(never)]
+fn take_front(
+    alloc: Global,
+    line: u32,
+    window: &Window,
+    kept: &mut Kept,
+) -> Option<(usize, Result<(), ReadCause>)>
+    ensures line { IfSome result (λ taken. LineFeedAt window.now (Some taken.0)) }
+    ensures short { IfSome result (λ taken. taken.0 ≤ max_line) }
+    ensures kept { IfSome result (λ taken. (newest : ℕ)
+        → IsSaid (result_map_both (λ _. kept.new) (λ e. e) taken.1)
+        (text_adds newest line kept.old (take taken.0 window.now))) }
+    ensures none { result ≡ None → kept.new ≡ kept.old }
+    ensures few { IfSome result (λ _. length window.now ≤ 2 * (max_line + 1)) }
+{
+    if line == 1 {
+        return None;
+    }
+    let (event, len) = record_in_front(alloc, kept.version(), window.all())?;
+    Some((len, kept.keep(event)))
 }
 
 /// Takes the text of the line with this number: the header, or a record that is kept. It is not inlined:

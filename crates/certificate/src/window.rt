@@ -82,6 +82,14 @@ impl Window {
         &self.bytes[self.start..self.start + count]
     }
 
+    /// Returns all bytes, at most two of the longest lines.
+    pub(crate) fn all(&self) -> &[u8]
+        ensures bytes { result.now ≡ self.now }
+        ensures size { length self.now ≤ SIZE }
+    {
+        &self.bytes[self.start..self.end]
+    }
+
     /// Removes the first bytes.
     pub(crate) fn skip(&mut self, count: usize)
         requires { count ≤ length self.old }

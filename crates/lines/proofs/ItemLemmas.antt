@@ -1,9 +1,11 @@
 -- The items of a list, written one after another.
 use Rattle.std.proofs.Common.{◌≡◌, ℕ, zero, suc, ◌+◌, ◌<◌, ◌≤◌, Bool, true, false, cond, List, [], ◌∷◌, ◌++◌}
 use Rattle.std.proofs.Common.{length, map, drop, get_or, arith, sym, ap, ◌∙◌, append_assoc}
-use Rattle.std.specs.Prelude.{Result, Ok, Err, OnOk}
+use Rattle.std.proofs.Common.{subst}
+use Rattle.std.specs.Prelude.{Result, Ok, Err, OnOk, Some, slice_get}
 use Rattle.std.specs.List.{AllByRecursion}
 use Rattle.std.proofs.lemmas.List.{drop_more, drop_all}
+use Rattle.std.proofs.lemmas.Option.{slice_get_within, get_or_from_slice_get}
 use Rattle.bitflags.proofs.Tables.{row-at}
 use Rattle.bitflags.specs.Sets.{Row}
 use Rattle.json.specs.Print.{quoted}
@@ -64,6 +66,19 @@ IsPut-more f x left later start now new whole before puts = record {
   puts = Puts-both start now new before.done (comma_if later ++ compact_text (f x)) before.puts puts;
   rest = item-more f x left later before.done whole before.rest;
 }
+
+-- the next item of a list that is read item by item
+pub IsPut-at : {X : Type 0} (f : X → Data) (items : List X) (at : ℕ) (x : X) (later : Bool)
+    (start now new whole : List ℕ)
+    → slice_get items at ≡ Some x → IsPut f (drop at items) later start now whole
+    → Puts now new (comma_if later ++ compact_text (f x))
+    → IsPut f (drop (at + 1) items) true start new whole
+IsPut-at f items at x later start now new whole is before puts =
+    let left : drop at items ≡ x ∷ drop (at + 1) items =
+    drop_more items at x (slice_get_within items at x is)
+    ∙ ap (λ y. y ∷ drop (at + 1) items) (get_or_from_slice_get items at x x is) in
+    IsPut-more f x (drop (at + 1) items) later start now new whole
+    (subst (λ rest. IsPut f rest later start now whole) left before) puts
 
 -- ---- names of flags
 

@@ -11,6 +11,7 @@ mod TakeLemmas
 mod PartLemmas
 mod FlagLemmas
 pub mod TextLemmas
+pub mod FrontLemmas
 mod SaysLemmas
 pub mod LineLemmas
 mod WrittenLemmas

@@ -49,7 +49,7 @@ use Rattle.lines.specs.Texts.{header_members, header_data, header_line}
 use Rattle.lines.proofs.JsonLemmas.{is_plain_text, IsPlain, ArePlain, size, items_size}
 use Rattle.lines.proofs.JsonLemmas.{value_of-compact_text, length-compact_text}
 use Rattle.lines.proofs.ObjectLemmas.{IsPlainMember, IsPlain-object_of, added_size, size-object_of}
-use Rattle.lines.proofs.TextLemmas.{AllByRecursion-from, IsLineOf-plain}
+use Rattle.lines.proofs.TextLemmas.{AllByRecursion-from, IsLineOf, IsLineOf-plain}
 use Rattle.lines.proofs.TextLemmas.{items_size-items_of, items_size-wholes, ArePlain-items_of}
 use Rattle.lines.proofs.TextLemmas.{ArePlain-wholes}
 use Rattle.lines.proofs.SaysLemmas.{Says-sound}
@@ -411,8 +411,8 @@ IsWritten-sound version r range sound = record {
       ∙ ap (λ b. cond b (Ok r) (Err Limit)) (fits r range sound.0);
 }
 
-pub line_says-line_of : (version : ℕ) (r : Record) → IsInRange r → IsSoundIn version r.body
-    → line_says version (line_of r) ≡ Ok r
-line_says-line_of version r range sound =
+pub IsLineOf-line_of : (version : ℕ) (r : Record) → IsInRange r → IsSoundIn version r.body
+    → IsLineOf version (line_of r) r
+IsLineOf-line_of version r range sound =
     let written = IsWritten-sound version r range sound in
-    (IsLineOf-plain version (data_of r) 3 r written.plain (omega arith) written.short written.says).says
+    IsLineOf-plain version (data_of r) 3 r written.plain (omega arith) written.short written.says

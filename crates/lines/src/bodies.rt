@@ -15,7 +15,7 @@ use crate::objects::{
     thread_kind, truth,
 };
 use crate::tables::members;
-use ompt_events::{Body, BoxedClaim, Claim, Deps, MAX_DEPENDENCES, MAX_DEPTH, Path, Turns};
+use ompt_events::{Body, BoxedClaim, Claim, ClaimPath, Deps, MAX_DEPENDENCES, MAX_DEPTH, Turns};
 use std::alloc::Global;
 
 /// A callback as a line says it, its numbers cut short where they are past their limits.
@@ -243,15 +243,15 @@ fn turns(object: &Object<'_, '_>) -> Result<LooseTurns, ReadCause>
 }
 
 /// Returns the path of these numbers, each cut short. Fails only out of memory.
-fn cut_path(alloc: Global, numbers: &Vec<u64>) -> Result<Path, ReadCause>
+fn cut_path(alloc: Global, numbers: &Vec<u64>) -> Result<ClaimPath, ReadCause>
     ensures { IsSaid result (Ok (map loose.cut_short numbers.now.items)) }
 {
-    let mut path = Vec::with_capacity(alloc, numbers.len()).map_err(|_| ReadCause::Memory)?;
+    let mut path = ClaimPath::new();
     'numbers: for number in numbers {
-        path.push(cut_short(*number))
+        path.push(alloc, cut_short(*number))
             .map_err(|_| ReadCause::Memory)?;
     }
-    Ok(Path::from_vec(path))
+    Ok(path)
 }
 
 /// Returns whether these numbers are at most 1,024, each of at most 32 bits.

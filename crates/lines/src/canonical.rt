@@ -1,5 +1,6 @@
-//! Lines as they are written, read part by part. Any other line is left to the general way.
-ghost use Rattle.std.specs.Prelude.{◌≡◌, [], IfSome};
+//! Lines as they are written, read part by part, from the front of a text. Any other line is left to the
+//! general way.
+ghost use Rattle.std.specs.Prelude.{◌≡◌, IfSome};
 ghost use Rattle.lines.specs.Texts.{Takes, line_of, task_tail, status_tail};
 
 use crate::parts::{
@@ -7,7 +8,7 @@ use crate::parts::{
     task_flags, thread_kind, truth,
 };
 use crate::tables::line_parts;
-use ompt_events::{Body, BoxedClaim, Claim, Path, Record, Status, Turns};
+use ompt_events::{Body, BoxedClaim, Claim, ClaimPath, Record, Status, Turns};
 use std::alloc::Global;
 
 // A part of a line, by the kind of its value.
@@ -29,9 +30,9 @@ macro_rules! take_part {
 
 // What follows the parts of a line.
 macro_rules! take_rest {
-    (end $rest:ident) => { let Some(()) = end($rest) else { return None; }; };
+    (end $rest:ident) => { let Some($rest) = end($rest) else { return None; }; };
     ($tail:ident $rest:ident $first:ident $second:ident $third:ident $fourth:ident) => {
-        let Some(($first, $second, $third, $fourth)) = $tail($rest) else { return None; };
+        let Some((($first, $second, $third, $fourth), $rest)) = $tail($rest) else { return None; };
     };
 }
 
@@ -42,13 +43,14 @@ macro_rules! take_parts {
             return None;
         };)*
         take_rest!($tail $rest $($last)*);
-        Some($made)
+        Some(($made, $rest))
     }};
 }
 
-/// Returns the record of a line in written form. Looks for turns in version 2 alone.
-pub(crate) fn canonical(alloc: Global, version: u32, line: &[u8]) -> Option<Record>
-    ensures { IfSome result (λ event. line.now ≡ line_of event) }
+/// Returns the record of a line in written form that a text begins with, and what follows the line. Looks for
+/// turns in version 2 alone.
+pub(crate) fn canonical(alloc: Global, version: u32, line: &[u8]) -> Option<(Record, &[u8])>
+    ensures { IfSome result (λ taken. Takes line.now (line_of taken.0) taken.1.now) }
 {
     match line.get(7) {
         Some(b'p') => parallel(line),
@@ -61,8 +63,8 @@ pub(crate) fn canonical(alloc: Global, version: u32, line: &[u8]) -> Option<Reco
 }
 
 /// Reads the line of a parallel region.
-fn parallel(line: &[u8]) -> Option<Record>
-    ensures { IfSome result (λ event. line.now ≡ line_of event) }
+fn parallel(line: &[u8]) -> Option<(Record, &[u8])>
+    ensures { IfSome result (λ taken. Takes line.now (line_of taken.0) taken.1.now) }
 {
     match line.get(16) {
         Some(b'b') => parallel_begin(line),
@@ -71,18 +73,18 @@ fn parallel(line: &[u8]) -> Option<Record>
 }
 
 /// Reads a `cancel`.
-fn cancel(alloc: Global, line: &[u8]) -> Option<Record>
-    ensures { IfSome result (λ event. line.now ≡ line_of event) }
+fn cancel(alloc: Global, line: &[u8]) -> Option<(Record, &[u8])>
+    ensures { IfSome result (λ taken. Takes line.now (line_of taken.0) taken.1.now) }
 {
     match discarding(alloc, line) {
-        Some(event) => Some(event),
+        Some(taken) => Some(taken),
         None => cancelling(line),
     }
 }
 
 /// Reads the line of a task that is created or scheduled, or of a thread.
-fn task_or_thread(alloc: Global, version: u32, line: &[u8]) -> Option<Record>
-    ensures { IfSome result (λ event. line.now ≡ line_of event) }
+fn task_or_thread(alloc: Global, version: u32, line: &[u8]) -> Option<(Record, &[u8])>
+    ensures { IfSome result (λ taken. Takes line.now (line_of taken.0) taken.1.now) }
 {
     match line.get(12) {
         Some(b'c') => task_create(line),
@@ -92,18 +94,18 @@ fn task_or_thread(alloc: Global, version: u32, line: &[u8]) -> Option<Record>
 }
 
 /// Reads a `task_schedule`.
-fn task_schedule(alloc: Global, version: u32, line: &[u8]) -> Option<Record>
-    ensures { IfSome result (λ event. line.now ≡ line_of event) }
+fn task_schedule(alloc: Global, version: u32, line: &[u8]) -> Option<(Record, &[u8])>
+    ensures { IfSome result (λ taken. Takes line.now (line_of taken.0) taken.1.now) }
 {
     match in_turn(alloc, version, line) {
-        Some(event) => Some(event),
+        Some(taken) => Some(taken),
         None => without_turns(alloc, line),
     }
 }
 
 /// Reads the same with turns: in version 2 alone.
-fn in_turn(alloc: Global, version: u32, line: &[u8]) -> Option<Record>
-    ensures { IfSome result (λ event. line.now ≡ line_of event) }
+fn in_turn(alloc: Global, version: u32, line: &[u8]) -> Option<(Record, &[u8])>
+    ensures { IfSome result (λ taken. Takes line.now (line_of taken.0) taken.1.now) }
 {
     if version != 2 {
         return None;
@@ -115,8 +117,8 @@ fn in_turn(alloc: Global, version: u32, line: &[u8]) -> Option<Record>
 }
 
 /// Reads the same without turns.
-fn without_turns(alloc: Global, line: &[u8]) -> Option<Record>
-    ensures { IfSome result (λ event. line.now ≡ line_of event) }
+fn without_turns(alloc: Global, line: &[u8]) -> Option<(Record, &[u8])>
+    ensures { IfSome result (λ taken. Takes line.now (line_of taken.0) taken.1.now) }
 {
     match line.get(23) {
         Some(b'k') => finishing(alloc, line),
@@ -125,8 +127,8 @@ fn without_turns(alloc: Global, line: &[u8]) -> Option<Record>
 }
 
 /// Reads the line of a thread.
-fn thread(line: &[u8]) -> Option<Record>
-    ensures { IfSome result (λ event. line.now ≡ line_of event) }
+fn thread(line: &[u8]) -> Option<(Record, &[u8])>
+    ensures { IfSome result (λ taken. Takes line.now (line_of taken.0) taken.1.now) }
 {
     match line.get(14) {
         Some(b'b') => thread_begin(line),
@@ -135,8 +137,8 @@ fn thread(line: &[u8]) -> Option<Record>
 }
 
 /// Reads `thread_begin`.
-fn thread_begin(line: &[u8]) -> Option<Record>
-    ensures { IfSome result (λ event. line.now ≡ line_of event) }
+fn thread_begin(line: &[u8]) -> Option<(Record, &[u8])>
+    ensures { IfSome result (λ taken. Takes line.now (line_of taken.0) taken.1.now) }
 {
     line_parts!(thread_begin take_parts
         (_alloc line (Record { thread, seq, seen, body: Body::ThreadBegin { kind } }))
@@ -144,8 +146,8 @@ fn thread_begin(line: &[u8]) -> Option<Record>
 }
 
 /// Reads `thread_end`.
-fn thread_end(line: &[u8]) -> Option<Record>
-    ensures { IfSome result (λ event. line.now ≡ line_of event) }
+fn thread_end(line: &[u8]) -> Option<(Record, &[u8])>
+    ensures { IfSome result (λ taken. Takes line.now (line_of taken.0) taken.1.now) }
 {
     line_parts!(thread_end take_parts
         (_alloc line (Record { thread, seq, seen, body: Body::ThreadEnd }))
@@ -153,8 +155,8 @@ fn thread_end(line: &[u8]) -> Option<Record>
 }
 
 /// Reads `parallel_begin`.
-fn parallel_begin(line: &[u8]) -> Option<Record>
-    ensures { IfSome result (λ event. line.now ≡ line_of event) }
+fn parallel_begin(line: &[u8]) -> Option<(Record, &[u8])>
+    ensures { IfSome result (λ taken. Takes line.now (line_of taken.0) taken.1.now) }
 {
     line_parts!(parallel_begin take_parts
         (_alloc line (Record {
@@ -165,8 +167,8 @@ fn parallel_begin(line: &[u8]) -> Option<Record>
 }
 
 /// Reads `parallel_end`.
-fn parallel_end(line: &[u8]) -> Option<Record>
-    ensures { IfSome result (λ event. line.now ≡ line_of event) }
+fn parallel_end(line: &[u8]) -> Option<(Record, &[u8])>
+    ensures { IfSome result (λ taken. Takes line.now (line_of taken.0) taken.1.now) }
 {
     line_parts!(parallel_end take_parts
         (_alloc line (Record { thread, seq, seen, body: Body::ParallelEnd { task, parallel } }))
@@ -174,8 +176,8 @@ fn parallel_end(line: &[u8]) -> Option<Record>
 }
 
 /// Reads `implicit_task`.
-fn implicit_task(line: &[u8]) -> Option<Record>
-    ensures { IfSome result (λ event. line.now ≡ line_of event) }
+fn implicit_task(line: &[u8]) -> Option<(Record, &[u8])>
+    ensures { IfSome result (λ taken. Takes line.now (line_of taken.0) taken.1.now) }
 {
     line_parts!(implicit_task take_parts
         (_alloc line (Record {
@@ -186,8 +188,8 @@ fn implicit_task(line: &[u8]) -> Option<Record>
 }
 
 /// Reads `task_create`.
-fn task_create(line: &[u8]) -> Option<Record>
-    ensures { IfSome result (λ event. line.now ≡ line_of event) }
+fn task_create(line: &[u8]) -> Option<(Record, &[u8])>
+    ensures { IfSome result (λ taken. Takes line.now (line_of taken.0) taken.1.now) }
 {
     line_parts!(task_create take_parts
         (_alloc line (Record { thread, seq, seen, body: Body::TaskCreate { deps, flags, task, child } }))
@@ -195,8 +197,8 @@ fn task_create(line: &[u8]) -> Option<Record>
 }
 
 /// Reads `dependences`.
-fn dependences(alloc: Global, line: &[u8]) -> Option<Record>
-    ensures { IfSome result (λ event. line.now ≡ line_of event) }
+fn dependences(alloc: Global, line: &[u8]) -> Option<(Record, &[u8])>
+    ensures { IfSome result (λ taken. Takes line.now (line_of taken.0) taken.1.now) }
 {
     line_parts!(dependences take_parts
         (alloc line (Record { thread, seq, seen, body: Body::Dependences { task, list } }))
@@ -204,8 +206,8 @@ fn dependences(alloc: Global, line: &[u8]) -> Option<Record>
 }
 
 /// Reads a `task_schedule` that finishes nothing.
-fn switching(line: &[u8]) -> Option<Record>
-    ensures { IfSome result (λ event. line.now ≡ line_of event) }
+fn switching(line: &[u8]) -> Option<(Record, &[u8])>
+    ensures { IfSome result (λ taken. Takes line.now (line_of taken.0) taken.1.now) }
 {
     line_parts!(switching take_parts
         (_alloc line (Record {
@@ -216,8 +218,8 @@ fn switching(line: &[u8]) -> Option<Record>
 }
 
 /// Reads a `task_schedule` that finishes a task, its body or its event.
-fn finishing(alloc: Global, line: &[u8]) -> Option<Record>
-    ensures { IfSome result (λ event. line.now ≡ line_of event) }
+fn finishing(alloc: Global, line: &[u8]) -> Option<(Record, &[u8])>
+    ensures { IfSome result (λ taken. Takes line.now (line_of taken.0) taken.1.now) }
 {
     line_parts!(finishing take_parts
         (alloc line {
@@ -233,8 +235,8 @@ fn finishing(alloc: Global, line: &[u8]) -> Option<Record>
 }
 
 /// Reads a `task_schedule` that finishes nothing, with turns.
-fn switching_in_turn(line: &[u8]) -> Option<Record>
-    ensures { IfSome result (λ event. line.now ≡ line_of event) }
+fn switching_in_turn(line: &[u8]) -> Option<(Record, &[u8])>
+    ensures { IfSome result (λ taken. Takes line.now (line_of taken.0) taken.1.now) }
 {
     line_parts!(switching_in_turn take_parts
         (_alloc line (Record {
@@ -249,8 +251,8 @@ fn switching_in_turn(line: &[u8]) -> Option<Record>
 }
 
 /// Reads a `task_schedule` that finishes a task, its body or its event, with turns.
-fn finishing_in_turn(alloc: Global, line: &[u8]) -> Option<Record>
-    ensures { IfSome result (λ event. line.now ≡ line_of event) }
+fn finishing_in_turn(alloc: Global, line: &[u8]) -> Option<(Record, &[u8])>
+    ensures { IfSome result (λ taken. Takes line.now (line_of taken.0) taken.1.now) }
 {
     line_parts!(finishing_in_turn take_parts
         (alloc line {
@@ -270,8 +272,8 @@ fn finishing_in_turn(alloc: Global, line: &[u8]) -> Option<Record>
 }
 
 /// Reads `sync_region`.
-fn sync_region(line: &[u8]) -> Option<Record>
-    ensures { IfSome result (λ event. line.now ≡ line_of event) }
+fn sync_region(line: &[u8]) -> Option<(Record, &[u8])>
+    ensures { IfSome result (λ taken. Takes line.now (line_of taken.0) taken.1.now) }
 {
     line_parts!(sync_region take_parts
         (_alloc line (Record {
@@ -282,8 +284,8 @@ fn sync_region(line: &[u8]) -> Option<Record>
 }
 
 /// Reads a `cancel` that discards no task.
-fn cancelling(line: &[u8]) -> Option<Record>
-    ensures { IfSome result (λ event. line.now ≡ line_of event) }
+fn cancelling(line: &[u8]) -> Option<(Record, &[u8])>
+    ensures { IfSome result (λ taken. Takes line.now (line_of taken.0) taken.1.now) }
 {
     line_parts!(cancelling take_parts
         (_alloc line (Record { thread, seq, seen, body: Body::Cancel { flags, task, claim: None } }))
@@ -291,8 +293,8 @@ fn cancelling(line: &[u8]) -> Option<Record>
 }
 
 /// Reads a `cancel` that discards its task.
-fn discarding(alloc: Global, line: &[u8]) -> Option<Record>
-    ensures { IfSome result (λ event. line.now ≡ line_of event) }
+fn discarding(alloc: Global, line: &[u8]) -> Option<(Record, &[u8])>
+    ensures { IfSome result (λ taken. Takes line.now (line_of taken.0) taken.1.now) }
 {
     line_parts!(discarding take_parts
         (alloc line {
@@ -305,7 +307,7 @@ fn discarding(alloc: Global, line: &[u8]) -> Option<Record>
 }
 
 /// Returns the claim of these. Returns none if it is out of memory.
-fn claim_of(alloc: Global, kept: u32, root: u64, path: Path) -> Option<BoxedClaim>
+fn claim_of(alloc: Global, kept: u32, root: u64, path: ClaimPath) -> Option<BoxedClaim>
     ensures { IfSome result (λ claim. claim ≡ record { kept = kept; root = root; path = path }) }
 {
     match BoxedClaim::new(alloc, Claim { kept, root, path }) {
@@ -315,15 +317,17 @@ fn claim_of(alloc: Global, kept: u32, root: u64, path: Path) -> Option<BoxedClai
 }
 
 /// Reads the last members of a line that names a task.
-fn task_tail(rest: &[u8]) -> Option<(u32, u32, u64, u8)>
-    ensures { IfSome result (λ last. Takes rest.now (task_tail last.0 last.1 last.2 last.3) []) }
+fn task_tail(rest: &[u8]) -> Option<((u32, u32, u64, u8), &[u8])>
+    ensures { IfSome result (λ taken. Takes rest.now
+        (task_tail taken.0.0 taken.0.1 taken.0.2 taken.0.3) taken.1.now) }
 {
     line_parts!(task_tail take_parts (_alloc rest (seen, seq, task, thread)) seen seq task thread)
 }
 
 /// Reads the last members of a line that has a status.
-fn status_tail(rest: &[u8]) -> Option<(u32, u32, Status, u8)>
-    ensures { IfSome result (λ last. Takes rest.now (status_tail last.0 last.1 last.2 last.3) []) }
+fn status_tail(rest: &[u8]) -> Option<((u32, u32, Status, u8), &[u8])>
+    ensures { IfSome result (λ taken. Takes rest.now
+        (status_tail taken.0.0 taken.0.1 taken.0.2 taken.0.3) taken.1.now) }
 {
     line_parts!(status_tail take_parts (_alloc rest (seen, seq, status, thread)) seen seq status thread)
 }

@@ -22,6 +22,6 @@ mod written;
 
 pub use bodies::Loose;
 pub use cause::ReadCause;
-pub use record_lines::{TRACES, header, record, record_as_written};
+pub use record_lines::{TRACES, header, record, record_as_written, record_in_front};
 pub use step_lines::{SaidStep, step};
 pub use texts::{put_header, put_record};

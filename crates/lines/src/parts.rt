@@ -14,8 +14,8 @@ use crate::tables::line_parts;
 use bitflags::Flags;
 use memchr::memchr;
 use ompt_events::{
-    CancelFlags, Dep, DepKind, Deps, Endpoint, MAX_DEPENDENCES, MAX_DEPTH, Path, Status, SyncKind,
-    TaskFlags, ThreadKind,
+    CancelFlags, ClaimPath, Dep, DepKind, Deps, Endpoint, MAX_DEPENDENCES, MAX_DEPTH, Status,
+    SyncKind, TaskFlags, ThreadKind,
 };
 use std::alloc::Global;
 
@@ -75,10 +75,18 @@ fn half(bytes: &[u8], at: usize) -> u32
 }
 
 /// Takes the end of the line.
-pub(crate) fn end(rest: &[u8]) -> Option<()>
+#[inline(always)]
+pub(crate) fn end(rest: &[u8]) -> Option<&[u8]>
+    ensures { IfSome result (λ behind. Takes rest.now (codes "}") behind.now) }
+{
+    after(rest, "}")
+}
+
+/// Takes the end of a line that nothing follows.
+pub(crate) fn line_end(rest: &[u8]) -> Option<()>
     ensures { IfSome result (λ _. Takes rest.now (codes "}") []) }
 {
-    let behind = after(rest, "}")?;
+    let behind = end(rest)?;
     if behind.is_empty() { Some(()) } else { None }
 }
 
@@ -261,7 +269,8 @@ pub(crate) fn name<'l>(rest: &'l [u8], name: &str) -> Option<&'l [u8]>
     Some(behind)
 }
 
-// A name is guessed by letters in which the names of its table differ, and then compared.
+// A name is guessed by letters in which the names of its table differ, and then compared. The compiler makes
+// code of their own for names that most lines have, which compares without a loop.
 
 /// Takes how a task stops running.
 #[inline(always)]
@@ -269,7 +278,18 @@ pub(crate) fn status<'l>(rest: &'l [u8], text: &str) -> Option<(Status, &'l [u8]
     ensures { IfSome result (λ taken. Takes rest.now (text.now ++ quoted (status_name taken.0)) taken.1.now) }
 {
     let rest = after(rest, text)?;
-    let status = guess_status(rest);
+    match guess_status(rest) {
+        Status::Complete => this_status(rest, Status::Complete),
+        Status::Switch => this_status(rest, Status::Switch),
+        status => this_status(rest, status),
+    }
+}
+
+/// Takes the name of this status.
+#[inline(always)]
+fn this_status(rest: &[u8], status: Status) -> Option<(Status, &[u8])>
+    ensures { IfSome result (λ taken. Takes rest.now (quoted (status_name taken.0)) taken.1.now) }
+{
     let behind = name(rest, status.name())?;
     Some((status, behind))
 }
@@ -296,7 +316,18 @@ pub(crate) fn endpoint<'l>(rest: &'l [u8], text: &str) -> Option<(Endpoint, &'l 
     ensures { IfSome result (λ taken. Takes rest.now (text.now ++ quoted (endpoint_name taken.0)) taken.1.now) }
 {
     let rest = after(rest, text)?;
-    let endpoint = guess_endpoint(rest);
+    match guess_endpoint(rest) {
+        Endpoint::Begin => this_endpoint(rest, Endpoint::Begin),
+        Endpoint::End => this_endpoint(rest, Endpoint::End),
+        endpoint => this_endpoint(rest, endpoint),
+    }
+}
+
+/// Takes the name of this endpoint.
+#[inline(always)]
+fn this_endpoint(rest: &[u8], endpoint: Endpoint) -> Option<(Endpoint, &[u8])>
+    ensures { IfSome result (λ taken. Takes rest.now (quoted (endpoint_name taken.0)) taken.1.now) }
+{
     let behind = name(rest, endpoint.name())?;
     Some((endpoint, behind))
 }
@@ -318,7 +349,17 @@ pub(crate) fn sync_kind<'l>(rest: &'l [u8], text: &str) -> Option<(SyncKind, &'l
     ensures { IfSome result (λ taken. Takes rest.now (text.now ++ quoted (sync_kind_name taken.0)) taken.1.now) }
 {
     let rest = after(rest, text)?;
-    let sync_kind = guess_sync_kind(rest);
+    match guess_sync_kind(rest) {
+        SyncKind::Taskwait => this_sync_kind(rest, SyncKind::Taskwait),
+        sync_kind => this_sync_kind(rest, sync_kind),
+    }
+}
+
+/// Takes the name of this construct.
+#[inline(always)]
+fn this_sync_kind(rest: &[u8], sync_kind: SyncKind) -> Option<(SyncKind, &[u8])>
+    ensures { IfSome result (λ taken. Takes rest.now (quoted (sync_kind_name taken.0)) taken.1.now) }
+{
     let behind = name(rest, sync_kind.name())?;
     Some((sync_kind, behind))
 }
@@ -414,9 +455,21 @@ fn task_flags_alone(rest: &[u8]) -> Option<(TaskFlags, &[u8])>
     ensures { IfSome result (λ taken. Takes rest.now
         (compact_text (names (flag_names flag.task_flags taken.0.0))) taken.1.now) }
 {
+    if let Some(behind) = explicit_alone(rest) {
+        return Some((TaskFlags::EXPLICIT, behind));
+    }
     let flags = guess_task_flags(rest)?;
     let behind = flags_in_order(rest, flags)?;
     Some((flags, behind))
+}
+
+/// Takes the name of the one flag that most tasks have.
+#[inline(always)]
+fn explicit_alone(rest: &[u8]) -> Option<&[u8]>
+    ensures { IfSome result (λ behind. Takes rest.now
+        (compact_text (names (flag_names flag.task_flags 0x4))) behind.now) }
+{
+    after(rest, "[\"explicit\"]")
 }
 
 /// Takes the names of a cancellation's flags.
@@ -525,11 +578,6 @@ pub(crate) fn room_for_items(rest: &[u8]) -> usize {
     room
 }
 
-/// Returns how many numbers a list has at most: each has a digit, and all but the last a comma behind it.
-fn room_for_numbers(rest: &[u8]) -> usize {
-    memchr(b']', rest).unwrap_or(0).div_ceil(2)
-}
-
 /// Returns how many dependences a list has at most: each but the last is followed by a brace and a comma.
 fn room_for_dependences(rest: &[u8]) -> usize {
     let len = memchr(b']', rest).unwrap_or(0);
@@ -555,7 +603,7 @@ fn past_brace(list: &[u8]) -> Option<&[u8]> {
 
 /// Takes the numbers of a path.
 #[inline(always)]
-pub(crate) fn path<'l>(alloc: Global, rest: &'l [u8], text: &str) -> Option<(Path, &'l [u8])>
+pub(crate) fn path<'l>(alloc: Global, rest: &'l [u8], text: &str) -> Option<(ClaimPath, &'l [u8])>
     ensures { IfSome result (λ taken. Takes rest.now
         (text.now ++ compact_text (array (items_of (map whole_number taken.0)))) taken.1.now) }
 {
@@ -563,25 +611,25 @@ pub(crate) fn path<'l>(alloc: Global, rest: &'l [u8], text: &str) -> Option<(Pat
 }
 
 /// Takes the same without a text before it.
-fn path_alone(alloc: Global, rest: &[u8]) -> Option<(Path, &[u8])>
+fn path_alone(alloc: Global, rest: &[u8]) -> Option<(ClaimPath, &[u8])>
     ensures { IfSome result (λ taken. Takes rest.now
         (compact_text (array (items_of (map whole_number taken.0)))) taken.1.now) }
 {
     let mut rest = after(rest, "[")?;
-    let mut numbers = Vec::with_capacity(alloc, room_for_numbers(rest)).ok()?;
+    let mut numbers = ClaimPath::new();
     let mut later = false;
     'numbers: for _ in 0..MAX_DEPTH {
         let Some((number, behind)) = next_number(rest, later) else {
             break;
         };
-        if numbers.push(number).is_err() {
+        if numbers.push(alloc, number).is_err() {
             return None;
         }
         rest = behind;
         later = true;
     }
     let behind = after(rest, "]")?;
-    Some((Path::from_vec(numbers), behind))
+    Some((numbers, behind))
 }
 
 /// Takes one number of a path.

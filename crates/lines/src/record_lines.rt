@@ -1,7 +1,9 @@
 //! What a single line stands for, in a file of version 1 or 2 of the format.
-ghost use Rattle.std.specs.Prelude.{◌≡◌, IfSome, Ok, Err, Some, option_and_then, nat_lt, if◌then◌else◌};
+ghost use Rattle.std.specs.Prelude.{◌≡◌, ◌<◌, ◌≤◌, IfSome, IsTrue, Ok, Err, Some, length, take, slice_index, option_and_then, nat_lt, if◌then◌else◌};
 ghost use Rattle.std.specs.Result.{result_ok};
 ghost use Rattle.ompt_events.specs.declared.records.Body.{Body as SpecBody};
+ghost use Rattle.memchr.specs.Find.{IsFirstByte, is_byte};
+ghost use Rattle.lines.specs.Limits.{max_line};
 ghost use Rattle.lines.specs.LooseBodies.{loose_body, read_loosely};
 ghost use Rattle.lines.specs.Objects.{IsReadable, object_data};
 ghost use Rattle.lines.specs.RecordLines as spec;
@@ -170,12 +172,41 @@ fn on_tape(
 pub fn record_as_written(alloc: Global, version: u32, line: &[u8]) -> Option<Record>
     ensures { IfSome result (λ event. spec.line_says version line.now ≡ Ok event) }
 {
-    let event = canonical(alloc, version, line)?;
+    let (event, behind) = canonical(alloc, version, line)?;
     event.read_numbers();
-    if event.body.is_sound_in(version) {
+    if behind.is_empty() && event.body.is_sound_in(version) {
         Some(event)
     } else {
         None
+    }
+}
+
+/// Returns the record of the line that a text begins with, and the length of the line, if the line is in
+/// written form, a line feed follows it, and the record may be in a file of this version. The line feed is
+/// not searched for: none is in a line in written form.
+#[inline(always)]
+pub fn record_in_front(alloc: Global, version: u32, text: &[u8]) -> Option<(Record, usize)>
+    ensures line { IfSome result (λ front. IsFirstByte (is_byte 10) text.now (Some front.1)) }
+    ensures short { IfSome result (λ front. front.1 ≤ max_line) }
+    ensures says { IfSome result (λ front. spec.line_says version (take front.1 text.now) ≡ Ok front.0) }
+{
+    let (event, behind) = canonical(alloc, version, text)?;
+    event.read_numbers();
+    if begins_with_line_feed(behind) && event.body.is_sound_in(version) {
+        Some((event, text.len() - behind.len()))
+    } else {
+        None
+    }
+}
+
+/// Returns whether the first byte is a line feed.
+#[inline(always)]
+fn begins_with_line_feed(bytes: &[u8]) -> bool
+    ensures { IsTrue result → (0 < length bytes.now) × (slice_index bytes.now 0 ≡ 10) }
+{
+    match bytes.first() {
+        Some(byte) => *byte == b'\n',
+        None => false,
     }
 }
 

@@ -13,7 +13,7 @@ use crate::tables::line_parts;
 use bitflags::Flags;
 use itoa::Buffer;
 use ompt_events::{
-    Body, CancelFlags, Claim, Dep, DepKind, Deps, Endpoint, Path, Record, Status, SyncKind,
+    Body, CancelFlags, Claim, ClaimPath, Dep, DepKind, Deps, Endpoint, Record, Status, SyncKind,
     TaskFlags, ThreadKind, Turns,
 };
 use std::alloc::AllocError;
@@ -504,14 +504,14 @@ fn comma(later: bool) -> &'static str
 }
 
 /// Appends the numbers of a path.
-fn put_path(out: &mut Vec<u8>, text: &str, path: &Path) -> Result<(), AllocError>
+fn put_path(out: &mut Vec<u8>, text: &str, path: &ClaimPath) -> Result<(), AllocError>
     ensures { OnOk result (Puts out.old.items out.new.items
         (text.now ++ compact_text (array (items_of (map whole_number path.now))))) }
 {
     put_both(out, text, "[")?;
     let mut later = false;
-    'numbers: for number in path.as_slice() {
-        put_short(out, comma(later), *number)?;
+    'numbers: for at in 0..path.len() {
+        put_short(out, comma(later), path.number(at))?;
         later = true;
     }
     put(out, "]")

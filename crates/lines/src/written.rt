@@ -16,7 +16,7 @@ ghost use Rattle.lines.specs.Texts.{Takes, is_plain_byte, is_plain_text, object_
 use crate::cause::ReadCause;
 use crate::members::{MEMBER_COUNT, Member, member_names};
 use crate::parts::{
-    after, dep, end, guess_endpoint, guess_status, guess_sync_kind, name, next_item, number,
+    after, dep, guess_endpoint, guess_status, guess_sync_kind, line_end, name, next_item, number,
     room_for_items,
 };
 use bitflags::Flags;
@@ -87,7 +87,7 @@ pub(crate) fn take_members(alloc: Global, line: &[u8]) -> Option<Members<'_>>
     let mut rest = after(line, "{")?;
     let mut later = false;
     'members: while members.len() < MAX_MEMBERS {
-        if let Some(()) = end(rest) {
+        if let Some(()) = line_end(rest) {
             return Some(Members { members, places });
         }
         let Some(front) = next_item(rest, later) else {

@@ -4,4 +4,4 @@ use Rattle.lines.proofs.bodies.cut_path.Given as goal
 
 -- the numbers so far are kept, each cut short
 abbrev pub invariant-numbers : goal.invariant-numbers
-invariant-numbers l = l.path.items ≡ map cut_short (take l.number-index l.numbers.items)
+invariant-numbers l = l.path ≡ map cut_short (take l.number-index l.numbers.items)

@@ -1,10 +1,10 @@
 use Rattle.lines.proofs.PartLemmas.{line-finishing}
-use Rattle.lines.proofs.TakeLemmas.{Takes-both, Takes-whole}
+use Rattle.lines.proofs.TakeLemmas.{Takes-both, Takes-same}
 use Rattle.lines.proofs.canonical.finishing.Goals as goal
 
 pub returns : goal.returns
 returns c =
-    rw c.in-Some-claim_of.ensures (Takes-whole _ _ _
+    rw c.in-Some-claim_of.ensures (Takes-same _ _ _ _
     (line-finishing
     (record {
       thread = c.in-Some-status_tail.thread;

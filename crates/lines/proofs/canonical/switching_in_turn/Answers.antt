@@ -1,10 +1,10 @@
 use Rattle.lines.proofs.PartLemmas.{line-switching_in_turn}
-use Rattle.lines.proofs.TakeLemmas.{Takes-both, Takes-whole}
+use Rattle.lines.proofs.TakeLemmas.{Takes-both, Takes-same}
 use Rattle.lines.proofs.canonical.switching_in_turn.Goals as goal
 
 pub returns : goal.returns
 returns c =
-    Takes-whole _ _ _
+    Takes-same _ _ _ _
     (line-switching_in_turn
     (record {
       thread = c.in-Some-status_tail.thread;

@@ -1,10 +1,10 @@
 use Rattle.lines.proofs.PartLemmas.{line-thread_begin}
-use Rattle.lines.proofs.TakeLemmas.{Takes-both, Takes-whole}
+use Rattle.lines.proofs.TakeLemmas.{Takes-both, Takes-same}
 use Rattle.lines.proofs.canonical.thread_begin.Goals as goal
 
 pub returns : goal.returns
 returns c =
-    Takes-whole _ _ _
+    Takes-same _ _ _ _
     (line-thread_begin
     (record {
       thread = c.in-Some-byte.thread;

@@ -5,4 +5,4 @@ use Rattle.lines.proofs.parts.path_alone.Given as goal
 
 -- the items so far
 abbrev pub invariant-numbers : goal.invariant-numbers
-invariant-numbers l = AreItemsTaken whole_number l.numbers.items l.later l.fn.rest l.rest []
+invariant-numbers l = AreItemsTaken whole_number l.numbers l.later l.fn.rest l.rest []

@@ -8,5 +8,5 @@ use Rattle.lines.proofs.texts.put_path.Given as goal
 
 abbrev pub invariant-numbers : goal.invariant-numbers
 invariant-numbers l =
-    IsPut whole_number (drop l.number-index l.path) l.later l.fn.out.items l.out.items
+    IsPut whole_number (drop l.at l.path) l.later l.fn.out.items l.out.items
     (l.text ++ compact_text (array (items_of (map whole_number l.path))))
