@@ -98,8 +98,8 @@ pub fn audit_on<R: Threads + Sync, G: Gate + Sync, I: Source, O: Sink>(
     put(&verdict, text.as_slice(), sink)
 }
 
-/// Leaves the trace to the end of the process, which comes soon. To free a list for each record that finishes
-/// a task would take a twentieth of the audit.
+/// Leaves the trace to the end of the process, which comes soon: to free the memory of each claim would only
+/// take time.
 fn leave(trace: Trace) {
     forget(trace);
 }
