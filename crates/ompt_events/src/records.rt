@@ -2,7 +2,7 @@
 ghost use Rattle.std.specs.Prelude.{◌≡◌, option_map, option_copied};
 ghost use Rattle.ompt_events.specs.Flags as flag;
 ghost use Rattle.ompt_events.specs.Flags.{has_flag};
-ghost use Rattle.ompt_events.specs.Records.{begun_root, ended_root, joined, begun_initial, forked, region_named, creation, created, created_with_deps, dependences, made, schedule, started, told_turns, begun_turn, suspended_turn, ended_turn, fulfilled, wait_completed, discarded, running, region, flags, claim, named, finish};
+ghost use Rattle.ompt_events.specs.Records.{begun_root, ended_root, joined, begun_initial, forked, region_named, creation, created, created_with_deps, dependences, made, started, told_turns, begun_turn, suspended_turn, ended_turn, wait_completed, discarded, running, region, flags, claim, named, finish};
 ghost use Rattle.ompt_events.specs.Regions.{ends_wait};
 
 use crate::boxed_claim::BoxedClaim;
@@ -265,21 +265,6 @@ impl Body {
         }
     }
 
-    /// Returns the status of a task_schedule event, its prior task and its next one.
-    pub fn schedule(&self) -> Option<(Status, u64, Option<u64>)>
-        ensures { result ≡ schedule self.now }
-    {
-        match self {
-            Body::TaskSchedule {
-                status,
-                prior,
-                next,
-                ..
-            } => Some((*status, *prior, *next)),
-            _ => None,
-        }
-    }
-
     /// Returns the task that runs next.
     pub fn started(&self) -> Option<u64>
         ensures { result ≡ started self.now }
@@ -341,20 +326,6 @@ impl Body {
                 prior,
                 ..
             } if status.demands_next() => Some((*prior, turns.map_or(0, |told| told.prior))),
-            _ => None,
-        }
-    }
-
-    /// Returns the task whose event is fulfilled, early or late (OpenMP 5.2, 12.5.2).
-    pub fn fulfilled(&self) -> Option<u64>
-        ensures { result ≡ fulfilled self.now }
-    {
-        match self {
-            Body::TaskSchedule {
-                status: Status::EarlyFulfill | Status::LateFulfill,
-                prior,
-                ..
-            } => Some(*prior),
             _ => None,
         }
     }

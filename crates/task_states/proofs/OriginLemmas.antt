@@ -26,6 +26,7 @@ use Rattle.ompt_events.proofs.PlaceLemmas.{thread_none, contains_place, at_withi
 use Rattle.ompt_events.proofs.PlaceLemmas.{the_task}
 use Rattle.ompt_events.proofs.RecordLemmas.{begun_made, made_cases, begun_at_made}
 use Rattle.ompt_events.proofs.ListLemmas.{pushed_cases, contains_get}
+use Rattle.task_tree.specs.Runs.{is_wait_made}
 use Rattle.task_tree.proofs.OnceLemmas.{made_once}
 use Rattle.task_tree.proofs.SuspendedLemmas.{explicit_not_root}
 use Rattle.task_states.specs.declared.homes.Home.{Home}
@@ -33,7 +34,7 @@ use Rattle.task_states.specs.declared.homes.Home.TheVariants.{Nowhere}
 use Rattle.task_states.specs.Homes.{home_at}
 use Rattle.task_states.specs.declared.moves.Nature as code
 use Rattle.task_states.specs.declared.moves.Nature.TheVariants as variants
-use Rattle.task_states.specs.Progress.{is_wait_made, first_start, the_nature, AreNatures, AreHomes}
+use Rattle.task_states.specs.Progress.{first_start, the_nature, AreNatures, AreHomes}
 
 -- ---- the first that passes a test
 

@@ -8,9 +8,7 @@ use Rattle.ompt_events.specs.declared.state.State.{State}
 use Rattle.ompt_events.specs.declared.names.Status.{Status}
 use Rattle.ompt_events.specs.declared.names.Status.TheVariants.{EarlyFulfill}
 use Rattle.std.specs.Option.{option_map_or}
-use Rattle.ompt_events.specs.Flags as flag
-use Rattle.ompt_events.specs.Flags.{has_flag}
-use Rattle.ompt_events.specs.Records.{started, flags as says_flags}
+use Rattle.ompt_events.specs.Records.{started}
 use Rattle.ompt_events.specs.Places.{at, places}
 use Rattle.ompt_events.specs.States as states
 use Rattle.ompt_events.specs.States.{is_task, is_on, is_early, home_of, has_moved, moves_at, turn_moves}
@@ -156,10 +154,6 @@ pub record AreOrigins (run : RunView) (natures : List Nature) (homes : List home
   pub all : length natures ≡ length run.family.tasks
   pub homes_are : AreHomes run.records run.family.tasks homes
   pub homes_all : length homes ≡ length run.family.tasks
-
--- whether the task that the record makes has the flag `taskwait`
-abbrev pub is_wait_made : List Record → ℕ → Bool
-is_wait_made rs i = option_map_or (λ bits. has_flag bits flag.taskwait) (at says_flags rs i) false
 
 -- the first place below n at which the task runs next
 abbrev pub first_start : List Record → ℕ → ℕ → Option ℕ

@@ -13,7 +13,7 @@ use bitflags::Flags;
 use ompt_events::{Body, CancelFlags, Endpoint, Part, Record, Status, SyncKind, TaskFlags};
 
 /// What a record says, without the tasks, regions and numbers that it names (OpenMP 5.2, 19.5.2).
-#[derive(Clone, Copy, Debug, PartialEq, Eq)]
+#[derive(Clone, Copy, Debug)]
 pub enum Act {
     /// A thread begins or ends.
     Thread,

@@ -1,10 +1,7 @@
 //! The records of a trace with the family of its tasks. All phases of an audit take them.
-ghost use Rattle.std.specs.Option.{option_map_or};
 ghost use Rattle.std.specs.Prelude.{ℕ, ◌≡◌, ◌↔◌, ◌<◌, Option, Some, None, IsTrue, MatchOption, false, is_some, length, option_copied, option_map, slice_get, if◌then◌else◌};
 ghost use Rattle.ompt_events.specs.declared.records.Body.{Body};
-ghost use Rattle.ompt_events.specs.Records.{begun_initial, begun_root, begun_turn, claim, created, created_with_deps, creation, dependences, discarded, ended_root, finish, flags, forked, fulfilled, joined, made, region, running, schedule, started, told_turns, wait_completed};
-ghost use Rattle.ompt_events.specs.Flags as flag;
-ghost use Rattle.ompt_events.specs.Flags.{has_flag};
+ghost use Rattle.ompt_events.specs.Records.{begun_initial, begun_root, begun_turn, claim, created, created_with_deps, creation, dependences, discarded, ended_root, finish, forked, fulfilled, joined, made, region, running, schedule, started, told_turns, wait_completed};
 ghost use Rattle.ompt_events.specs.Places.{at as says_at, thread_at, seen_at};
 ghost use Rattle.ompt_events.specs.Causes.{known_after};
 ghost use Rattle.ompt_events.specs.Tree.{IsExplicit, HasPath, children};
@@ -12,7 +9,7 @@ ghost use Rattle.task_tree.specs.Family.{IsFamilyOf};
 ghost use Rattle.task_tree.specs.Lineage.{parent_index};
 ghost use Rattle.task_tree.specs.Packed.{act_of, packed};
 ghost use Rattle.task_tree.specs.Rising.{IsStartOf};
-ghost use Rattle.task_tree.specs.Runs.{schedule_status, IsRun, IsIndexOf, IsCreation, IsFinish, IsRegionEvent, IsSchedule, IsThreadEvent, IsNoThreadEvent, IsFork, IsNoWaitEvent, IsWaitEvent, AreDependences};
+ghost use Rattle.task_tree.specs.Runs.{schedule_status, IsRun, IsIndexOf, IsCreation, IsFinish, IsRegionEvent, IsSchedule, IsThreadEvent, IsNoThreadEvent, IsFork, IsNoWaitEvent, IsWaitEvent, AreDependences, is_wait_made};
 ghost use Rattle.task_tree.specs.Subjects.{subject, object};
 
 use crate::family::Family;
@@ -248,8 +245,7 @@ impl<'a> Run<'a> {
     /// Returns whether the record makes a taskwait with dependences (15.5): it has the flag `taskwait`.
     pub fn makes_wait(&self, at: usize) -> bool
         requires { at < length self.now.records }
-        ensures { result ≡ option_map_or (λ bits. has_flag bits flag.taskwait)
-            (says_at flags self.now.records at) false }
+        ensures { result ≡ is_wait_made self.now.records at }
     {
         match self.act(at).creates_wait() {
             Some(wait) => wait,
