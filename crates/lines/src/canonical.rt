@@ -47,8 +47,8 @@ macro_rules! take_parts {
     }};
 }
 
-/// Returns the record of a line in written form that a text begins with, and what follows the line. Looks for
-/// turns in version 2 alone.
+/// Returns the record of a line in written form that a text begins with, and what follows the line; none
+/// where the text begins with no such line, or out of memory. Looks for turns in version 2 alone.
 pub(crate) fn canonical(alloc: Global, version: u32, line: &[u8]) -> Option<(Record, &[u8])>
     ensures { IfSome result (λ taken. Takes line.now (line_of taken.0) taken.1.now) }
 {

@@ -168,6 +168,8 @@ fn on_tape(
 }
 
 /// Returns the record that a line in written form stands for in a file of this version, if it may be there.
+/// This is a quick try: none may be returned for any line, and is where memory runs out. What such a line
+/// stands for is up to [`record`].
 #[inline(always)]
 pub fn record_as_written(alloc: Global, version: u32, line: &[u8]) -> Option<Record>
     ensures { IfSome result (λ event. spec.line_says version line.now ≡ Ok event) }
@@ -183,7 +185,8 @@ pub fn record_as_written(alloc: Global, version: u32, line: &[u8]) -> Option<Rec
 
 /// Returns the record of the line that a text begins with, and the length of the line, if the line is in
 /// written form, a line feed follows it, and the record may be in a file of this version. The line feed is
-/// not searched for: none is in a line in written form.
+/// not searched for: none is in a line in written form. This is a quick try: none may be returned for any
+/// text, and is where memory runs out. What such a line stands for is up to [`record`].
 #[inline(always)]
 pub fn record_in_front(alloc: Global, version: u32, text: &[u8]) -> Option<(Record, usize)>
     ensures line { IfSome result (λ front. IsFirstByte (is_byte 10) text.now (Some front.1)) }
