@@ -25,6 +25,11 @@ use Rattle.certificate.proofs.ReadingLemmas.{line_feeds-append, line_feeds-one, 
 use Rattle.certificate.proofs.ReadingLemmas.{IsBetween-keeps, IsBetween-start}
 use Rattle.certificate.proofs.FileLemmas.{unbroken-all}
 
+-- what holds in any case holds where a step ends well
+pub on_ok : {P : Type 0} (r : Result (Unit {0}) ReadCause) → P → OnOk r P
+on_ok (Ok u) is = is
+on_ok (Err cause) is = tt
+
 -- ---- bytes
 
 pub whole_feeds : (xs : List ℕ) → IsWholeLines xs → 0 < length xs → 0 < line_feeds xs

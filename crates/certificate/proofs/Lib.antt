@@ -13,6 +13,7 @@ mod TraceLemmas
 mod ScriptFileLemmas
 mod WritingLemmas
 mod KeptLemmas
+mod ArrivingLemmas
 mod LawLemmas
 mod TaskTurnLemmas
 mod UpgradeLemmas

@@ -1,6 +1,6 @@
 -- Room for records after others.
-use Rattle.std.proofs.Common.{◌≡◌, ℕ, ◌+◌, ◌<◌, ◌≤◌, Bool, List, [], ◌∷◌, ◌++◌, length, Ok, Err, true, false}
-use Rattle.std.proofs.Common.{cond, arith, refl, sym, ap, append_assoc, append-nil, length-append}
+use Rattle.std.proofs.Common.{◌≡◌, ℕ, ◌+◌, ◌<◌, ◌≤◌, List, [], ◌∷◌, ◌++◌, length, true}
+use Rattle.std.proofs.Common.{cond, arith, append_assoc, append-nil, length-append}
 use Rattle.std.specs.Prelude.{All, is_some}
 use Rattle.std.proofs.lemmas.Bool.{ltb-true}
 use Rattle.std.proofs.lemmas.Bool.Decides.{nat_tests}
@@ -9,11 +9,10 @@ use Rattle.std.proofs.lemmas.List.Elements.{All-append}
 use Rattle.ompt_events.specs.declared.records.Record.{Record}
 use Rattle.ompt_events.specs.Records.{made}
 use Rattle.ompt_events.specs.Limits.{max_records, max_tasks}
-use Rattle.ompt_events.specs.Traces.{TraceView, IsSoundIn, HasItsTurns, IsInRange, IsSound, tasks_in}
-use Rattle.lines.specs.declared.cause.ReadCause.TheVariants.{Limit}
-use Rattle.certificate.specs.Files.{has_room, with_record}
+use Rattle.ompt_events.specs.Traces.{IsSoundIn, HasItsTurns, IsInRange, IsSound, tasks_in}
+use Rattle.certificate.specs.Files.{has_room}
 use Rattle.certificate.specs.Keeping.{IsTraceKept, HaveRoom}
-use Rattle.lines.proofs.RecordLemmas.{ok_not_err, both-first}
+use Rattle.lines.proofs.RecordLemmas.{both-first}
 
 -- one record more, where all are few enough
 has_room-few : (before rs : List Record) (r : Record) → length (before ++ (r ∷ rs)) ≤ max_records
@@ -51,25 +50,6 @@ HaveRoom-length before (r ∷ rs) few have =
     let all = HaveRoom-length (before ++ r ∷ []) rs (omega arith) have.1 in
     omega arith
 
--- what it says that a record is kept, or not
-pub with_record-ok : (before after : TraceView) (r : Record) → Ok after ≡ with_record before (Ok r)
-    → (has_room before.records r ≡ true)
-    × (after ≡ record { version = before.version; records = before.records ++ r ∷ [] })
-with_record-ok before after r h = by (has_room before.records r) refl h
-  where
-    by : (b : Bool) → has_room before.records r ≡ b
-        → Ok after
-        ≡ cond b (Ok (record { version = before.version; records = before.records ++ r ∷ [] }))
-        (Err Limit)
-        → (has_room before.records r ≡ true)
-        × (after ≡ record { version = before.version; records = before.records ++ r ∷ [] })
-    by true is e = (
-      is,
-      let same : after ≡ record { version = before.version; records = before.records ++ r ∷ [] } =
-          cc in same,
-    )
-    by false is e = absurd (ok_not_err after Limit e)
-
 -- many records more at a time
 pub IsTraceKept-append : (version : ℕ) (before rs : List Record) (tasks more : ℕ)
     → IsTraceKept version before tasks
@@ -96,8 +76,3 @@ IsTraceKept-append version before rs tasks more kept sound in_range counted few 
       };
       counted = omega (arith, both, kept.counted);
     }
-
--- what is kept before any record more
-pub kept_more : (kept : TraceView) → kept ≡ record { version = kept.version; records = kept.records ++ [] }
-kept_more kept =
-    ap (λ (rs : List Record). record { version = kept.version; records = rs }) (sym (append-nil kept.records))

@@ -5,6 +5,7 @@ use Rattle.std.specs.Result.{result_err}
 use Rattle.std.specs.Io.KnownBytes.{Keeps, IsAtEnd, prepend_known}
 use Rattle.ompt_events.specs.Limits.{max_records}
 use Rattle.lines.specs.declared.cause.ReadCause.{ReadCause}
+use Rattle.lines.specs.declared.cause.ReadCause.TheVariants.{Memory}
 use Rattle.certificate.specs.declared.ahead.Ahead.{Ahead}
 use Rattle.certificate.specs.declared.pieces.Piece.{Piece}
 use Rattle.certificate.specs.Limits.{max_turns, newest_version}
@@ -81,12 +82,14 @@ abbrev pub IsAfterStep : Result (Unit {0}) ReadCause → Option (List ℕ) → O
 IsAfterStep (Ok _) known left room front ahead = Waits known left room front ahead
 IsAfterStep (Err cause) known left room front ahead = IsToldNext cause known left room ahead
 
--- after a round: more may come, all is read, or the line that comes next has a fault
+-- after a round: more may come; all is read, and memory may still run out for what it is; or the line that
+-- comes next has a fault
 abbrev pub IsAfterRound : Result Bool ReadCause → Option (List ℕ) → Option (List ℕ) → ℕ → List ℕ → Ahead
     → Type 0
 IsAfterRound (Ok true) known left room front ahead = Waits known left room front ahead
 IsAfterRound (Ok false) known left room front ahead =
     IfSome known (λ bytes. said (traces newest_version) bytes ≡ Ok ahead.kept)
+    × IsToldNext Memory known left room ahead
 IsAfterRound (Err cause) known left room front ahead = IsToldNext cause known left room ahead
 
 -- how many rounds may still come. The first two add no line

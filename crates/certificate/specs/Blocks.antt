@@ -1,5 +1,7 @@
 -- What holds of a block of bytes, and of the bytes of its whole lines.
-use Rattle.std.specs.Prelude.{◌≡◌, ℕ, ◌≤◌, List, [], ◌∷◌, length, take, drop, slice_range, None}
+use Rattle.std.specs.Prelude.{◌≡◌, ℕ, ◌≤◌, Bool, true, false, List, [], ◌∷◌, length, take, drop, slice_range}
+use Rattle.std.specs.Prelude.{Option, None, Result, Ok, IfErr}
+use Rattle.std.specs.Io.KnownBytes.{Keeps, IsAtEnd, prepend_known}
 use Rattle.lines.specs.declared.cause.ReadCause.{ReadCause}
 use Rattle.lines.specs.declared.cause.ReadCause.TheVariants.{Device, Memory, TurnsSpent}
 use Rattle.certificate.specs.Windows.{LineFeedAt}
@@ -22,6 +24,17 @@ IsFillFault Device = Unit {0}
 IsFillFault TurnsSpent = Unit {0}
 IsFillFault Memory = Unit {0}
 IsFillFault _ = ⊥
+
+-- the block was filled from a source that had these bytes left, and then those: it is full, the source has
+-- ended, or this is why no more bytes are taken
+pub record IsFilled (result : Result Bool ReadCause) (old new : BlockView) (left left' : Option (List ℕ))
+    : Type 0 where
+  pub keeps : Keeps (prepend_known old.waiting left) (prepend_known new.waiting left')
+  pub few : length new.waiting ≤ new.limit
+  pub limit : new.limit ≡ old.limit
+  pub full : result ≡ Ok true → length new.waiting ≡ new.limit
+  pub end : result ≡ Ok false → IsAtEnd left'
+  pub met : IfErr result IsFillFault
 
 -- this many bytes are those of whole lines, and no line feed follows
 pub record AreWholeLines (count : ℕ) (bytes : List ℕ) : Type 0 where

@@ -1,10 +1,9 @@
 //! The trace of the lines so far.
-ghost use Rattle.std.specs.Prelude.{◌≡◌, ◌+◌, ◌≤◌, ◌⊎◌, [], length, All, Ok, Err};
+ghost use Rattle.std.specs.Prelude.{◌≡◌, ◌⊎◌, [], Ok, Err};
 ghost use Rattle.std.specs.Result.{result_map_both};
-ghost use Rattle.ompt_events.specs.Traces.{IsInRange, IsSoundIn, tasks_in};
+ghost use Rattle.ompt_events.specs.Traces.{IsSoundIn};
 ghost use Rattle.lines.specs.RecordLines.{IsSaid};
 ghost use Rattle.certificate.specs.Files.{no_trace, with_record};
-ghost use Rattle.certificate.specs.Keeping.{KeepsFirst};
 
 use lines::ReadCause;
 use ompt_events::{MAX_RECORDS, MAX_TASKS, Record, Trace};
@@ -82,48 +81,6 @@ impl Kept {
             self.tasks += 1;
         }
         Ok(())
-    }
-
-    /// Adds the first of these records, as many as the limits allow; `tasks` of them make a task. Returns
-    /// how many were added, and why no more. If all are within the limits, no record is looked at.
-    pub(crate) fn keep_all(
-        &mut self,
-        mut records: Vec<Record>,
-        tasks: usize,
-    ) -> (usize, Option<ReadCause>)
-        requires sound { All (λ r. IsSoundIn self.old.version r.body) records.items }
-        requires in_range { All IsInRange records.items }
-        requires counted { tasks ≡ tasks_in records.items }
-        ensures first { KeepsFirst self.old records.items result.0 result.1 self.new }
-        ensures few { length self.old.records + result.0 ≤ MAX_RECORDS }
-    {
-        let count = records.len();
-        if count > MAX_RECORDS - self.records.len() || tasks > MAX_TASKS - self.tasks {
-            return self.keep_each(records);
-        }
-        if self.records.append(&mut records).is_err() {
-            return (0, Some(ReadCause::Memory));
-        }
-        self.tasks += tasks;
-        (count, None)
-    }
-
-    /// The same as `keep_all`, record by record.
-    fn keep_each(&mut self, records: Vec<Record>) -> (usize, Option<ReadCause>)
-        requires { All (λ r. IsSoundIn self.old.version r.body) records.items }
-        ensures first { KeepsFirst self.old records.items result.0 result.1 self.new }
-        ensures few { length self.old.records + result.0 ≤ MAX_RECORDS }
-    {
-        let _ = &self.version;
-        let mut count = 0;
-        let mut rest = records.into_iter();
-        'records: while let Some(event) = rest.next() {
-            match self.keep(event) {
-                Ok(()) => count += 1,
-                Err(cause) => return (count, Some(cause)),
-            }
-        }
-        (count, None)
     }
 
     /// Returns the trace of these records. Takes no memory.

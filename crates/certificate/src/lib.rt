@@ -3,11 +3,12 @@
 //! `laws` for what follows of a file. `window` has the bytes of a source that no line has yet, and `kept`
 //! the trace so far; the crate `lines` reads and writes each line. `reading_on` reads on several workers: by
 //! `blocks`, cut into `pieces` that are judged side by side; `ahead` is what the calling thread has in hand
-//! meanwhile. `upgrading` makes a trace of version 2 of one of version 1, by what `task_turns` notes of each
-//! task.
+//! meanwhile, and `arriving` the trace so far. `upgrading` makes a trace of version 2 of one of version 1, by
+//! what `task_turns` notes of each task.
 #![tactic(auto)]
 
 mod ahead;
+mod arriving;
 mod blocks;
 mod device;
 mod faults;

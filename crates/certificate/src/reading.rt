@@ -209,7 +209,7 @@ fn take_text(
 
 /// Takes the text of the header, which begins the trace.
 #[inline(never)]
-pub(crate) fn take_header(
+fn take_header(
     alloc: Global,
     newest: u32,
     text: &[u8],

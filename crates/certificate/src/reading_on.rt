@@ -10,16 +10,15 @@ ghost use Rattle.certificate.specs.Pieces.{IsWholeLines};
 ghost use Rattle.certificate.specs.Windows.{LineFeedAt};
 ghost use Rattle.certificate.specs.Blocks.{IsFillFault};
 ghost use Rattle.certificate.specs.ReadingOn.{IsAnswerOn, IsAnswerInBlocks, ReadsAhead, IsToldAfter, IsBetweenLines, IsReadToEnd, IsLineFault, room_of};
-ghost use Rattle.certificate.specs.Ahead.{AreJudgedOf, SameSource, IsFirst, IsInHand, CanAsk, IsRoundReady, Waits, IsAfterStep, IsAfterRound, AreBlocksTurned, WorkedBeside, HasMet, MeetsMore, rounds_left};
+ghost use Rattle.certificate.specs.Ahead.{AreJudgedOf, SameSource, IsFirst, IsInHand, CanAsk, IsRoundReady, Waits, IsAfterStep, IsAfterRound, IsToldNext, AreBlocksTurned, WorkedBeside, HasMet, MeetsMore, rounds_left};
 
-use crate::ahead::Ahead;
+use crate::ahead::{Ahead, Hands};
 use crate::blocks::{Block, fill};
 use crate::device::Source;
 use crate::faults::ReadFault;
 use crate::pieces::{Piece, cuts, judge_all};
-use crate::reading::{LAST_LINE, NEWEST_VERSION, take_header};
+use crate::reading::{LAST_LINE, NEWEST_VERSION};
 use crate::window::MAX_LINE;
-use json::Scratch;
 use lines::ReadCause;
 use memchr::memchr;
 use ompt_events::Trace;
@@ -29,15 +28,6 @@ use std::thread::{Threads, join_mut};
 
 /// The size of a block of [`read_on`] in bytes, for each worker.
 const BLOCK: usize = 1 << 21;
-
-/// How many workers judge lines, and the size of a worker's blocks.
-#[derive(Drop)]
-struct Hands {
-    alloc: Global,
-    workers: u32,
-    block: usize,
-    ghost some: { 1 ≤ workers },
-}
 
 /// Reads a trace file of a version up to [`NEWEST_VERSION`] to its end, on this many workers. Returns what
 /// [`crate::read`] returns. Has buffers of at most `workers` times 2^21 bytes, and two of the longest lines
@@ -114,7 +104,15 @@ pub fn read_blocks<R: Threads + Sync, S: Source>(
     'rounds: loop {
         match round(rt, &hands, &mut front, &mut ahead, source) {
             Ok(true) => {}
-            Ok(false) => return Ok(ahead.kept.into_trace()),
+            Ok(false) => match ahead.kept.into_trace() {
+                Ok(trace) => return Ok(trace),
+                Err(_) => {
+                    return Err(ReadFault {
+                        line: ahead.line,
+                        cause: ReadCause::Memory,
+                    });
+                }
+            },
             Err(cause) => {
                 return Err(ReadFault {
                     line: ahead.line,
@@ -187,14 +185,7 @@ fn begin(alloc: Global, front: &mut Block, ahead: &mut Ahead) -> Result<(), Read
         Some(_) => return Err(ReadCause::LineTooLong),
         None => return end(ahead.filled, ahead.block.len(), 1),
     };
-    let mut scratch = Scratch::new(alloc);
-    take_header(
-        alloc,
-        NEWEST_VERSION,
-        &text[..len],
-        &mut ahead.kept,
-        &mut scratch,
-    )?;
+    ahead.kept.take_header(alloc, &text[..len])?;
     ahead.line = 2;
     front.skip(len + 1);
     Ok(())
@@ -283,7 +274,6 @@ fn side_by_side<R: Threads + Sync, S: Source>(
         (S.breaks source.old) (S.breaks source.new) }
 {
     let version = ahead.kept.version();
-    let alloc = hands.alloc;
     join_mut(
         rt,
         &mut || -> Result<Vec<Piece>, AllocError>
@@ -296,7 +286,7 @@ fn side_by_side<R: Threads + Sync, S: Source>(
                 (S.remaining source.entry.now) (S.remaining source.exit.now) }
             ensures met { MeetsMore ahead.entry.now ahead.exit.now (S.agains source.entry.now)
                 (S.agains source.exit.now) (S.breaks source.entry.now) (S.breaks source.exit.now) }
-        { ahead.work_beside(alloc, source) },
+        { ahead.work_beside(rt, hands, source) },
     )
 }
 
@@ -313,21 +303,31 @@ fn judge<R: Threads + Sync>(
     if text.is_empty() {
         return Ok(Vec::new(hands.alloc));
     }
-    let count = pieces_of(hands.workers, hands.block, text.len());
+    let count = pieces_of(judges_of(hands.workers), hands.block, text.len());
     let cuts = cuts(hands.alloc, text, count)?;
     judge_all(rt, hands.alloc, version, text, &cuts)
 }
 
-/// Returns how many pieces this many bytes are cut into: one for each worker, but none smaller than a
-/// sixteenth of a block.
-fn pieces_of(workers: u32, block: usize, len: usize) -> u32
+/// Returns how many threads judge lines. Of three workers or more the calling thread is one, since it fills
+/// blocks meanwhile. Two workers both judge, which takes longer than what the calling thread does.
+fn judges_of(workers: u32) -> u32
     requires { 1 ≤ workers }
     ensures some { 1 ≤ result }
     ensures few { result ≤ workers }
 {
+    if workers > 2 { workers - 1 } else { workers }
+}
+
+/// Returns how many pieces this many bytes are cut into: one for each thread that judges, but none smaller
+/// than a sixteenth of a block.
+fn pieces_of(judges: u32, block: usize, len: usize) -> u32
+    requires { 1 ≤ judges }
+    ensures some { 1 ≤ result }
+    ensures few { result ≤ judges }
+{
     let pieces = len / (block / 16 + 1);
-    if pieces >= workers as usize {
-        workers
+    if pieces >= judges as usize {
+        judges
     } else {
         pieces as u32 + 1
     }
@@ -342,6 +342,9 @@ fn finish(alloc: Global, front: &Block, ahead: &mut Ahead) -> Result<(), ReadCau
     ensures after { (known left : Option (List ℕ)) (room : ℕ)
         → Waits known left room front.now.waiting ahead.old
         → IsReadToEnd result known ahead.new.line ahead.new.kept room left }
+    ensures memory { (known left : Option (List ℕ)) (room : ℕ)
+        → Waits known left room front.now.waiting ahead.old
+        → OnOk result (IsToldNext ReadCause.Memory known left room ahead.new) }
     ensures line { (1 ≤ ahead.new.line) × (ahead.new.line ≤ LAST_LINE) }
     ensures version { OnOk result (ahead.new.kept.version ≤ NEWEST_VERSION) }
     ensures source { SameSource ahead.old ahead.new }

@@ -8,13 +8,11 @@ use Rattle.task_tree.specs.Families.{IsOwnOf}
 use Rattle.task_tree.proofs.ShownLemmas.{own_long}
 use Rattle.teams.specs.Teams.{own_of}
 use Rattle.trace_ledger.specs.Entries.{HasRightEntries}
-use Rattle.wait_coverage.specs.Coverage.{IsEnd}
 use Rattle.wait_coverage.specs.Done.{DoneView, records_of}
 use Rattle.wait_coverage.specs.Known.{AreCreditLengths}
 use Rattle.wait_coverage.specs.Shown.{IsCompleteShown, IsFirstUnfinishedShown}
 use Rattle.wait_coverage.specs.Spans.{IsCoverComplete}
 use Rattle.wait_coverage.specs.Waits.{IsFirstCoveredUnfinished}
-use Rattle.wait_coverage.proofs.UnfinishedLemmas.{EndsWaitAt, covers_at}
 use Rattle.wait_coverage.proofs.ShownLemmas.{unfinished_shown, all_shown}
 use Rattle.checker.specs.declared.verdict.Why.{Why}
 use Rattle.checker.specs.declared.verdict.Why.TheVariants.{Unfinished, Predecessor}
@@ -69,12 +67,6 @@ pub complete_at : (rs : List Record) (place : ℕ) → IsCompleteShown rs place 
 complete_at rs place covered ready task (inl covers) = covered task covers
 complete_at rs place covered ready task (inr preceded) = ready task preceded
 
--- where no wait ends nothing is covered
-pub end_complete : (rs : List Record) (number : ℕ) → (IsEnd rs number → ⊥) → IsCoverComplete rs number
-end_complete rs number ends_none task covers =
-    let there : EndsWaitAt rs number = covers_at rs number task covers in
-    absurd (ends_none (there.task, there.begin, there.kind, there.is_region, there.demands))
-
 -- ---- the same of a trace without a cause
 
 -- a record's number is one of the run in the tasks' own order
@@ -122,17 +114,6 @@ covered_decided view own done number place clear same teams credit stands finds 
     (stands_there view own number place same stands)
     (found_there view done (λ o. IsCoverComplete o.run.records number) clear teams credit finds)
 
--- where no wait ends
-pub no_end_decided : (view : ClearView) (own : OwnView) (done : DoneView) (number place : ℕ)
-    → IsClearView view → own ≡ view.own → own_of done.teams ≡ view.own
-    → slice_get own.places number ≡ Some place → (IsEnd (records_of done) number → ⊥)
-    → IsCompleteShown view.run.records place
-no_end_decided view own done number place clear same teams stands ends_none =
-    let P : OwnView → Type 0 = λ o. IsEnd o.run.records number → ⊥ in
-    all_shown view.run.records view.own number place clear.one.of_file clear.one.is_own
-    (stands_there view own number place same stands)
-    (end_complete view.own.run.records number (subst P teams ends_none))
-
 -- ---- the first violation
 
 pub first_violation : (reading : Reading) (i : ℕ) (why : Why) → IsViolationAt reading i why
@@ -148,7 +129,7 @@ first_violation reading i why violation before = record {
   reason = violation.reason;
 }
 
-complete_past : (rs : List Record) (i : ℕ) → length rs ≤ i → AreComplete (by_task rs) i
+pub complete_past : (rs : List Record) (i : ℕ) → length rs ≤ i → AreComplete (by_task rs) i
 complete_past rs i past task (inl covers) =
     absurd (let inside = (of_tasks rs).within i task covers in omega (arith, inside, past))
 complete_past rs i past task (inr preceded) = ready_past rs i past task preceded

@@ -1,5 +1,5 @@
 -- Which entries are named, and which record is the first that names one again or one past the end.
-use Rattle.std.proofs.Common.{◌≡◌, ◌∙◌, ℕ, ◌<◌, ◌≤◌, ◌+◌, ◌==◌, Bool, true, false, cond, ltb, List, []}
+use Rattle.std.proofs.Common.{◌≡◌, ◌∙◌, ℕ, ◌<◌, ◌≤◌, ◌+◌, ◌==◌, Bool, true, false, cond, ltb, List}
 use Rattle.std.proofs.Common.{length, Result, Ok, Err, refl, sym, ap, arith, inl, inr}
 use Rattle.std.specs.Prelude.{◌||◌, IfOk, OnOk, slice_index, slice_set}
 use Rattle.std.proofs.lemmas.List.{length-set}

@@ -34,7 +34,6 @@ use Rattle.depend_edges.specs.Edges.{ArePredecessors, ArePredecessorLengths}
 use Rattle.wait_coverage.specs.Done.{AreOwnLengths}
 use Rattle.trace_ledger.specs.Entries.{IsDone}
 use Rattle.checker.specs.declared.starts.Late.{Late}
-use Rattle.checker.specs.declared.starts.Dependent.{Dependent}
 use Rattle.checker.specs.Readings.{by_task, IsPrecededBy}
 use Rattle.checker.specs.Starts.{IsPredecessorUnfinished, AreReady, IsFirstLateAt, IsDependentAt}
 use Rattle.checker.specs.Starts.{IsPrecededByNone, IsBound}
@@ -426,9 +425,3 @@ ready_past rs i past task preceded = absurd (preceded_by_none rs i
     (λ other completes.
     let inside = at_within wait_completed rs i other completes in omega (arith, inside, past))
     task preceded)
-
--- where nothing is there whose predecessors must be complete
-pub ready_unless : (rs : List Record) (i : ℕ) (found : Option Dependent) (IsThere : Dependent → Type 0)
-    → MatchOption found (IsPrecededByNone rs i) IsThere → is_some found ≡ false → AreReady rs i
-ready_unless rs i None IsThere none is = λ task preceded. absurd (none task preceded)
-ready_unless rs i (Some dependent) IsThere there is = absurd (false≢true (sym is))

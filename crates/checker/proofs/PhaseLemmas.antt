@@ -14,7 +14,7 @@ use Rattle.ompt_events.specs.declared.fault.Fault.{Fault}
 use Rattle.ompt_events.specs.declared.fault.Fault.TheVariants.{Memory, Malformed}
 use Rattle.ompt_events.specs.declared.cause.Cause.TheVariants.{NotCurrent, Moved, TurnGap, StatusOrder}
 use Rattle.ompt_events.specs.declared.cause.Cause.TheVariants.{RegionOrder, TeamShort, NestedParallel}
-use Rattle.ompt_events.specs.declared.cause.Cause.TheVariants.{DepsPlace, ShareWrong, EntryTwice}
+use Rattle.ompt_events.specs.declared.cause.Cause.TheVariants.{DepsPlace, ShareWrong}
 use Rattle.ompt_events.specs.CauseNames.{cause_number, all_causes, before}
 use Rattle.ompt_events.specs.Causes.{HasCause, IsFreeOf, Shows, ShowsNowhere}
 use Rattle.ompt_events.specs.Faults.{IsFault, IsShownFault}

@@ -1,5 +1,5 @@
 -- A trace of version 1 that shows no cause can be upgraded: none of its tasks moves.
-use Rattle.std.proofs.Common.{◌≡◌, ◌∙◌, ℕ, List, Option, Some, None, sym, ap, arith, inl, inr}
+use Rattle.std.proofs.Common.{◌≡◌, ◌∙◌, ℕ, List, Some, None, sym, ap, arith, inl, inr}
 use Rattle.std.proofs.lemmas.Option.{none-some, same_Some}
 use Rattle.std.specs.Prelude.{Contains}
 use Rattle.ompt_events.specs.declared.records.Record.{Record}
@@ -8,7 +8,7 @@ use Rattle.ompt_events.specs.declared.records.Body.TheVariants.{TaskSchedule}
 use Rattle.ompt_events.specs.declared.cause.Cause.TheVariants.{CreatedTwice, Rootless, NotCurrent, Moved}
 use Rattle.ompt_events.specs.Traces.{IsTraceOf}
 use Rattle.ompt_events.specs.Records.{started, named, begun_root, created, made}
-use Rattle.ompt_events.specs.Places.{at, thread_at}
+use Rattle.ompt_events.specs.Places.{thread_at}
 use Rattle.ompt_events.specs.Tree.{IsRoot, IsExplicit}
 use Rattle.ompt_events.specs.Causes.{IsMade, unmade, rootless, moved}
 use Rattle.ompt_events.specs.Upgrades.{Moves, MovesNowhere}

@@ -1,5 +1,5 @@
 -- What is decided about one record, and what several workers find together.
-use Rattle.std.specs.Prelude.{ℕ, ◌≡◌, ◌<◌, ◌≤◌, ◌+◌, ◌*◌, ◌^◌, ◌⊎◌, ⊤, List, length, Contains, Option, Some}
+use Rattle.std.specs.Prelude.{ℕ, ◌≡◌, ◌<◌, ◌≤◌, ◌+◌, ◌*◌, ◌/◌, ◌⊎◌, ⊤, List, length, Option, Some}
 use Rattle.std.specs.Prelude.{None, Result, Ok, Err, MatchOption, option_and_then, slice_get}
 use Rattle.std.specs.Result.{result_unwrap_or}
 use Rattle.ompt_events.specs.declared.records.Record.{Record}
@@ -36,54 +36,39 @@ IsFirstOrNone reading found = MatchOption found ((i : ℕ) → AreComplete readi
 
 -- ---- the work
 
--- places in file order; at every other record all that must be complete is complete
-pub record AreStops (reading : Reading) (n : ℕ) (stops : List ℕ) : Type 0 where
-  pub each : (i : ℕ) → i < n → Contains stops i ⊎ AreComplete reading i
-  pub within : (k place : ℕ) → slice_get stops k ≡ Some place → place < n
-  pub rising : (k j place after : ℕ) → k < j → slice_get stops k ≡ Some place → slice_get stops j ≡ Some after
-      → place < after
-
 -- the view of what several workers decide
 pub record WorkView : Type 0 where
   pub records : List Record
-  pub stops : List ℕ
   pub workers : ℕ
 
 pub record IsWork (work : WorkView) : Type 0 where
-  pub stops : AreStops (by_task work.records) (length work.records) work.stops
   pub some : 1 ≤ work.workers
-  pub fits : work.workers < 2 ^ 32
+  pub few : work.workers ≤ 256
 
--- this worker, one of this many, decides the stop with this index: the index is its number plus a multiple
--- of the number of workers
-abbrev pub IsShared : ℕ → ℕ → ℕ → Type 0
-IsShared workers worker index = (turn : ℕ) × (index ≡ worker + turn * workers)
+-- the place at which the range of the worker with this number begins, and that of the one before it ends
+abbrev pub begin_of : WorkView → ℕ → ℕ
+begin_of work worker = worker * length work.records / work.workers
 
--- at the stop with this index all that must be complete is complete
-abbrev pub IsStopMet : Reading → List ℕ → ℕ → Type 0
-IsStopMet reading stops index = (place : ℕ) → slice_get stops index ≡ Some place → AreComplete reading place
+-- the record at i is in the range of this worker
+abbrev pub IsInRange : WorkView → ℕ → ℕ → Type 0
+IsInRange work worker i = (begin_of work worker ≤ i) × (i < begin_of work (worker + 1))
 
--- the first of the worker's stops at which something is unfinished
-pub record IsFirstOfShare (reading : Reading) (stops : List ℕ) (workers worker : ℕ) (finding : Finding) : Type
-    0 where
-  pub place : ℕ
-  pub stands : slice_get stops finding.stop ≡ Some place
-  pub violation : IsViolationAt reading place finding.why
-  pub shared : IsShared workers worker finding.stop
-  pub before : (index : ℕ) → index < finding.stop → IsShared workers worker index
-      → IsStopMet reading stops index
+-- the first record of the worker's range at which something is unfinished
+pub record IsFirstOfRange (work : WorkView) (worker : ℕ) (finding : Finding) : Type 0 where
+  pub in_range : IsInRange work worker finding.at
+  pub violation : IsViolationAt (by_task work.records) finding.at finding.why
+  pub before : (i : ℕ) → i < finding.at → IsInRange work worker i → AreComplete (by_task work.records) i
 
--- that stop, or all is complete at each of the worker's stops
-abbrev pub IsFinding : Reading → List ℕ → ℕ → ℕ → Option Finding → Type 0
-IsFinding reading stops workers worker found = MatchOption found
-    ((index : ℕ) → IsShared workers worker index → IsStopMet reading stops index)
-    (IsFirstOfShare reading stops workers worker)
+-- that record, or all is complete at each record of the worker's range
+abbrev pub IsFinding : WorkView → ℕ → Option Finding → Type 0
+IsFinding work worker found = MatchOption found
+    ((i : ℕ) → IsInRange work worker i → AreComplete (by_task work.records) i)
+    (IsFirstOfRange work worker)
 
 -- what a worker returns: its finding; or that it is out of memory; or that the gate refuses it, which the
 -- gate may
 abbrev pub IsOutcome : WorkView → (ℕ → Type 0) → ℕ → Result (Option Finding) WorkerFault → Type 0
-IsOutcome work may_refuse worker (Ok found) =
-    IsFinding (by_task work.records) work.stops work.workers worker found
+IsOutcome work may_refuse worker (Ok found) = IsFinding work worker found
 IsOutcome work may_refuse worker (Err Gate) = may_refuse worker
 IsOutcome work may_refuse worker (Err Memory) = ⊤
 
@@ -100,13 +85,13 @@ abbrev pub HaveAllDecided : List (Result (Option Finding) WorkerFault) → ℕ �
 HaveAllDecided outcomes n = (worker : ℕ) (fault : WorkerFault) → worker < n
     → slice_get outcomes worker ≡ Some (Err fault) → ⊥
 
--- of what the first n workers found, this is first in the order of the stops
+-- of what the first n workers found, this is first in file order
 pub record IsLeastFinding (outcomes : List (Result (Option Finding) WorkerFault)) (n : ℕ) (finding : Finding)
     : Type 0 where
   pub worker : ℕ
   pub is_found : found_by outcomes worker ≡ Some finding
   pub least : (other : ℕ) (found : Finding) → other < n → found_by outcomes other ≡ Some found
-      → finding.stop ≤ found.stop
+      → finding.at ≤ found.at
 
 -- that finding, or they found nothing
 abbrev pub IsLeastOf : List (Result (Option Finding) WorkerFault) → ℕ → Option Finding → Type 0
@@ -114,8 +99,8 @@ IsLeastOf outcomes n least = MatchOption least
     ((worker : ℕ) (found : Finding) → worker < n → found_by outcomes worker ≡ Some found → ⊥)
     (IsLeastFinding outcomes n)
 
--- of a finding, if there is one, and another, the one with the lesser stop
+-- of a finding, if there is one, and another, the one at the lesser place
 pub record IsLesserOf (least : Option Finding) (other lesser : Finding) : Type 0 where
   pub of_both : (lesser ≡ other) ⊎ (least ≡ Some lesser)
-  pub low : lesser.stop ≤ other.stop
-  pub low_too : (finding : Finding) → least ≡ Some finding → lesser.stop ≤ finding.stop
+  pub low : lesser.at ≤ other.at
+  pub low_too : (finding : Finding) → least ≡ Some finding → lesser.at ≤ finding.at

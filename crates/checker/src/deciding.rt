@@ -1,17 +1,16 @@
 //! Whether all that must be complete at a record is complete there.
-ghost use Rattle.std.specs.Prelude.{◌≡◌, ◌<◌, false, IfOk, IfErr, length};
+ghost use Rattle.std.specs.Prelude.{◌≡◌, ◌<◌, ◌≤◌, ◌^◌, IfOk, IfErr, length};
 ghost use Rattle.ompt_events.specs.declared.fault.Fault.TheVariants.{Memory};
 ghost use Rattle.checker.specs.Readings.{by_task};
-ghost use Rattle.checker.specs.Verdicts.{AreComplete};
-ghost use Rattle.checker.specs.Deciding.{IsDecided, IsFirstOrNone, AreStops};
+ghost use Rattle.checker.specs.Deciding.{IsDecided, IsFirstOrNone};
 
 use crate::clear::Clear;
 use crate::starts::Precedence;
 use crate::verdict::Why;
 use ompt_events::Fault;
-use std::alloc::{AllocError, Global};
+use std::alloc::Global;
 use std::marker::Model;
-use wait_coverage::{ends_wait, find_unfinished};
+use wait_coverage::find_unfinished;
 
 /// A trace without a cause, with the ledger lengths from which on its tasks are finished, and which tasks
 /// precede which.
@@ -44,12 +43,20 @@ impl<'a, 'r> Deciding<'a, 'r> {
         Ok(Deciding { clear, precedence })
     }
 
+    /// Returns how many records the trace has.
+    pub(crate) fn len(&self) -> usize
+        ensures value { result ≡ length self.now.run.records }
+        ensures few { result ≤ 2 ^ 22 }
+    {
+        self.clear.sound().run().len()
+    }
+
     /// Returns the first record at which a task that must be finished is not, and why it must be.
     pub(crate) fn first_violation(&self, alloc: Global) -> Result<Option<(usize, Why)>, Fault>
         ensures found { IfOk result (IsFirstOrNone (by_task self.now.run.records)) }
         ensures memory_alone { IfErr result (λ fault. fault ≡ Memory) }
     {
-        for at in 0..self.clear.sound().run().len() {
+        for at in 0..self.len() {
             if let Some(why) = self.violation_at(alloc, at)? {
                 return Ok(Some((at, why)));
             }
@@ -71,29 +78,5 @@ impl<'a, 'r> Deciding<'a, 'r> {
             Some(task) => Ok(Some(Why::Predecessor(task))),
             None => Ok(None),
         }
-    }
-
-    /// Returns the places, in file order, at which a wait ends, or at which a task that may have
-    /// predecessors starts or is complete. At every other place all that must be complete is complete.
-    pub(crate) fn find_stops(&self, alloc: Global) -> Result<Vec<u32>, AllocError>
-        ensures { IfOk result (λ stops. AreStops (by_task self.now.run.records)
-            (length self.now.run.records) stops.items) }
-    {
-        let mut stops = Vec::new(alloc);
-        for at in 0..self.clear.sound().run().len() {
-            if self.is_stop(at) {
-                stops.push(at as u32)?;
-            }
-        }
-        Ok(stops)
-    }
-
-    /// Returns false only if all that must be complete at the place is complete there.
-    fn is_stop(&self, at: usize) -> bool
-        requires { at < length self.now.run.records }
-        ensures { result ≡ false → AreComplete (by_task self.now.run.records) at }
-    {
-        let own = self.clear.sound().own();
-        ends_wait(self.clear.known(), own.number(at)) || self.precedence.has_dependent(at)
     }
 }

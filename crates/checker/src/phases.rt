@@ -1,10 +1,11 @@
 //! The phases of a check, in the order of their causes. A phase that excludes a cause fails with it, at the
 //! first record that shows it, if it occurs.
-ghost use Rattle.std.specs.Prelude.{◌≡◌, Ok, Err, IfOk, IfErr, OnOk};
+ghost use Rattle.std.specs.Prelude.{◌≡◌, ◌∷◌, [], Ok, Err, IfOk, IfErr, OnOk};
 ghost use Rattle.ompt_events.specs.declared.fault.Fault.TheVariants.{Memory};
-ghost use Rattle.ompt_events.specs.declared.cause.Cause.TheVariants.{NotCurrent, TurnGap, TargetTask};
+ghost use Rattle.ompt_events.specs.declared.cause.Cause.TheVariants.{SeqGap, CreatedTwice, Rootless, NotCurrent, TurnGap, TargetTask};
 ghost use Rattle.ompt_events.specs.CauseNames.{all_causes, before};
-ghost use Rattle.ompt_events.specs.Faults.{FindsFirst, IsShownFault};
+ghost use Rattle.ompt_events.specs.Causes.{IsFreeOf};
+ghost use Rattle.ompt_events.specs.Faults.{FindsFirst, IsFault, IsShownFault};
 ghost use Rattle.ompt_events.specs.Linearization.{IsLinearization, IsGreedy};
 ghost use Rattle.task_tree.specs.Families.{AreFamiliesOf};
 ghost use Rattle.checker.specs.Search.{IsClear, IsLeastFound, AreStatesOf, AreEdgesOf, IsKnownOf, state_causes, edge_causes};
@@ -109,7 +110,23 @@ pub(crate) fn families_of(alloc: Global, trace: &Trace) -> Result<Families, Faul
     ensures least { IfErr result (IsLeastFound trace.now.records) }
 {
     exclude(Cause::SeqGap, gap(trace))?;
-    let families = Families::build(alloc, trace)?;
+    families_without_gap(trace, Families::build(alloc, trace))
+}
+
+/// Returns the families that were built of the trace's tasks, or why there are none. Requires that SeqGap does
+/// not occur. Excludes CreatedTwice and Rootless too.
+pub(crate) fn families_without_gap(
+    trace: &Trace,
+    built: Result<Families, Fault>,
+) -> Result<Families, Fault>
+    requires gapless { IsFreeOf trace.now.records SeqGap }
+    requires families { IfOk built (AreFamiliesOf trace.now.records) }
+    requires fault { IfErr built (IsFault trace.now.records (CreatedTwice ∷ Rootless ∷ [])) }
+    ensures families { IfOk result (AreFamiliesOf trace.now.records) }
+    ensures clear { OnOk result (IsClear trace.now.records (before NotCurrent)) }
+    ensures least { IfErr result (IsLeastFound trace.now.records) }
+{
+    let families = built?;
     Ok(families)
 }
 

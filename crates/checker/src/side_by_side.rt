@@ -1,25 +1,25 @@
 //! The phases of a check on two threads: phases that do not need each other's results run side by side.
 ghost use denote.Param.Send.{IsSync};
-ghost use Rattle.std.specs.Prelude.{◌≡◌, Ok, Err, IfOk, IfErr, OnOk};
+ghost use Rattle.std.specs.Prelude.{◌≡◌, ◌∷◌, [], Ok, Err, IfOk, IfErr, OnOk};
 ghost use Rattle.ompt_events.specs.declared.fault.Fault.TheVariants.{Memory};
-ghost use Rattle.ompt_events.specs.declared.cause.Cause.TheVariants.{NotCurrent, TurnGap};
+ghost use Rattle.ompt_events.specs.declared.cause.Cause.TheVariants.{SeqGap, CreatedTwice, Rootless, NotCurrent, TurnGap};
 ghost use Rattle.ompt_events.specs.CauseNames.{all_causes, before};
-ghost use Rattle.ompt_events.specs.Faults.{FindsFirst, IsShownFault};
+ghost use Rattle.ompt_events.specs.Faults.{FindsFirst, IsFault, IsShownFault};
 ghost use Rattle.ompt_events.specs.Linearization.{IsLinearization, IsGreedy};
 ghost use Rattle.task_tree.specs.Families.{AreFamiliesOf};
 ghost use Rattle.checker.specs.Search.{IsClear, IsLeastFound, AreStatesOf, AreEdgesOf, IsKnownOf, state_causes, edge_causes};
 
 use crate::clear::Clear;
-use crate::phases::{ask, clear_order, edges_of, families_of, known_of, states_of};
+use crate::phases::{ask, clear_order, edges_of, families_without_gap, known_of, states_of};
 use crate::runs::Runs;
 use crate::sound::Sound;
 use crate::verdict::Order;
 use depend_edges::Edges;
-use ompt_events::{Fault, Trace};
+use ompt_events::{Cause, Fault, Trace, exclude};
 use std::alloc::Global;
 use std::marker::{Send, Sync};
 use std::thread::{Threads, join};
-use task_states::States;
+use task_states::{States, gap};
 use task_tree::Families;
 use teams::Teams;
 use wait_coverage::Known;
@@ -43,7 +43,7 @@ pub(crate) fn ask_on<R: Threads, A: Drop, F: Fn(Clear) -> Result<A, Fault>>(
     if workers <= 1 {
         return ask(alloc, trace, answer);
     }
-    let families = families_of(alloc, trace)?;
+    let families = families_on(rt, alloc, trace)?;
     ask_run_on(rt, alloc, trace, &families, answer)
 }
 
@@ -104,6 +104,27 @@ fn ask_sound_on<R: Threads, A: Drop, F: Fn(Clear) -> Result<A, Fault>>(
         order,
         known,
     })
+}
+
+/// Returns what `families_of` returns. The families are built while the numbers of the threads' records are
+/// looked at.
+fn families_on<R: Threads>(rt: &R, alloc: Global, trace: &Trace) -> Result<Families, Fault>
+    ensures families { IfOk result (AreFamiliesOf trace.now.records) }
+    ensures clear { OnOk result (IsClear trace.now.records (before NotCurrent)) }
+    ensures least { IfErr result (IsLeastFound trace.now.records) }
+{
+    let (gap, built) = both(
+        rt,
+        &|| -> Option<usize>
+            ensures { FindsFirst trace.entry.now.records SeqGap result }
+        { gap(trace) },
+        &|| -> Result<Families, Fault>
+            ensures families { IfOk result (AreFamiliesOf trace.entry.now.records) }
+            ensures fault { IfErr result (IsFault trace.entry.now.records (CreatedTwice ∷ Rootless ∷ [])) }
+        { Families::build(alloc, trace) },
+    );
+    exclude(Cause::SeqGap, gap)?;
+    families_without_gap(trace, built)
 }
 
 /// Returns what `states_of` and `edges_of` return, made side by side.

@@ -1,6 +1,6 @@
 //! Of the unfinished predecessors of what starts or is complete at a place, the one created first; and
 //! whether a given task is one of them.
-ghost use Rattle.std.specs.Prelude.{ℕ, ◌≡◌, ◌<◌, ◌+◌, ◌↔◌, List, IfOk, IfErr, IsTrue, MatchOption, Some, false, length, replicate, slice_get, slice_index, Contains};
+ghost use Rattle.std.specs.Prelude.{ℕ, ◌≡◌, ◌<◌, ◌+◌, ◌↔◌, List, IfOk, IfErr, IsTrue, MatchOption, Some, length, replicate, slice_get, slice_index, Contains};
 ghost use Rattle.ompt_events.specs.declared.fault.Fault.TheVariants.{Memory};
 ghost use Rattle.ompt_events.specs.declared.cause.Cause.TheVariants.{EntryTwice, LengthAhead};
 ghost use Rattle.ompt_events.specs.Causes.{IsFreeOf};
@@ -100,17 +100,6 @@ impl<'a, 'r> Precedence<'a, 'r> {
             latest,
             starts,
         })
-    }
-
-    /// Returns false only if each predecessor of what starts or is complete at the place is complete there.
-    pub(crate) fn has_dependent(&self, at: usize) -> bool
-        requires { at < length self.now.file.records }
-        ensures { result ≡ false → AreReady self.now.file.records at }
-    {
-        match &self.starts {
-            Some(starts) => self.dependent_at(starts.as_slice(), at).is_some(),
-            None => false,
-        }
     }
 
     /// Returns an unfinished predecessor of the explicit task that starts at the place, or of the taskwait

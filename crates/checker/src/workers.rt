@@ -1,11 +1,11 @@
-//! The check on several threads: workers share out the records of a trace without a cause. The phases
-//! before are in `side_by_side`.
-ghost use Rattle.std.specs.Prelude.{ℕ, ◌≡◌, ◌≢◌, ◌≤◌, ◌<◌, ◌^◌, ◌↔◌, Err, Some, IfOk, IfErr, length, slice_get};
+//! The check on several threads: workers share out the records of a trace without a cause, a range of the
+//! file for each. The phases before are in `side_by_side`.
+ghost use Rattle.std.specs.Prelude.{ℕ, ◌≡◌, ◌≢◌, ◌≤◌, ◌<◌, ◌↔◌, Err, Some, IfOk, IfErr, length, slice_get};
 ghost use denote.Param.Send.{IsSync};
 ghost use Rattle.ompt_events.specs.declared.fault.Fault.TheVariants.{Memory};
 ghost use Rattle.checker.specs.Readings.{by_task};
 ghost use Rattle.checker.specs.Verdicts.{IsVerdict};
-ghost use Rattle.checker.specs.Deciding.{IsFirstOrNone, IsFinding, IsOutcome, HaveAllDecided, IsLeastOf, IsLesserOf};
+ghost use Rattle.checker.specs.Deciding.{IsFirstOrNone, begin_of, IsFinding, IsOutcome, HaveAllDecided, IsLeastOf, IsLesserOf};
 
 use crate::checking::verdict_of;
 use crate::clear::Clear;
@@ -21,14 +21,15 @@ use std::thread::{Threads, map_indices};
 /// The most workers of a check.
 pub const MAX_WORKERS: u32 = 256;
 
-/// Returns the verdict of `check`, with the ends of waits and the starts of tasks decided by this many
-/// workers, 1 to [`MAX_WORKERS`], side by side. Each worker passes the gate once, before it decides; for a
-/// malformed trace no worker starts. With two workers or more some phases before run side by side too, two
-/// at a time: the states of tasks beside nesting, dependences and claims; and the order of the records
-/// beside the ledger lengths from which on tasks are finished. Such a thread is no worker, and passes no
-/// gate. A worker or a phase for which no thread can be made runs on the caller's. Fails for another number
-/// of workers, which is checked first; when out of memory; and if the gate refuses a worker. It names the
-/// refused worker with the least number, unless memory runs out.
+/// Returns the verdict of `check`, with the records of the file decided by this many workers, 1 to
+/// [`MAX_WORKERS`], side by side, a range for each. Each worker passes the gate once, before it decides; for
+/// a malformed trace no worker starts. With two workers or more some phases before run side by side too, two
+/// at a time: the numbers of the threads' records beside the families of tasks; the states of tasks beside
+/// nesting, dependences and claims; and the order of the records beside the ledger lengths from which on
+/// tasks are finished. Such a thread is no worker, and passes no gate. A worker or a phase for which no
+/// thread can be made runs on the caller's. Fails for another number of workers, which is checked first; when
+/// out of memory; and if the gate refuses a worker. It names the refused worker with the least number, unless
+/// memory runs out.
 pub fn check_on<R: Threads + Sync, G: Gate + Sync>(
     rt: &R,
     alloc: Global,
@@ -51,7 +52,7 @@ pub fn check_on<R: Threads + Sync, G: Gate + Sync>(
         trace,
         workers,
         &|clear: Clear| -> Result<Result<Verdict, u32>, Fault>
-            requires { IsSync R.row × IsSync G.row × (1 ≤ workers) }
+            requires { IsSync R.row × IsSync G.row × (1 ≤ workers) × (workers ≤ 256) }
             ensures verdict { IfOk result (λ answer. IfOk answer (IsVerdict clear.entry.run.records)) }
             ensures refused { IfOk result (λ answer. IfErr answer (λ worker. (worker < workers)
                 × G.may_refuse gate.entry.now worker)) }
@@ -73,7 +74,8 @@ fn verdict_on<R: Threads + Sync, G: Gate + Sync>(
     workers: u32,
     gate: &G,
 ) -> Result<Result<Verdict, u32>, Fault>
-    requires { 1 ≤ workers }
+    requires some { 1 ≤ workers }
+    requires few { workers ≤ 256 }
     ensures verdict { IfOk result (λ answer. IfOk answer (IsVerdict clear.entry.run.records)) }
     ensures refused { IfOk result (λ answer. IfErr answer (λ worker. (worker < workers)
         × G.may_refuse gate.now worker)) }
@@ -94,17 +96,16 @@ fn violation_on<R: Threads + Sync, G: Gate + Sync>(
     workers: u32,
     gate: &G,
 ) -> Result<Result<Option<(usize, Why)>, u32>, Fault>
-    requires { 1 ≤ workers }
+    requires some { 1 ≤ workers }
+    requires few { workers ≤ 256 }
     ensures found { IfOk result (λ answer. IfOk answer (IsFirstOrNone (by_task clear.now.run.records))) }
     ensures refused { IfOk result (λ answer. IfErr answer (λ worker. (worker < workers)
         × G.may_refuse gate.now worker)) }
     ensures memory_alone { IfErr result (λ fault. fault ≡ Memory) }
 {
     let deciding = Deciding::of(alloc, clear)?;
-    let stops = deciding.find_stops(alloc)?;
     let work = Work {
         deciding: &deciding,
-        stops: stops.as_slice(),
         workers,
     };
     decide_all(rt, alloc, &work, gate)
@@ -114,7 +115,6 @@ fn violation_on<R: Threads + Sync, G: Gate + Sync>(
 #[derive(Drop)]
 struct Work<'a, 'r> {
     deciding: &'a Deciding<'a, 'r>,
-    stops: &'a [u32],
     workers: u32,
 }
 
@@ -125,21 +125,19 @@ impl<'a, 'r> Model for Work<'a, 'r> {
 
     ghost view = { λ work. record {
       records = work.deciding.now.run.records;
-      stops = work.stops.now;
       workers = work.workers;
     } };
 
     ghost invariant = { λ work. IsWork (record {
       records = work.deciding.now.run.records;
-      stops = work.stops.now;
       workers = work.workers;
     }) };
 }
 
-/// What a worker finds: a stop, by its index, and why it is a violation.
+/// What a worker finds: the place of a record, and why the record is a violation.
 #[derive(Clone, Copy)]
 struct Finding {
-    stop: usize,
+    at: usize,
     why: Why,
 }
 
@@ -170,61 +168,65 @@ fn decide_all<R: Threads + Sync, G: Gate + Sync>(
         alloc,
         work.workers as usize,
         &|worker| -> Result<Option<Finding>, WorkerFault>
-            requires { (worker < work.now.workers) × (work.now.workers < 2 ^ 32) }
+            requires { (worker < work.now.workers) × (work.now.workers ≤ 256) }
             ensures { IsOutcome work.entry.now (G.may_refuse gate.entry.now) worker result }
-        { decide_share(alloc, work, gate, worker) },
+        { decide_range(alloc, work, gate, worker) },
     )?;
     match least_of(findings.as_slice()) {
         Ok(None) => Ok(Ok(None)),
-        Ok(Some(finding)) => Ok(Ok(Some((work.stops[finding.stop] as usize, finding.why)))),
+        Ok(Some(finding)) => Ok(Ok(Some((finding.at, finding.why)))),
         Err((worker, WorkerFault::Gate)) => Ok(Err(worker as u32)),
         Err((_, WorkerFault::Memory)) => Err(Fault::Memory),
     }
 }
 
 /// Returns what the worker with this number finds. Fails if the gate refuses it, or when out of memory.
-fn decide_share<G: Gate>(
+fn decide_range<G: Gate>(
     alloc: Global,
     work: &Work,
     gate: &G,
     worker: usize,
 ) -> Result<Option<Finding>, WorkerFault>
-    requires { (worker < work.now.workers) × (work.now.workers < 2 ^ 32) }
+    requires { (worker < work.now.workers) × (work.now.workers ≤ 256) }
     ensures { IsOutcome work.now (G.may_refuse gate.now) worker result }
 {
     if !gate.pass(worker as u32) {
         return Err(WorkerFault::Gate);
     }
-    match work.find_in_share(alloc, worker) {
+    match work.find_in_range(alloc, worker) {
         Ok(found) => Ok(found),
         Err(_) => Err(WorkerFault::Memory),
     }
 }
 
 impl Work<'_, '_> {
-    /// Returns the first stop of the worker with this number that is a violation. Its stops are those whose
-    /// index modulo the number of workers is its own number, so that a trace which repeats itself is shared
-    /// out evenly.
-    fn find_in_share(&self, alloc: Global, worker: usize) -> Result<Option<Finding>, Fault>
-        requires { worker < self.now.workers }
-        ensures found { IfOk result
-            (IsFinding (by_task self.now.records) self.now.stops self.now.workers worker) }
+    /// Returns the first violation in the range of the worker with this number.
+    fn find_in_range(&self, alloc: Global, worker: usize) -> Result<Option<Finding>, Fault>
+        requires { (worker < self.now.workers) × (self.now.workers ≤ 256) }
+        ensures found { IfOk result (IsFinding self.now worker) }
         ensures memory_alone { IfErr result (λ fault. fault ≡ Memory) }
     {
-        let mut stop = worker;
-        while stop < self.stops.len() {
-            let at = self.stops[stop] as usize;
+        for at in self.begin(worker)..self.begin(worker + 1) {
             if let Some(why) = self.deciding.violation_at(alloc, at)? {
-                return Ok(Some(Finding { stop, why }));
+                return Ok(Some(Finding { at, why }));
             }
-            stop += self.workers as usize;
         }
         Ok(None)
     }
+
+    /// Returns the place at which the range of the worker with this number begins, where that of the worker
+    /// before it ends. The lengths of two ranges differ by one record at most.
+    fn begin(&self, worker: usize) -> usize
+        requires { worker ≤ self.now.workers }
+        ensures begin { result ≡ begin_of self.now worker }
+        ensures within { result ≤ length self.now.records }
+    {
+        worker * self.deciding.len() / self.workers as usize
+    }
 }
 
-/// Returns the finding that is first in the order of the stops. Fails with the first worker that decided
-/// nothing, and why.
+/// Returns the finding that is first in file order. Fails with the first worker that decided nothing, and
+/// why.
 fn least_of(
     findings: &[Result<Option<Finding>, WorkerFault>],
 ) -> Result<Option<Finding>, (usize, WorkerFault)>
@@ -243,12 +245,12 @@ fn least_of(
     Ok(least)
 }
 
-/// Returns the one that is first in the order of the stops: of a finding, if there is one, and another.
+/// Returns the one that is first in file order: of a finding, if there is one, and another.
 fn lesser(least: Option<Finding>, other: Finding) -> Finding
     ensures { IsLesserOf least other result }
 {
     match least {
-        Some(finding) if finding.stop <= other.stop => finding,
+        Some(finding) if finding.at <= other.at => finding,
         _ => other,
     }
 }

@@ -1,5 +1,5 @@
 -- What is printed, to the byte. Each text is one line.
-use Rattle.std.specs.Prelude.{ℕ, ◌+◌, ◌++◌, List, length, count_by, is_some, codes, decimal, slice_get}
+use Rattle.std.specs.Prelude.{◌≡◌, ℕ, ◌+◌, ◌++◌, List, length, count_by, is_some, codes, decimal, slice_get}
 use Rattle.std.specs.Option.{option_map_or, option_or, unwrap_or}
 use Rattle.ompt_events.specs.declared.records.Record.{Record}
 use Rattle.ompt_events.specs.Regions.{ends_wait}
@@ -27,6 +27,7 @@ use Rattle.taskaudit.specs.declared.work.Outcome.{Outcome}
 use Rattle.taskaudit.specs.declared.work.Outcome.TheVariants as outcome
 use Rattle.taskaudit.specs.declared.work.AuditFault.{AuditFault}
 use Rattle.taskaudit.specs.declared.work.AuditFault.TheVariants as fault
+use Rattle.taskaudit.specs.declared.report.Counts.{Counts}
 
 -- how many explicit tasks the records create
 abbrev pub creates_in : List Record → ℕ
@@ -35,6 +36,12 @@ creates_in rs = count_by (λ r. is_some (creation r.body)) rs
 -- how many regions end that wait for tasks
 abbrev pub waits_in : List Record → ℕ
 waits_in rs = count_by (λ r. ends_wait r.body) rs
+
+-- what the report of a yes counts
+pub record AreCounts (rs : List Record) (counts : Counts) : Type 0 where
+  pub entries : counts.entries ≡ entries_in rs
+  pub tasks : counts.tasks ≡ creates_in rs
+  pub waits : counts.waits ≡ waits_in rs
 
 -- where a record stands, in words
 abbrev pub place_text : ℕ → ℕ → ℕ → List ℕ

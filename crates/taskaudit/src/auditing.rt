@@ -1,22 +1,23 @@
 //! The audit of a file, with its report alone or with an order that shows the verdict, on one thread or on
 //! several.
-ghost use Rattle.std.specs.Prelude.{◌≡◌, ◌≢◌, ◌≤◌, ◌⊎◌, ◌↔◌, Err, IfOk, IfErr, OnOk, take};
+ghost use Rattle.std.specs.Prelude.{◌≡◌, ◌≢◌, ◌≤◌, ◌⊎◌, ◌↔◌, Err, IfOk, IfErr, IfSome, OnOk, take};
 ghost use Rattle.std.specs.Io.KnownBytes.{Appends};
+ghost use Rattle.std.specs.Thread.{IsSync};
 ghost use Rattle.certificate.specs.Counts.{breaks_written};
 ghost use Rattle.checker.specs.Verdicts.{IsVerdict};
 ghost use Rattle.taskaudit.specs.Audits.{Prints, Reports, Leaves, LeavesOn, IsNoCrew, IsOutOfMemory, IsOfCrew, IsWriteFault, IsReadRightly, IsReadRightlyOn};
 ghost use Rattle.taskaudit.specs.Devices.{TellsDevices, TellsDevicesAhead, AsksForTurns, written_of};
-ghost use Rattle.taskaudit.specs.Reports.{outcome_of};
+ghost use Rattle.taskaudit.specs.Reports.{AreCounts, outcome_of};
 
 use crate::order::shown_text;
-use crate::report::report_text;
+use crate::report::{Counts, counts_of, report_by};
 use crate::work::{AuditFault, Outcome, Shown};
 use certificate::{Sink, Source, WriteFault, read, read_on, write_bytes};
 use checker::{CheckFault, Gate, MAX_WORKERS, Verdict, check, check_on, check_with_counter};
 use ompt_events::Trace;
 use std::alloc::Global;
 use std::mem::forget;
-use std::thread::Threads;
+use std::thread::{Threads, join};
 
 /// Reads a trace file to its end, checks it, and writes what is shown of its verdict: the report alone, or
 /// behind it also an order that shows it, of a yes one that the file allows, of a no one in which the named
@@ -126,7 +127,7 @@ fn answer(alloc: Global, shown: Shown, trace: &Trace) -> Result<(Verdict, Vec<u8
     ensures memory { IfErr result IsOutOfMemory }
 {
     match shown {
-        Shown::Report => reported(alloc, check(alloc, trace), trace),
+        Shown::Report => reported(alloc, check(alloc, trace), trace, None),
         Shown::Order => {
             let (verdict, counter) = check_with_counter(alloc, trace).map_err(AuditFault::Check)?;
             let text = shown_text(alloc, trace, &verdict, &counter)?;
@@ -146,23 +147,56 @@ fn answer_on<R: Threads + Sync, G: Gate + Sync>(
     ensures text { IfOk result (λ answer. Prints Shown.Report trace.now.records answer.0 answer.1.items) }
     ensures fault { IfErr result (IsOfCrew crew.entry.workers (G.may_refuse crew.entry.gate.now)) }
 {
-    let found = check_on(crew.threads, alloc, trace, crew.workers, crew.gate);
-    reported(alloc, found, trace)
+    let (counts, found) = found_on(alloc, crew, trace);
+    reported(alloc, found, trace, counts)
 }
 
-/// The verdict that was found, and its report.
+/// Returns the verdict on the trace that the workers of the crew find. With two workers or more, what the
+/// report of a yes counts is counted at the same time, in a thread that is no worker and passes no gate.
+fn found_on<R: Threads + Sync, G: Gate + Sync>(
+    alloc: Global,
+    crew: Crew<R, G>,
+    trace: &Trace,
+) -> (Option<Counts>, Result<Verdict, CheckFault>)
+    requires { (1 ≤ crew.workers) × (crew.workers ≤ 256) }
+    ensures counts { IfSome result.0 (AreCounts trace.now.records) }
+    ensures verdict { IfOk result.1 (IsVerdict trace.now.records) }
+    ensures fault { IfErr result.1 (λ fault.
+        IsOfCrew crew.entry.workers (G.may_refuse crew.entry.gate.now) (AuditFault.Check fault)) }
+{
+    if crew.workers == 1 {
+        return (None, check_on(crew.threads, alloc, trace, 1, crew.gate));
+    }
+    let (counts, found) = join(
+        crew.threads,
+        || -> Counts
+            ensures { AreCounts trace.entry.now.records result }
+        { counts_of(trace.records()) },
+        || -> Result<Verdict, CheckFault>
+            requires { IsSync R.row × IsSync G.row × (1 ≤ crew.workers) × (crew.workers ≤ 256) }
+            ensures verdict { IfOk result (IsVerdict trace.entry.now.records) }
+            ensures fault { IfErr result (λ fault.
+                IsOfCrew crew.entry.workers (G.may_refuse crew.entry.gate.now) (AuditFault.Check fault)) }
+        { check_on(crew.threads, alloc, trace, crew.workers, crew.gate) },
+    );
+    (Some(counts), found)
+}
+
+/// Returns the verdict that was found, and its report, from the counts if they are given.
 fn reported(
     alloc: Global,
     found: Result<Verdict, CheckFault>,
     trace: &Trace,
+    counts: Option<Counts>,
 ) -> Result<(Verdict, Vec<u8>), AuditFault>
-    requires { IfOk found (IsVerdict trace.now.records) }
+    requires found { IfOk found (IsVerdict trace.now.records) }
+    requires counts { IfSome counts (AreCounts trace.now.records) }
     ensures verdict { IfOk result (λ answer. IsVerdict trace.now.records answer.0) }
     ensures text { IfOk result (λ answer. Prints Shown.Report trace.now.records answer.0 answer.1.items) }
     ensures fault { IfErr result (λ fault. (fault ≡ AuditFault.Memory)
         ⊎ ((f : CheckFault) × (found ≡ Err f) × (fault ≡ AuditFault.Check f))) }
 {
     let verdict = found.map_err(AuditFault::Check)?;
-    let text = report_text(alloc, &verdict, trace)?;
+    let text = report_by(alloc, &verdict, trace, counts)?;
     Ok((verdict, text.into_bytes()))
 }

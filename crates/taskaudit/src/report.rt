@@ -1,10 +1,9 @@
 //! What is printed of a verdict or a fault, and the exit statuses.
-ghost use Rattle.std.specs.Prelude.{◌≡◌, ◌<◌, ◌≤◌, ◌^◌, IfOk, IsOkUnless, Some, length, string_bytes};
-ghost use Rattle.ompt_events.specs.Causes.{entries_in};
+ghost use Rattle.std.specs.Prelude.{◌≡◌, ◌<◌, ◌≤◌, ◌^◌, IfOk, IfSome, IsOkUnless, Some, length, string_bytes};
 ghost use Rattle.ompt_events.specs.Limits.{max_records};
 ghost use Rattle.checker.specs.Verdicts.{IsVerdict};
 ghost use Rattle.clap.specs.Words.{kind_of};
-ghost use Rattle.taskaudit.specs.Reports.{report_of, fault_text_of, yes_text, no_text, late_text, dependent_at, malformed_text, place_text, record_place, creates_in, waits_in};
+ghost use Rattle.taskaudit.specs.Reports.{AreCounts, report_of, fault_text_of, yes_text, no_text, late_text, dependent_at, malformed_text, place_text, record_place};
 ghost use Rattle.taskaudit.specs.Statuses.{fault_status_of, usage_status_of};
 
 use crate::work::AuditFault;
@@ -31,15 +30,30 @@ pub const WRONG_WORDS: u8 = 4;
 /// The exit status where memory ran out, or a thread could not be started.
 const NO_MEMORY: u8 = 5;
 
-/// The report of the trace's verdict: one line, with its line feed.
+/// Returns the report of the trace's verdict: one line, with its line feed.
 pub fn report_text(alloc: Global, verdict: &Verdict, trace: &Trace) -> Result<String, AuditFault>
     requires { IsVerdict trace.now.records verdict.now }
     ensures text { IfOk result (λ text. string_bytes text ≡ report_of trace.now.records verdict.now) }
     ensures memory { IsOkUnless result AuditFault.Memory }
 {
+    report_by(alloc, verdict, trace, None)
+}
+
+/// Returns the same, from the counts if they are given. Else the records are counted here, only for a yes.
+pub(crate) fn report_by(
+    alloc: Global,
+    verdict: &Verdict,
+    trace: &Trace,
+    counts: Option<Counts>,
+) -> Result<String, AuditFault>
+    requires verdict { IsVerdict trace.now.records verdict.now }
+    requires counts { IfSome counts (AreCounts trace.now.records) }
+    ensures text { IfOk result (λ text. string_bytes text ≡ report_of trace.now.records verdict.now) }
+    ensures memory { IsOkUnless result AuditFault.Memory }
+{
     let records = trace.records();
     let text = match verdict {
-        Verdict::Yes { .. } => yes_text(alloc, records),
+        Verdict::Yes { .. } => yes_text(alloc, records, counts_or(counts, records)),
         Verdict::No {
             at,
             why: Why::Unfinished(task),
@@ -53,8 +67,9 @@ pub fn report_text(alloc: Global, verdict: &Verdict, trace: &Trace) -> Result<St
     text.map_err(|_| AuditFault::Memory)
 }
 
-/// The report of a yes.
-fn yes_text(alloc: Global, records: &[Record]) -> Result<String, AllocError>
+/// Returns the report of a yes.
+fn yes_text(alloc: Global, records: &[Record], counts: Counts) -> Result<String, AllocError>
+    requires { AreCounts records.now counts }
     ensures { IfOk result (λ text. string_bytes text ≡ yes_text records.now) }
 {
     let count = records.len();
@@ -62,23 +77,33 @@ fn yes_text(alloc: Global, records: &[Record]) -> Result<String, AllocError>
         entries,
         tasks,
         waits,
-    } = counts_of(records);
+    } = counts;
     format!(in alloc; "yes: {count} records, {entries} entries, {tasks} tasks, {waits} waits\n")
 }
 
 /// How many records finish a task, and so make an entry of the ledger; how many explicit tasks they create;
 /// and how many regions end that wait for tasks.
-struct Counts {
+#[derive(Clone, Copy)]
+pub(crate) struct Counts {
     entries: usize,
     tasks: usize,
     waits: usize,
 }
 
-/// All three in one walk.
-fn counts_of(records: &[Record]) -> Counts
-    ensures entries { result.entries ≡ entries_in records.now }
-    ensures tasks { result.tasks ≡ creates_in records.now }
-    ensures waits { result.waits ≡ waits_in records.now }
+/// Returns the counts that are given, or makes them.
+fn counts_or(counts: Option<Counts>, records: &[Record]) -> Counts
+    requires { IfSome counts (AreCounts records.now) }
+    ensures { AreCounts records.now result }
+{
+    match counts {
+        Some(counts) => counts,
+        None => counts_of(records),
+    }
+}
+
+/// Returns all three counts, made in one walk.
+pub(crate) fn counts_of(records: &[Record]) -> Counts
+    ensures { AreCounts records.now result }
 {
     let mut entries = 0;
     let mut tasks = 0;

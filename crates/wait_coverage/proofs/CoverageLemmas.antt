@@ -1,11 +1,11 @@
 -- The ends of waits, and the credit that each waits for.
 use Rattle.std.proofs.Common.{◌≡◌, ◌∙◌, ℕ, ◌<◌, ◌+◌, List, [], ◌∷◌, ◌++◌, length, get_or, Option, Some, None}
 use Rattle.std.proofs.Common.{refl, sym, ap, subst, arith, inl, inr}
-use Rattle.std.proofs.lemmas.Bool.{cases_eq, cases_lt, false≢true}
+use Rattle.std.proofs.lemmas.Bool.{cases_eq, cases_lt}
 use Rattle.std.specs.Global.{Vec}
 use Rattle.std.proofs.lemmas.Option.{same_Some, slice_get_within, slice_get-get_or}
 use Rattle.std.proofs.lemmas.List.{length_push}
-use Rattle.std.specs.Prelude.{◌↔◌, IsTrue, is_some, slice_get, take, Contains, MatchOption}
+use Rattle.std.specs.Prelude.{slice_get, take, Contains, MatchOption}
 use Rattle.ompt_events.specs.declared.records.Record.{Record}
 use Rattle.ompt_events.specs.declared.names.SyncKind.{SyncKind}
 use Rattle.ompt_events.specs.declared.names.SyncKind.TheVariants.{Taskwait, Taskgroup}
@@ -88,12 +88,6 @@ wait_end rs tasks i wait (groups {parent = parent} {begin = begin} is_parent the
     (parent, begin, Taskgroup, there, refl)
 wait_end rs tasks i wait (meets {own = own} {begin = begin} {kind = kind} is_own there barrier begins) =
     (own, begin, kind, there, barrier_waits kind barrier)
-
--- so a look for what the record waits for tells whether it ends a wait
-pub ends_told : (rs : List Record) (tasks : List ℕ) (i : ℕ) (found : Option Wait)
-    → MatchOption found (EndsNoWaitAt rs i) (IsWaitAt rs tasks i) → IsTrue (is_some found) ↔ IsEnd rs i
-ends_told rs tasks i None none = (λ never. absurd (false≢true never), λ is. absurd (no_end rs i none is))
-ends_told rs tasks i (Some wait) is = (λ _. wait_end rs tasks i wait is, λ _. refl)
 
 pub ends_start : (own : OwnView) (ends : List ℕ) → ends ≡ [] → AreWaitEnds own 0 ends
 ends_start own ends empty = record {

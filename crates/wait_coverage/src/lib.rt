@@ -23,4 +23,4 @@ mod unfinished;
 mod waits;
 
 pub use coverage::{CoverFault, Coverage};
-pub use unfinished::{Known, covers_unfinished, ends_wait, find_known, find_unfinished};
+pub use unfinished::{Known, covers_unfinished, find_known, find_unfinished};

@@ -8,7 +8,6 @@ ghost use Rattle.wait_coverage.specs.Done.{IsDoneView, AreDone, AreChildrenDone}
 ghost use Rattle.wait_coverage.specs.Known.{AreHeldFrom, AreCreditLengths};
 ghost use Rattle.wait_coverage.specs.Limits.{IsEndLimit};
 ghost use Rattle.wait_coverage.specs.Spans.{IsCoverComplete};
-ghost use Rattle.wait_coverage.specs.Coverage.{IsEnd};
 ghost use Rattle.wait_coverage.specs.Waits.{IsWaitAt, AreAwaited, IsCoveredUnfinished, IsFirstCoveredUnfinished, waiting};
 
 use crate::done::Done;
@@ -145,15 +144,6 @@ pub fn find_unfinished(alloc: Global, known: &Known, number: usize) -> Result<Op
 {
     let _done = known.done();
     Ok(unfinished_at(alloc, known, number)?)
-}
-
-/// Returns whether the record with this number in the tasks' own order ends a region that waits for tasks
-/// (OpenMP 5.2, 15.3 to 15.5).
-pub fn ends_wait(known: &Known, number: usize) -> bool
-    requires { number < length known.now.done.teams.run.records }
-    ensures { IsTrue result ↔ IsEnd known.now.done.teams.run.records number }
-{
-    wait_at(known.done().teams(), number).is_some()
 }
 
 /// Returns, of the tasks that the end with this number covers and that are unfinished there, the one

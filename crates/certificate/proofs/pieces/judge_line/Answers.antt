@@ -1,5 +1,4 @@
-use Rattle.std.proofs.Common.{take, sym, arith}
-use Rattle.std.proofs.lemmas.Result.{err_from_is_err_and}
+use Rattle.std.proofs.Common.{take, arith}
 use Rattle.certificate.proofs.PieceLemmas.{begins_line}
 use Rattle.certificate.proofs.pieces.judge_line.Goals as goal
 

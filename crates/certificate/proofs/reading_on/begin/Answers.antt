@@ -60,7 +60,7 @@ returns-clause-after c =
     let at : LineFeedAt text (Some c.in-Some.len) = rw c.bytes-text.ensures.bytes at c.in-Some.ensures in
     let first = waits_first known left room text old c.requires.pieces waits in
     let there =
-    header_taken known old.line old.kept c.take_header.new.kept text old.block.waiting len left
+    header_taken known old.line old.kept c.take_header.new.self text old.block.waiting len left
     c.requires.line at c.if-len-le-MAX_LINE.true
     ((rw c.bytes-text.ensures.bytes at c.in_ok-take_header.ensures) (ok_not_err _ Memory))
     first.between in
@@ -75,7 +75,7 @@ returns-clause-after c =
     record {
       bytes = [];
       judged =
-          subst (λ (ps : List Piece). AreJudged c.take_header.new.kept.version ps []) (sym c.requires.pieces)
+          subst (λ (ps : List Piece). AreJudged c.take_header.new.self.version ps []) (sym c.requires.pieces)
           refl;
       between = rw c.skip.ensures.waiting there;
       few = rw c.skip.ensures.waiting few;
@@ -84,8 +84,8 @@ returns-clause-after c =
 
 pub returns-clause-ready : goal.returns-clause-ready
 returns-clause-ready c =
-    let counted : IsLineCounted 2 c.take_header.new.kept = search rules in
-    let version : c.take_header.new.kept.version ≤ newest_version = search rules in
+    let counted : IsLineCounted 2 c.take_header.new.self = search rules in
+    let version : c.take_header.new.self.version ≤ newest_version = search rules in
     record {
       in_hand = record {
         low = omega arith;
@@ -95,7 +95,7 @@ returns-clause-ready c =
         pending = record {
           bytes = [];
           judged =
-              subst (λ (ps : List Piece). AreJudged c.take_header.new.kept.version ps [])
+              subst (λ (ps : List Piece). AreJudged c.take_header.new.self.version ps [])
               (sym c.requires.pieces) refl;
           some = λ some. absurd (omega (arith, ap length c.requires.pieces));
         };

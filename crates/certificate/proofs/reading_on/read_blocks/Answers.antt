@@ -1,4 +1,5 @@
 use Rattle.std.proofs.Common.{◌≡◌, Ok, Some, None, refl, arith, ap}
+use Rattle.lines.specs.declared.cause.ReadCause.TheVariants.{Memory}
 use Rattle.certificate.specs.Blocks.{BlockView}
 use Rattle.certificate.specs.Formats.{fault_in}
 use Rattle.certificate.specs.ReadingOn.{room_of}
@@ -38,23 +39,42 @@ rounds-preserved g c =
       met = call.met 0 (g.S.Source.agains c.args.source.now) (g.S.Source.breaks c.args.source.now) now.met;
     }
 
-pub returns-in-Ok-false-clause-file : goal.returns-in-Ok-false-clause-file
-returns-in-Ok-false-clause-file g c =
+pub returns-in-Ok-into_trace-clause-file : goal.returns-in-Ok-into_trace-clause-file
+returns-in-Ok-into_trace-clause-file g c =
     let now = c.rounds.invariant in
     let known = g.S.Source.remaining c.args.source.now in
     let room = room_of c.args.workers c.args.block in
-    answer_trace known room c.into_trace.result (g.S.Source.remaining c.round.new.source)
-    (rw c.into_trace.ensures
-    (rw c.in-Ok-false.field-0-test at (c.in-Ok-false.ensures.after known room now.room now.waits)))
+    let ended =
+    rw c.in-Ok-false.field-0-test at (c.in-Ok-false.ensures.after known room now.room now.waits) in
+    answer_trace known room c.in-Ok-into_trace.trace (g.S.Source.remaining c.round.new.source)
+    (rw c.in-Ok-into_trace.ensures ended.0)
 
-pub returns-in-Ok-false-clause-device : goal.returns-in-Ok-false-clause-device
-returns-in-Ok-false-clause-device g c =
+pub returns-in-Ok-into_trace-clause-device : goal.returns-in-Ok-into_trace-clause-device
+returns-in-Ok-into_trace-clause-device g c =
     let call = c.in-Ok-false.ensures in
     let agains = g.S.Source.agains c.args.source.now in
     let breaks = g.S.Source.breaks c.args.source.now in
     reads_ahead None c.round.new.ahead agains breaks (g.S.Source.agains c.round.new.source)
     (g.S.Source.breaks c.round.new.source) (call.met 0 agains breaks c.rounds.invariant.met)
     (call.ended (ap Ok c.in-Ok-false.field-0-test))
+
+pub returns-in-Err-into_trace-clause-file : goal.returns-in-Err-into_trace-clause-file
+returns-in-Err-into_trace-clause-file g c =
+    let now = c.rounds.invariant in
+    let known = g.S.Source.remaining c.args.source.now in
+    let room = room_of c.args.workers c.args.block in
+    let ended =
+    rw c.in-Ok-false.field-0-test at (c.in-Ok-false.ensures.after known room now.room now.waits) in
+    answer_fault known room (fault_in c.round.new.ahead.line Memory)
+    (g.S.Source.remaining c.round.new.source) ended.1
+
+pub returns-in-Err-into_trace-clause-device : goal.returns-in-Err-into_trace-clause-device
+returns-in-Err-into_trace-clause-device g c =
+    let call = c.in-Ok-false.ensures in
+    let agains = g.S.Source.agains c.args.source.now in
+    let breaks = g.S.Source.breaks c.args.source.now in
+    reads_ahead (Some Memory) c.round.new.ahead agains breaks (g.S.Source.agains c.round.new.source)
+    (g.S.Source.breaks c.round.new.source) (call.met 0 agains breaks c.rounds.invariant.met) tt
 
 pub returns-in-Err-round-clause-file : goal.returns-in-Err-round-clause-file
 returns-in-Err-round-clause-file g c =

@@ -1,4 +1,4 @@
-use Rattle.std.proofs.Common.{◌∙◌, Some, refl, sym, ap, subst, arith, inl, inr}
+use Rattle.std.proofs.Common.{◌∙◌, Some, refl, sym, subst, arith, inl, inr}
 use Rattle.std.proofs.lemmas.Bool.{false≢true}
 use Rattle.std.proofs.lemmas.Result.{IfOk-weaker}
 use Rattle.std.specs.Prelude.{◌≡◌, ◌↔◌, IfOk, IsTrue, slice_get}
@@ -6,7 +6,6 @@ use Rattle.ompt_events.specs.declared.cause.Cause.TheVariants.{EntryTwice, Lengt
 use Rattle.task_tree.specs.Runs.{RunView}
 use Rattle.task_tree.specs.Own.{OwnView}
 use Rattle.task_tree.proofs.ShownLemmas.{own_long}
-use Rattle.teams.specs.Teams.{own_of}
 use Rattle.wait_coverage.specs.Waits.{IsCoveredUnfinished}
 use Rattle.checker.specs.Readings.{by_task}
 use Rattle.checker.specs.Verdicts.{IsCoveredUnfinishedBy, IsUnfinished}

@@ -3,7 +3,7 @@ use Rattle.std.proofs.lemmas.Result.{err_from_is_err_and}
 use Rattle.ompt_events.specs.declared.cause.Cause.TheVariants.{NestedParallel, DepsPlace, ShareWrong}
 use Rattle.ompt_events.specs.Causes.{IsFreeOf}
 use Rattle.ompt_events.specs.Faults.{FindsFirst, IsShownFault}
-use Rattle.task_tree.specs.Own.{OwnView, IsOwn, IsOwnFault, of_claims}
+use Rattle.task_tree.specs.Own.{IsOwn, IsOwnFault, of_claims}
 use Rattle.task_tree.proofs.ShownLemmas.{own_fault}
 use Rattle.checker.specs.Search.{edge_causes}
 use Rattle.checker.proofs.PhaseLemmas.{fault_shown, shown_more, edges_clear, none_clear, one_clear}

@@ -1,7 +1,5 @@
-use Rattle.std.proofs.Common.{◌∙◌, below_more, length, ap, arith}
-use Rattle.task_tree.specs.Runs.{RunView}
+use Rattle.std.proofs.Common.{below_more, arith}
 use Rattle.checker.specs.Readings.{by_task}
-use Rattle.checker.specs.Search.{ClearView}
 use Rattle.checker.proofs.DecidingLemmas.{first_violation, complete_whole}
 use Rattle.checker.proofs.deciding.Deciding.first_violation.Goals as goal
 
@@ -14,10 +12,7 @@ pub loop-at-preserved : goal.loop-at-preserved
 loop-at-preserved c = below_more _ _ c.loop-at.invariant (rw c.in_default.is at c.in_ok-why.ensures.decided)
 
 pub returns-clause-found : goal.returns-clause-found
-returns-clause-found c =
-    let rs = c.args.self.now.run.records in
-    let long =
-    c.len-at-end.ensures.value
-    ∙ ap (λ (r : RunView). length r.records) (c.run.ensures.value ∙ c.sound.ensures.run)
-    ∙ ap (λ (v : ClearView). length v.run.records) c.self.view_is in
-    λ i. complete_whole rs c.loop-at.at i c.loop-at.invariant (omega (arith, long, c.loop-at-test.false))
+returns-clause-found c = λ i.
+    let long = c.len-at-end.ensures.value in
+    complete_whole c.args.self.now.run.records c.loop-at.at i c.loop-at.invariant
+    (omega (arith, long, c.loop-at-test.false))
