@@ -1,8 +1,9 @@
 #!/usr/bin/env python3
 """shape_seconds.py: does a file of some shape cost more seconds than its size?
 
-Makes files of full size whose shape could cost more, and compares the seconds that a record takes, the least
-of three runs of `taskaudit check`, with those of a run of the nearest size in the order of time.
+Makes files of full size whose shape could cost more, and compares the seconds that a record takes with those
+of a run of the nearest size in the order of time. The two files are checked by turns, and the least of five
+rounds counts for each, so that a machine that is slower for a while is slower for both.
 """
 
 import math
@@ -11,13 +12,14 @@ import re
 import sys
 import tempfile
 
-from common import HEADER, PROGRAM, best, peak, row, table, write_lines
+from common import HEADER, LIMIT, PROGRAM, peak, row, table, timed, write_lines
 from shapes import Thread, unfinished_waits, team_of_256, waits, writers
 from traces import long_records
 
 CHECK = [PROGRAM, "check"]
 TASKS = 2**20
 POWERS = range(18, 23)
+ROUNDS = 5
 
 
 def chain():
@@ -92,14 +94,13 @@ SHAPES = {
 }
 
 
-def ordinary_seconds(path):
-    """By power the seconds a record of an ordinary run of 2^power records."""
+def write_ordinary(folder):
+    """By size the files of ordinary runs of 2^18 to 2^22 records in the order of time."""
     records = long_records(2**POWERS[-1])
-    seconds = {}
-    for power in POWERS:
-        write_lines(path, [HEADER] + [line for _, line in records[:2**power]])
-        seconds[power] = best(CHECK, path)[0] / 2**power
-    return seconds
+    paths = {2**power: os.path.join(folder, f"ordinary{power}") for power in POWERS}
+    for size, path in paths.items():
+        write_lines(path, [HEADER] + [line for _, line in records[:size]])
+    return paths
 
 
 def show(name, lines, path, ordinary):
@@ -108,11 +109,13 @@ def show(name, lines, path, ordinary):
     size = len(lines) - 1
     write_lines(path, lines)
     del lines
-    seconds, _, answer = best(CHECK, path)
-    usual = ordinary[min(POWERS[-1], max(POWERS[0], round(math.log(size, 2))))]
+    usual = min(ordinary, key=lambda it: abs(math.log(size / it)))
+    rounds = [(timed(CHECK, path), timed(CHECK, ordinary[usual])) for _ in range(ROUNDS)]
+    seconds, usual_seconds = (min(run[0] or LIMIT for run in runs) for runs in zip(*rounds))
+    answer = rounds[0][0][2]
     each = seconds / size
     row(name, f"{size:,}", f"{os.path.getsize(path) / 1e6:.0f}", f"{seconds:.2f}", f"{peak(CHECK, path):.0f}",
-        f"{each * 1e9:.0f}", f"{each / usual:.2f}", answer.split(":")[0])
+        f"{each * 1e9:.0f}", f"{each / (usual_seconds / usual):.2f}", answer.split(":")[0])
 
 
 def main():
@@ -120,7 +123,7 @@ def main():
         sys.exit(__doc__)
     with tempfile.TemporaryDirectory() as folder:
         path = os.path.join(folder, "trace")
-        ordinary = ordinary_seconds(path)
+        ordinary = write_ordinary(folder)
         table("Shape", "Records", "MB", "Seconds", "Peak MB", "ns a record", "Times the ordinary run",
               "Answer")
         for name, make in SHAPES.items():
