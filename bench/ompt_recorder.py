@@ -32,9 +32,9 @@ def run(folder, words, file=None):
     told = {**os.environ, 'OMP_NUM_THREADS': str(THREADS)}
     if file:
         told |= {'TASKAUDIT_FILE': file, 'OMP_TOOL_LIBRARIES': os.path.join(OMPT, 'out/libtaskaudit_ompt.so')}
-        for name in (file, f'{file}.part'):
-            if os.path.exists(name):
-                os.remove(name)
+        # a recorder replaces no file
+        if os.path.exists(file):
+            os.remove(file)
     begin = time.perf_counter()
     command = [os.path.join(folder, words[0]), *words[1:]]
     program = subprocess.Popen(command, env=told, stdout=subprocess.PIPE, text=True)

@@ -1,15 +1,14 @@
 /* An OMPT tool that records a run of an OpenMP program as a trace file of taskaudit. Each callback becomes a record in
    a buffer of its thread; the file is written at the end. taskaudit-run starts programs with it. */
 #define _GNU_SOURCE
+#include "tool.h"
 #include "recorder.h"
 
-#include <omp-tools.h>
-#include <pthread.h>
 #include <signal.h>
 #include <stdlib.h>
 #include <string.h>
 #include <sys/mman.h>
-#include <time.h>
+#include <sys/syscall.h>
 #include <unistd.h>
 
 /* The memory that a thread allocates at once: first little, since it may have few records, then two of the processor's
@@ -31,6 +30,9 @@ static _Alignas(64) _Atomic uint32_t ledger;
 static _Alignas(64) _Atomic bool is_over;
 static _Atomic uint32_t block_count, task_block_count;
 static __thread struct thread *own __attribute__((tls_model("initial-exec")));
+/* Whether this process was forked, and whether it has a file. */
+static bool is_forked;
+static _Atomic bool has_file = true;
 
 static void note(enum note what, const void *code) {
     if (atomic_fetch_add_explicit(&notes[what], 1, memory_order_relaxed) == 0) atomic_store(&first_code[what], code);
@@ -53,6 +55,10 @@ static void set_signal_stack(void) {
 static struct thread *this_thread(void) {
     if (atomic_load_explicit(&is_over, memory_order_relaxed)) return NULL;
     if (own) return own;
+    if (!atomic_exchange(&has_file, true) && !begin_file_of_fork()) {
+        atomic_store(&is_over, true);
+        return NULL;
+    }
     int number = atomic_fetch_add(&thread_count, 1);
     struct thread *made = number < MAX_THREADS ? calloc(1, sizeof *made) : NULL;
     if (!made) {
@@ -61,7 +67,24 @@ static struct thread *this_thread(void) {
     }
     set_signal_stack();
     made->number = number;
+    made->id = (int)syscall(SYS_gettid);
     return threads[number] = own = made;
+}
+
+void end_recording(void) {
+    atomic_store(&is_over, true);
+}
+
+/* The first callback makes a file, so that a process that uses no OpenMP has none. */
+void forget_records(void) {
+    own = NULL;
+    memset(threads, 0, sizeof threads);
+    memset(notes, 0, sizeof notes);
+    thread_count = 0;
+    region_count = ledger = block_count = task_block_count = 0;
+    is_forked = true;
+    has_file = false;
+    atomic_store(&is_over, false);
 }
 
 /* Returns zeroed memory that is never given back, or NULL. It is taken in large pieces, which cost few page faults. */
@@ -166,12 +189,34 @@ static void on_thread_end(ompt_data_t *data) {
     if (thread) keep_known(thread, (struct record){.callback = THREAD_END});
 }
 
+static void begin_root(struct thread *thread, struct record record, ompt_data_t *data) {
+    struct task *root = record.task = new_task(thread);
+    if (!root) return;
+    data->ptr = root;
+    root->is_initial = record.flags & ompt_task_initial;
+    root->parent = thread->innermost;
+    root->thread = thread->number;
+    thread->innermost = thread->current = root;
+    keep_known(thread, record);
+}
+
+/* Returns the task of a callback that tells which task runs. In a forked process the runtime begins anew, and does not
+   tell of the initial task that it begins: that begins here where it first occurs. */
+static struct task *running_task(struct thread *thread, ompt_data_t *data) {
+    if (is_forked && data && !data->ptr && !thread->current) {
+        keep_known(thread, (struct record){.callback = THREAD_BEGIN, .kind = ompt_thread_initial});
+        begin_root(thread, (struct record){.callback = IMPLICIT_TASK, .endpoint = ompt_scope_begin, .size = 1, .index = 1,
+                                           .flags = ompt_task_initial}, data);
+    }
+    return task_of(data);
+}
+
 static void on_parallel_begin(ompt_data_t *encountering, const ompt_frame_t *frame, ompt_data_t *region,
                               unsigned int requested, int flags, const void *code) {
     (void)frame;
     struct thread *thread = this_thread();
-    struct task *task = task_of(encountering);
-    if (!thread || !task) return;
+    struct task *task = thread ? running_task(thread, encountering) : NULL;
+    if (!task) return;
     if (flags & PARALLEL_LEAGUE) note(TEAMS, code);
     region->value = atomic_fetch_add(&region_count, 1) + 1;
     keep_known(thread, (struct record){.callback = PARALLEL_BEGIN, .task = task, .region = region->value,
@@ -185,17 +230,6 @@ static void on_parallel_end(ompt_data_t *region, ompt_data_t *encountering, int 
     if (thread && task)
         keep_known(thread, (struct record){.callback = PARALLEL_END, .task = task, .region = region->value,
                                            .code = code});
-}
-
-static void begin_root(struct thread *thread, struct record record, ompt_data_t *data) {
-    struct task *root = record.task = new_task(thread);
-    if (!root) return;
-    data->ptr = root;
-    root->is_initial = record.flags & ompt_task_initial;
-    root->parent = thread->innermost;
-    root->thread = thread->number;
-    thread->innermost = thread->current = root;
-    keep_known(thread, record);
 }
 
 /* Ends the innermost root. exit() inside a task ends the initial task while another one runs: no record says that. */
@@ -225,8 +259,8 @@ static void on_task_create(ompt_data_t *encountering, const ompt_frame_t *frame,
                            int has_dependences, const void *code) {
     (void)frame, (void)has_dependences;
     struct thread *thread = this_thread();
-    struct task *creator = task_of(encountering);
     if (!thread) return;
+    struct task *creator = running_task(thread, encountering);
     if (thread->current && creator != thread->current) {
         note(CREATED_FOR_ANOTHER, code);
         creator = thread->current;
@@ -334,8 +368,8 @@ static void on_task_schedule(ompt_data_t *prior_data, ompt_task_status_t status,
 static void on_sync_region(ompt_sync_region_t kind, ompt_scope_endpoint_t endpoint, ompt_data_t *region,
                            ompt_data_t *data, const void *code) {
     struct thread *thread = this_thread();
-    struct task *task = task_of(data);
     if (!thread) return;
+    struct task *task = running_task(thread, data);
     if (!task || kind == 0 || (int)kind > LAST_REGION_KIND) {
         note(task ? UNKNOWN : NO_TASK, code);
         return;
@@ -367,43 +401,6 @@ static void on_cancel(ompt_data_t *data, int flags, const void *code) {
 
 /* How a run begins and ends */
 
-static pid_t process;
-
-/* Writes the file at the end of the process that was recorded, and not in one that it forked. */
-static void end(const char *ending) {
-    atomic_store(&is_over, true);
-    if (getpid() == process) write_trace(ending);
-}
-
-static const struct {
-    int number;
-    const char *name;
-} signals[] = {{SIGABRT, "SIGABRT"}, {SIGSEGV, "SIGSEGV"}, {SIGBUS, "SIGBUS"}, {SIGFPE, "SIGFPE"},
-               {SIGILL, "SIGILL"},   {SIGTERM, "SIGTERM"}, {SIGINT, "SIGINT"}};
-enum { SIGNALS = sizeof signals / sizeof *signals };
-
-/* Other threads may be within a callback; they get time to leave it. */
-static void on_signal(int number) {
-    static const struct timespec pause = {.tv_nsec = 20 * 1000 * 1000};
-    const char *name = "a signal";
-    for (int i = 0; i < SIGNALS; i++)
-        if (signals[i].number == number) name = signals[i].name;
-    atomic_store(&is_over, true);
-    nanosleep(&pause, NULL);
-    end(name);
-    signal(number, SIG_DFL);
-    raise(number);
-}
-
-/* Where a runtime is broken, programs abort: the file is written then, unless the program handles the signal. */
-static void catch_signals(void) {
-    for (int i = 0; i < SIGNALS; i++) {
-        struct sigaction was, ours = {.sa_handler = on_signal, .sa_flags = SA_RESETHAND | SA_ONSTACK};
-        int number = signals[i].number;
-        if (sigaction(number, NULL, &was) == 0 && was.sa_handler == SIG_DFL) sigaction(number, &ours, NULL);
-    }
-}
-
 static int initialize(ompt_function_lookup_t lookup, int device, ompt_data_t *data) {
     (void)device, (void)data;
     ompt_set_callback_t set = (ompt_set_callback_t)lookup("ompt_set_callback");
@@ -421,24 +418,17 @@ static int initialize(ompt_function_lookup_t lookup, int device, ompt_data_t *da
         {ompt_callback_cancel, (ompt_callback_t)on_cancel},
     };
     for (size_t i = 0; i < sizeof calls / sizeof *calls; i++) set(calls[i].event, calls[i].call);
-    process = getpid();
-    catch_signals();
+    watch_ending();
     return 1;
 }
 
 static void finalize(ompt_data_t *data) {
     (void)data;
     find_modules();
-    end("end");
+    end_process("end");
 }
 
-/* exit() inside a task may end the process without finalize. */
-__attribute__((destructor)) static void at_exit(void) {
-    if (process) end("exit");
-}
-
-ompt_start_tool_result_t *ompt_start_tool(unsigned int version, const char *runtime) {
-    (void)version, (void)runtime;
+ompt_start_tool_result_t *start_recorder(void) {
     static ompt_start_tool_result_t result = {initialize, finalize, {0}};
-    return open_trace() ? &result : NULL;
+    return begin_file() ? &result : NULL;
 }

@@ -1,5 +1,6 @@
-/* What the two halves of the recorder share: the records of a run in memory. recorder.c fills them in the callbacks of
-   OMPT, writer.c makes a trace file of them. docs/RECORDING.md of taskaudit has the rules that both follow. */
+/* What the parts of the recorder share: the records of a process in memory. recorder.c fills them in the callbacks of
+   OMPT, writer.c makes a trace file of them, files.c names the file, and ending.c sees to it that it is written however
+   the process ends. docs/RECORDING.md of taskaudit has the rules that all follow. */
 #ifndef TASKAUDIT_RECORDER_H
 #define TASKAUDIT_RECORDER_H
 
@@ -74,6 +75,7 @@ struct block {
 /* A thread of the run. Only this thread writes here, except `count`, which the writer reads too. */
 struct thread {
     int number;
+    int id;                    /* the system's, by which a signal reaches it */
     uint32_t known;            /* the ledger length that it knows */
     _Atomic uint32_t count;    /* how many records it has */
     uint32_t capacity;         /* for how many it has room */
@@ -99,14 +101,42 @@ extern _Atomic uint32_t region_count;
 extern _Atomic uint64_t notes[NOTES];
 extern const void *_Atomic first_code[NOTES];
 
-/* Writes the trace file, once; `ending` says what ended the run. Calls nothing that a signal handler may not. */
-void write_trace(const char *ending);
+/* Forgets all records, in a forked process: they are its parent's. */
+void forget_records(void);
+/* Ends recording, and not the program: no callback that begins later adds a record. */
+void end_recording(void);
 
+/* Begins to see to the end of this process. */
+void watch_ending(void);
+/* Writes the trace file, once; `ending` says what ended the process. Returns when the file is written, whichever thread
+   writes it. */
+void end_process(const char *ending);
+
+/* Writes the records to the file; returns why it could not, or NULL. Like what follows, it calls nothing that a signal
+   handler may not. */
+const char *write_records(int file, const char *ending);
 /* Finds out which code is where. Not for signal handlers. */
 void find_modules(void);
+/* The length of text that files have no more of: names, and sentences on them. */
+enum { LONGEST_NAME = 4096 };
 
-/* Takes the name of the file and its version from the environment; returns whether there is a name, the version is one
-   that is known, and the file can be written. */
-bool open_trace(void);
+/* What the environment asks for. */
+struct settings {
+    char file[LONGEST_NAME];    /* the pattern of the file's name, from the root */
+    char run[LONGEST_NAME];     /* the list of a run's files that taskaudit-run reads, or nothing */
+    int version;
+};
+extern struct settings settings;
+
+/* Takes the settings from the environment and makes the file that will be written; says why not, and returns false. */
+bool begin_file(void);
+/* The same in a forked process, with the settings of its parent. */
+bool begin_file_of_fork(void);
+/* Forgets the file of the parent, in a forked process. */
+void forget_file(void);
+/* Writes the file that was made, under the name that it has to have. */
+void finish_file(const char *ending);
+/* The name of the program that runs, without its folder. */
+const char *program_name(void);
 
 #endif

@@ -1,14 +1,11 @@
-/* Writes the records of a run as a trace file (docs/FORMAT.md): the header, and one thread's records after another.
+/* Writes the records of a process as a trace file (docs/FORMAT.md): the header, and one thread's records after another.
    It runs in signal handlers too, so it calls nothing of the C library but system calls. */
 #define _GNU_SOURCE
 #include "recorder.h"
 
 #include <errno.h>
-#include <fcntl.h>
 #include <link.h>
 #include <omp-tools.h>
-#include <stdio.h>
-#include <stdlib.h>
 #include <string.h>
 #include <sys/mman.h>
 #include <unistd.h>
@@ -41,22 +38,19 @@ static const char *const note_names[NOTES] = {
 /* No record takes more text: a path has at most 1,024 numbers, a list 64 items, and a module's name 256 bytes. */
 enum { LONGEST_LINE = 1 << 15 };
 
-static char part_name[4096], whole_name[4096];
-static int file = -1;
-static int version = DEFAULT_VERSION;
-
 /* Text on its way to the file */
 
+static int file;
 static char text[1 << 20];
 static size_t length;
-static bool has_failed;
+static const char *fault;
 
 static void flush(void) {
     for (size_t at = 0; at < length;) {
         ssize_t written = write(file, text + at, length - at);
         if (written < 0 && errno == EINTR) continue;
         if (written <= 0) {
-            has_failed = true;
+            fault = written < 0 && errno == ENOSPC ? "the disk is full" : "it could not be written";
             break;
         }
         at += (size_t)written;
@@ -159,9 +153,15 @@ static void put_code(const void *code) {
 
 /* The records of a thread, one after another */
 
-static int thread_total(void) {
+/* How many threads there are, and how many records each has. Taken once, since a thread may still be within a callback. */
+static int thread_total;
+static uint32_t totals[MAX_THREADS];
+
+static void take_totals(void) {
     int made = atomic_load(&thread_count);
-    return made < MAX_THREADS ? made : MAX_THREADS;
+    thread_total = made < MAX_THREADS ? made : MAX_THREADS;
+    for (int i = 0; i < thread_total; i++)
+        totals[i] = threads[i] ? atomic_load_explicit(&threads[i]->count, memory_order_acquire) : 0;
 }
 
 /* Returns a thread; one without records where it was just being made. */
@@ -176,7 +176,7 @@ struct cursor {
 };
 
 static struct cursor records_of(const struct thread *thread) {
-    return (struct cursor){thread->first, 0, atomic_load_explicit(&thread->count, memory_order_acquire)};
+    return (struct cursor){thread->first, 0, totals[thread->number]};
 }
 
 static const struct record *next(struct cursor *cursor) {
@@ -229,7 +229,7 @@ static void put_next(const struct record *record) {
         return;
     }
     put_number(record->other->id);
-    if (version > FIRST_VERSION) put_member(",\"next_turn\":", record->turns.next);
+    if (settings.version > FIRST_VERSION) put_member(",\"next_turn\":", record->turns.next);
 }
 
 static void put_claim(const struct record *record) {
@@ -280,7 +280,7 @@ static void put_task_schedule(const struct record *record) {
     if (is_finishing(record)) put_claim(record);
     else put_next(record);
     put_member(",\"prior\":", record->task->id);
-    if (record->other && version > FIRST_VERSION) put_member(",\"prior_turn\":", record->turns.prior);
+    if (record->other && settings.version > FIRST_VERSION) put_member(",\"prior_turn\":", record->turns.prior);
     if (is_finishing(record)) put_member(",\"root\":", record->task->root->id);
 }
 
@@ -349,6 +349,9 @@ static uint64_t last_id;
 static uint64_t regions_of_kind[sizeof region_kinds / sizeof *region_kinds];
 /* What is audited: ends of regions that wait for tasks, and tasks with dependences that start. */
 static uint64_t wait_count, dependent_count;
+/* How many lines each thread has in the file, the one of added members last; and how many regions did not end. */
+static uint32_t lines[MAX_THREADS + 1];
+static uint32_t open_regions;
 
 /* Of each parallel region the size of its team, and how many members began. */
 static struct team {
@@ -382,17 +385,28 @@ static void look_at_schedule(const struct record *record) {
     dependent_count++;
 }
 
+/* A region that an explicit or implicit task begins; the cursor moves behind one that is left out. */
+static void look_at_inner_region(struct cursor *cursor, const struct record *record, int thread) {
+    bool is_left_out = passes_inner_region(cursor, record);
+    count(is_left_out ? INNER_REGIONS : NESTED, record->code);
+    lines[thread] -= is_left_out;
+    open_regions -= is_left_out;
+}
+
 /* Gives the tasks their ids, which rise in the order of the lines that make them, and counts what is there and what is
    left out. */
 static void look_at(const struct thread *thread) {
     struct cursor cursor = records_of(thread);
     for (const struct record *record; (record = next(&cursor));) {
+        lines[thread->number]++;
+        open_regions += record->callback == PARALLEL_BEGIN;
+        open_regions -= record->callback == PARALLEL_END;
         if (record->callback == TASK_CREATE) record->other->id = ++last_id;
         else if (record->callback == IMPLICIT_TASK) look_at_root(record);
         else if (record->callback == SYNC_REGION) look_at_region(record);
         else if (record->callback == TASK_SCHEDULE) look_at_schedule(record);
         else if (record->callback == PARALLEL_BEGIN && !record->task->is_initial)
-            count(passes_inner_region(&cursor, record) ? INNER_REGIONS : NESTED, record->code);
+            look_at_inner_region(&cursor, record, thread->number);
     }
 }
 
@@ -411,17 +425,18 @@ static void look_at_barriers(void) {
    where the file has room for one more. */
 
 static bool lacks_members(uint32_t region) {
-    return teams[region].begun < teams[region].size && teams[region].size <= MAX_THREADS && thread_total() < MAX_THREADS;
+    return teams[region].begun < teams[region].size && teams[region].size <= MAX_THREADS && thread_total < MAX_THREADS;
 }
 
 static void look_at_teams(void) {
     for (uint32_t region = 1; teams && region <= last_region; region++)
         if (lacks_members(region)) atomic_fetch_add(&notes[ADDED_MEMBERS], teams[region].size - teams[region].begun);
+    lines[thread_total] = 2 * (uint32_t)notes[ADDED_MEMBERS];
 }
 
 static void find_begun(uint32_t region, bool *is_begun) {
     memset(is_begun, 0, MAX_THREADS);
-    for (int i = 0; i < thread_total(); i++) {
+    for (int i = 0; i < thread_total; i++) {
         struct cursor cursor = records_of(thread_at(i));
         for (const struct record *record; (record = next(&cursor));)
             if (record->callback == IMPLICIT_TASK && record->endpoint == ompt_scope_begin && record->region == region &&
@@ -441,23 +456,44 @@ static void put_missing_members(void) {
             struct task member = {.id = ++last_id};
             struct record record = {.callback = IMPLICIT_TASK, .endpoint = ompt_scope_begin, .flags = ompt_task_implicit,
                                     .size = teams[region].size, .index = index, .region = region, .task = &member};
-            put_record(&record, thread_total(), seq++);
+            put_record(&record, thread_total, seq++);
             record.endpoint = ompt_scope_end;
-            put_record(&record, thread_total(), seq++);
+            put_record(&record, thread_total, seq++);
         }
     }
 }
 
 /* The file */
 
-/* The header, whose member `recorder` says how the run ended, and what was changed or left out. */
-static void put_header(const char *ending) {
+/* What is left out by which the audit knows less than happened. */
+static const enum note lessening[] = {MANY_RECORDS, MANY_TASKS, MANY_THREADS, DEEP_TASKS, NO_MEMORY, LONG_LIST, LATE_LIST,
+                                      ALL_MEMORY, NO_TASK, UNKNOWN};
+
+static bool is_stopped(void) {
+    for (int i = MANY_RECORDS; i <= NO_MEMORY; i++)
+        if (notes[i]) return true;
+    return false;
+}
+
+/* Puts why the file has a part of the run only, if it does, and how many lines each thread has in the file. */
+static void put_recording(bool is_signalled) {
     const char *between = "";
-    put("{\"format\":\"task-credit-audit\",\"recorder\":{");
-    put_name("\"ending\":", ending);
-    put_member(",\"threads\":", (uint64_t)thread_total());
-    put_member(",\"waits\":", wait_count);
-    put_member(",\"dependent_starts\":", dependent_count);
+    put(",\"recording\":{\"partial\":[");
+    for (size_t i = 0; i < sizeof lessening / sizeof *lessening; i++) {
+        if (!notes[lessening[i]]) continue;
+        put_name(between, note_names[lessening[i]]);
+        between = ",";
+    }
+    if (is_signalled) put_name(between, "signal");
+    else if (open_regions && !is_stopped()) put_name(between, "open_region");
+    put("],\"records\":[");
+    int count = thread_total + (lines[thread_total] > 0);
+    for (int i = 0; i < count; i++) put_member(i ? "," : "", lines[i]);
+    put("]}");
+}
+
+static void put_notes(void) {
+    const char *between = "";
     put(",\"notes\":{");
     for (int i = 0; i < NOTES; i++) {
         if (!notes[i]) continue;
@@ -468,49 +504,38 @@ static void put_header(const char *ending) {
         put("}");
         between = ",";
     }
-    put_member("}},\"version\":", (uint64_t)version);
+    put("}");
+}
+
+/* The header, whose member `recorder` says how the run ended, what the file has of it, and what was changed. */
+static void put_header(const char *ending) {
+    static char program[256];
+    copy_plain(program, sizeof program, program_name());
+    put("{\"format\":\"task-credit-audit\",\"recorder\":{");
+    put_name("\"program\":", program);
+    put_member(",\"process\":", (uint64_t)getpid());
+    put_name(",\"ending\":", ending);
+    put_recording(strncmp(ending, "SIG", 3) == 0);
+    put_member(",\"threads\":", (uint64_t)thread_total);
+    put_member(",\"waits\":", wait_count);
+    put_member(",\"dependent_starts\":", dependent_count);
+    put_notes();
+    put_member("},\"version\":", (uint64_t)settings.version);
     put("}\n");
 }
 
-void write_trace(const char *ending) {
-    static _Atomic bool is_written;
-    if (atomic_exchange(&is_written, true)) return;
-    file = open(part_name, O_WRONLY | O_TRUNC);
-    if (file < 0) return;
+const char *write_records(int to, const char *ending) {
+    file = to;
+    take_totals();
     last_region = atomic_load(&region_count);
     teams = mmap(NULL, (last_region + 1) * sizeof *teams, PROT_READ | PROT_WRITE, MAP_PRIVATE | MAP_ANONYMOUS, -1, 0);
     if (teams == MAP_FAILED) teams = NULL;
-    for (int i = 0; i < thread_total(); i++) look_at(thread_at(i));
+    for (int i = 0; i < thread_total; i++) look_at(thread_at(i));
     look_at_barriers();
     look_at_teams();
     put_header(ending);
-    for (int i = 0; i < thread_total(); i++) put_thread(thread_at(i));
+    for (int i = 0; i < thread_total; i++) put_thread(thread_at(i));
     put_missing_members();
     flush();
-    if (close(file) == 0 && !has_failed) rename(part_name, whole_name);
-}
-
-/* Takes the version from the environment; returns whether it is one that is known. */
-static bool choose_version(void) {
-    const char *chosen = getenv("TASKAUDIT_VERSION");
-    if (!chosen || !*chosen) return true;
-    version = *chosen - '0';
-    return chosen[1] == 0 && version >= FIRST_VERSION && version <= LAST_VERSION;
-}
-
-bool open_trace(void) {
-    const char *name = getenv("TASKAUDIT_FILE");
-    if (!choose_version()) return false;
-    if (!name || strlen(name) + 32 > sizeof part_name) return false;
-    snprintf(whole_name, sizeof whole_name, "%s", name);
-    snprintf(part_name, sizeof part_name, "%s.part", name);
-    int made = open(part_name, O_WRONLY | O_CREAT | O_EXCL, 0666);
-    if (made < 0) {
-        /* another process of the program has the name */
-        snprintf(whole_name, sizeof whole_name, "%s.%d", name, (int)getpid());
-        snprintf(part_name, sizeof part_name, "%s.%d.part", name, (int)getpid());
-        made = open(part_name, O_WRONLY | O_CREAT | O_EXCL, 0666);
-    }
-    find_modules();
-    return made >= 0 && close(made) == 0;
+    return fault;
 }

@@ -1,0 +1,260 @@
+/* The file of a process: its name, which TASKAUDIT_FILE gives as a pattern, and what is told of it to taskaudit-run. No
+   file that is there is ever replaced, and none is seen before it is whole. What runs at the end of a process calls
+   nothing of the C library but system calls. */
+#define _GNU_SOURCE
+#include "recorder.h"
+
+#include <errno.h>
+#include <fcntl.h>
+#include <stdio.h>
+#include <stdlib.h>
+#include <string.h>
+#include <sys/syscall.h>
+#include <unistd.h>
+
+#define DEFAULT_FILE "taskaudit.%n.%p.jsonl"
+
+struct settings settings = {.version = DEFAULT_VERSION};
+
+/* Where an MPI tells a process its rank. */
+static const char *const ranks[] = {"OMPI_COMM_WORLD_RANK", "PMIX_RANK", "PMI_RANK", "MV2_COMM_WORLD_RANK", "SLURM_PROCID"};
+enum { RANKS = sizeof ranks / sizeof *ranks, MOST_NAMES = 10000 };
+
+/* The name that the file is to have, and the one that it has until it is whole; that is empty where there is no file. */
+static char whole_name[LONGEST_NAME], part_name[LONGEST_NAME];
+/* Whether the pattern tells processes apart. */
+static bool names_process;
+
+/* Text of bounded length. */
+struct text {
+    char *at;
+    size_t length, size;
+};
+
+static void put_text(struct text *text, const char *word) {
+    for (; *word && text->length + 1 < text->size; word++) text->at[text->length++] = *word;
+    text->at[text->length] = 0;
+}
+
+static void put_digits(struct text *text, uint64_t number) {
+    char digits[21];
+    int at = sizeof digits - 1;
+    digits[at] = 0;
+    do digits[--at] = (char)('0' + number % 10);
+    while (number /= 10);
+    put_text(text, digits + at);
+}
+
+static bool is_full(const struct text *text) {
+    return text->length + 1 >= text->size;
+}
+
+/* What is told of files */
+
+/* Adds a line to the list of the run: a word, the process and two texts, between tabs. One write, so that lines of
+   several processes stay apart. */
+static void tell_run(const char *word, const char *one, const char *other) {
+    static char line[3 * LONGEST_NAME];
+    struct text text = {line, 0, sizeof line - 1};
+    int list = settings.run[0] ? open(settings.run, O_WRONLY | O_APPEND | O_CLOEXEC) : -1;
+    if (list < 0) return;
+    put_text(&text, word);
+    put_text(&text, "\t");
+    put_digits(&text, (uint64_t)getpid());
+    put_text(&text, "\t");
+    put_text(&text, one);
+    put_text(&text, "\t");
+    put_text(&text, other);
+    line[text.length++] = '\n';
+    ssize_t written = write(list, line, text.length);
+    (void)written;
+    close(list);
+}
+
+/* Says why there is no file: to taskaudit-run, or where there is none on standard error. Returns false. */
+static bool refuse(const char *what, const char *why) {
+    static char line[3 * LONGEST_NAME];
+    struct text text = {line, 0, sizeof line};
+    if (settings.run[0]) {
+        tell_run("failed", what, why);
+        return false;
+    }
+    const char *const parts[] = {"taskaudit: ", what, ": ", why, "; nothing is recorded\n"};
+    for (size_t i = 0; i < sizeof parts / sizeof *parts; i++) put_text(&text, parts[i]);
+    ssize_t written = write(STDERR_FILENO, line, text.length);
+    (void)written;
+    return false;
+}
+
+/* Names */
+
+const char *program_name(void) {
+    static char name[LONGEST_NAME];
+    ssize_t length = readlink("/proc/self/exe", name, sizeof name - 1);
+    name[length > 0 ? length : 0] = 0;
+    const char *last = strrchr(name, '/');
+    return last ? last + 1 : name;
+}
+
+static const char *rank(void) {
+    for (int i = 0; i < RANKS; i++)
+        if (getenv(ranks[i])) return getenv(ranks[i]);
+    return "0";
+}
+
+/* Puts a name where no folder, blank or end of a line can stand. */
+static void put_plain(struct text *text, const char *name) {
+    for (; *name; name++) {
+        char letter[2] = {*name > ' ' && *name != '/' && *name != 127 ? *name : '_', 0};
+        put_text(text, letter);
+    }
+}
+
+/* Makes the name of the file from the pattern; says what is wrong with that, and returns false. */
+static bool name_file(void) {
+    struct text text = {whole_name, 0, sizeof whole_name - 64};
+    names_process = false;
+    for (const char *at = settings.file; *at; at++) {
+        char letter[2] = {*at, 0};
+        if (*at != '%') put_text(&text, letter);
+        else if (*++at == 'p') put_digits(&text, (uint64_t)getpid()), names_process = true;
+        else if (*at == 'n') put_plain(&text, program_name());
+        else if (*at == 'r') put_plain(&text, rank());
+        else if (*at == '%') put_text(&text, "%");
+        else return refuse(settings.file, "behind % stands p (process), n (program), r (rank) or %");
+    }
+    return !is_full(&text) || refuse(settings.file, "the name is too long");
+}
+
+/* In a forked process the name without it is the parent's. */
+static void add_process(void) {
+    struct text text = {whole_name, strlen(whole_name), sizeof whole_name};
+    put_text(&text, ".");
+    put_digits(&text, (uint64_t)getpid());
+    names_process = true;
+}
+
+/* Makes the file under a name that tells that it is not whole, which no other process has. */
+static bool make_part(void) {
+    for (int number = 1; number < MOST_NAMES; number++) {
+        struct text text = {part_name, 0, sizeof part_name};
+        put_text(&text, whole_name);
+        put_text(&text, ".");
+        put_digits(&text, (uint64_t)getpid());
+        if (number > 1) put_text(&text, "."), put_digits(&text, (uint64_t)number);
+        put_text(&text, ".part");
+        int made = open(part_name, O_WRONLY | O_CREAT | O_EXCL | O_CLOEXEC, 0666);
+        if (made >= 0) {
+            close(made);
+            tell_run("begin", part_name, program_name());
+            return true;
+        }
+        if (errno != EEXIST) break;
+    }
+    const char *why = strerror(errno);
+    refuse(whole_name, why);
+    part_name[0] = 0;
+    return false;
+}
+
+/* Takes a text from the environment; says where it is too long, and returns false. */
+static bool take_setting(char *to, const char *name) {
+    const char *value = getenv(name);
+    if (!value) value = "";
+    if (strlen(value) >= LONGEST_NAME) return refuse(name, "too long");
+    strcpy(to, value);
+    return true;
+}
+
+/* A name from this folder on is made one from the root, since the program may go elsewhere. */
+static bool take_file(void) {
+    char given[LONGEST_NAME];
+    if (!take_setting(given, "TASKAUDIT_FILE")) return false;
+    if (!given[0]) strcpy(given, DEFAULT_FILE);
+    struct text text = {settings.file, 0, sizeof settings.file};
+    if (given[0] != '/') {
+        char folder[LONGEST_NAME];
+        if (!getcwd(folder, sizeof folder)) return refuse("this folder", strerror(errno));
+        for (const char *at = folder; *at; at++) {
+            char letters[3] = {*at, *at == '%' ? '%' : 0, 0};
+            put_text(&text, letters);
+        }
+        put_text(&text, "/");
+    }
+    put_text(&text, given);
+    return !is_full(&text) || refuse(given, "the name is too long");
+}
+
+/* Takes the version from the environment, where it names one that is known. */
+static bool take_version(void) {
+    const char *chosen = getenv("TASKAUDIT_VERSION");
+    if (!chosen || !*chosen) return true;
+    settings.version = *chosen - '0';
+    if (chosen[1] == 0 && settings.version >= FIRST_VERSION && settings.version <= LAST_VERSION) return true;
+    return refuse("TASKAUDIT_VERSION", "no version of a trace file; 1 and 2 are");
+}
+
+bool begin_file(void) {
+    if (!take_setting(settings.run, "TASKAUDIT_RUN")) return false;
+    if (!take_version() || !take_file()) return false;
+    find_modules();
+    return name_file() && make_part();
+}
+
+bool begin_file_of_fork(void) {
+    if (!name_file()) return false;
+    if (!names_process) add_process();
+    return make_part();
+}
+
+void forget_file(void) {
+    part_name[0] = 0;
+}
+
+/* The end of the file */
+
+/* Gives the file this name, where no file has it. */
+static bool move_to(const char *name) {
+    if (syscall(SYS_renameat2, AT_FDCWD, part_name, AT_FDCWD, name, 1 /* no replacing */) == 0) return true;
+    if (errno != EINVAL && errno != ENOSYS) return false;
+    if (access(name, F_OK) == 0) {
+        errno = EEXIST;
+        return false;
+    }
+    return rename(part_name, name) == 0;
+}
+
+/* Gives the file its name; where another file has that, with the number of the process behind it, or a count. */
+static bool move_to_name(void) {
+    struct text text = {whole_name, strlen(whole_name), sizeof whole_name};
+    if (move_to(whole_name)) return true;
+    if (!names_process && errno == EEXIST) {
+        put_text(&text, ".");
+        put_digits(&text, (uint64_t)getpid());
+        if (move_to(whole_name)) return true;
+    }
+    size_t length = text.length;
+    for (uint64_t count = 2; errno == EEXIST && count < MOST_NAMES; count++) {
+        text.length = length;
+        put_text(&text, ".");
+        put_digits(&text, count);
+        if (move_to(whole_name)) return true;
+    }
+    return false;
+}
+
+static const char *reason(int number) {
+    if (number == ENOSPC || number == EDQUOT) return "the disk is full";
+    return number == EACCES || number == EPERM || number == EROFS ? "it must not be written" : "it could not be written";
+}
+
+void finish_file(const char *ending) {
+    if (!part_name[0]) return;
+    int file = open(part_name, O_WRONLY | O_TRUNC | O_CLOEXEC);
+    const char *why = file < 0 ? reason(errno) : write_records(file, ending);
+    if (file >= 0 && close(file) != 0 && !why) why = reason(errno);
+    if (!why && !move_to_name()) why = reason(errno);
+    if (why) refuse(part_name, why);
+    else tell_run("end", part_name, whole_name);
+    part_name[0] = 0;
+}

@@ -1,0 +1,122 @@
+"""What the processes of a run recorded, by the list that each adds its lines to, and why nothing was recorded."""
+import os
+import re
+import subprocess
+import time
+from collections import namedtuple
+
+# A process that began to record: its number and its program; the file if it is whole, or why there is none.
+Process = namedtuple('Process', 'number program file reason')
+
+# How long processes may take to end after a signal.
+SECONDS = 10
+LEFT = 'it was killed, or left by _exit or exec, before it could write its file'
+RUNNING = 'it still runs, and writes its file when it ends'
+# Symbols and versions of them that a program needs and its libraries lack, as `ldd -r` tells.
+LACKING = re.compile(r"version [`']([^']+)' not found|undefined symbol: (\w+)")
+
+
+def is_running(number):
+    """Whether there is such a process that has not ended."""
+    try:
+        with open(f'/proc/{number}/stat', 'rb') as it:
+            return it.read().rpartition(b')')[2].split()[0] not in (b'Z', b'X')
+    except OSError:
+        return False
+
+
+def lines_of(path):
+    with open(path, encoding='utf-8', errors='surrogateescape') as it:
+        return [line.rstrip('\n').split('\t') for line in it]
+
+
+def wait_for_others(path):
+    """Gives the processes that record time to end, as after a signal to all."""
+    ends = time.monotonic() + SECONDS
+    while time.monotonic() < ends:
+        lines = lines_of(path)
+        done = {part for word, _, part, _ in lines if word != 'begin'}
+        if not any(is_running(number) for word, number, part, _ in lines if word == 'begin' and part not in done):
+            return
+        time.sleep(0.01)
+
+
+def processes(path):
+    """The processes that recorded, in the order in which they began; and why others could not, in sentences."""
+    lines = lines_of(path)
+    began = {part: (int(number), program) for word, number, part, program in lines if word == 'begin'}
+    ended = {part: file for word, _, part, file in lines if word == 'end'}
+    failed = [(int(number), what, why) for word, number, what, why in lines if word == 'failed']
+    unwritten = {what: why for _, what, why in failed if what in began}
+    found = [Process(number, program, ended.get(part), reason_of(number, part, unwritten.get(part)))
+             for part, (number, program) in began.items()]
+    return found, [f'process {number}: {what}: {why}' for number, what, why in failed if what not in began]
+
+
+def reason_of(number, part, failure):
+    """Why a process that began has no file, if it has none; what there is of it is removed."""
+    if not os.path.exists(part):
+        return failure or LEFT
+    if not failure and is_running(number):
+        return RUNNING
+    os.remove(part)
+    return failure or LEFT
+
+
+def libraries_of(program, environment=None):
+    """The shared libraries that the program is linked to, each with the file that is loaded for it; none for a script."""
+    ran = subprocess.run(['ldd', program], stdout=subprocess.PIPE, stderr=subprocess.DEVNULL, text=True, env=environment)
+    return {name: file or name for name, file in re.findall(r'^\s*(\S+)(?: => (\S+))?', ran.stdout, re.M)}
+
+
+def is_gcc(libraries):
+    return any(it.startswith('libgomp.so') for it in libraries)
+
+
+def is_llvm(libraries):
+    return any(re.match(r'lib(omp|iomp5)[.\d-]*so', it) for it in libraries)
+
+
+def has_word(file, word):
+    """Whether the word is in the file, as the name of a symbol is."""
+    try:
+        with open(file, 'rb') as it:
+            return word in it.read()
+    except OSError:
+        return False
+
+
+def lacking(program, environment):
+    """The versions of symbols that the program needs and its libraries lack, without which it does not start, and the
+    symbols without which it starts."""
+    ran = subprocess.run(['ldd', '-r', program], stdout=subprocess.PIPE, stderr=subprocess.STDOUT, text=True,
+                         env=environment)
+    found = LACKING.findall(ran.stdout)
+    return [[*dict.fromkeys(filter(None, some))] for some in ([it[0] for it in found], [it[1] for it in found])]
+
+
+def sentence_on_lacking(symbols):
+    return (f"LLVM's runtime, under which programs that gcc compiled are recorded, lacks {', '.join(symbols)}: this program"
+            " runs under GCC's own runtime alone, which has no OMPT")
+
+
+def reason_for_nothing(program, environment, status):
+    """Why a run recorded nothing, where no process said so."""
+    libraries = libraries_of(program, environment)
+    symbols = lacking(program, environment)[1] if is_gcc(libraries) and status else []
+    if symbols:
+        return sentence_on_lacking(symbols)
+    if has_word(program, b'ompt_start_tool'):
+        return ('the program has a tool of OMPT in it (ompt_start_tool), and the runtime takes no other; build the tool as a'
+                ' library, and name that in OMP_TOOL_LIBRARIES: then both run')
+    runtime = next((it for it in libraries if is_gcc([it]) or is_llvm([it])), None)
+    if runtime and not has_word(libraries[runtime], b'ompt_start_tool'):
+        return f'the runtime of the program, {libraries[runtime]}, has no OMPT'
+    if status:
+        return 'the program ended before it used OpenMP'
+    if runtime:
+        return 'this program used no OpenMP: its runtime was never started'
+    if libraries:
+        return 'this program used no OpenMP: it is linked to no OpenMP runtime, and loaded none with OMPT'
+    return ('no runtime with OMPT was loaded: the program used no OpenMP, or is linked statically (no tool can be loaded then),'
+            ' or it is a script whose programs used none')

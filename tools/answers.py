@@ -1,0 +1,113 @@
+"""The answer of `taskaudit check` to a file, explained. The answer is the program's, and the order is that of `taskaudit
+order`; the rest looks at the file once more."""
+import re
+import shutil
+import subprocess
+import sys
+from contextlib import closing
+
+from explanations import explain, lines_of, lines_of_order
+from recording import Recording
+
+# The exit status of each answer, by its first word.
+STATUSES = {'yes': 0, 'no': 1, 'malformed': 2}
+ABOUT_A_PART = 'The file has a part of the run only, and the answer is about that part.'
+YES_OF_A_PART = ('In what was recorded, every wait ended, and every dependent task started, only when it was allowed to, in'
+                 ' every order that the records allow.')
+FOR_WANT_OF_THE_REST = 'The file has a part of the run only: a record that is missing may be the reason of this answer.'
+
+
+class Places:
+    """Where code is in the sources of a program, as far as that is known."""
+
+    def __init__(self, program):
+        self.program = program
+        self.tool = shutil.which('llvm-symbolizer') or shutil.which('addr2line')
+
+    def of(self, code):
+        """The function, file and line of a `codeptr`, which is a return address: the call is just before it."""
+        told = re.fullmatch(r'(?:(.*)\+)?(0x[0-9a-f]+)', code) if isinstance(code, str) else None
+        if not told or not self.tool or not (told[1] or self.program):
+            return None
+        option = '--obj' if self.tool.endswith('llvm-symbolizer') else '--exe'
+        words = [self.tool, f'{option}={told[1] or self.program}', '--functions', '--demangle', hex(int(told[2], 16) - 1)]
+        if option == '--obj':
+            words.insert(-1, '--output-style=GNU')
+        lines = subprocess.run(words, stdout=subprocess.PIPE, stderr=subprocess.DEVNULL, text=True).stdout.splitlines()
+        return f'{lines[1]} in {lines[0]}' if len(lines) > 1 and not lines[1].startswith('??') else None
+
+
+class Answer:
+    """What the check says of a file, its exit status, why the file has a part of a run only, and the explanation."""
+
+    def __init__(self, path, checker, log=sys.stderr):
+        self.text, self.status = check(checker, path, log)
+        self.recording = Recording(path)
+        counted = re.match(r'yes: (\d+) records', self.text)
+        self.partial = self.recording.partial(int(counted[1]) if counted else None)
+        with closing(order(checker, path)) as it:
+            self.found = explain(path, self.text, it)
+        if self.partial:
+            self.say_of_a_part()
+
+    @property
+    def kind(self):
+        """The first word of an answer to the records; None where there is none."""
+        word = self.text.partition(':')[0]
+        return word if STATUSES.get(word) == self.status else None
+
+    def say_of_a_part(self):
+        """That the answer is about a part comes first."""
+        found, told = self.found, [f'{it[0].upper()}{it[1:]}.' for it in self.partial]
+        if self.kind == 'yes':
+            found.answer = found.answer.replace('yes:', 'yes, of what was recorded:', 1)
+            found.sentences = [ABOUT_A_PART, *told, YES_OF_A_PART]
+        else:
+            found.sentences = [FOR_WANT_OF_THE_REST, *told, *found.sentences]
+
+    def as_object(self, places):
+        """The explanation as one JSON object."""
+        def records(shown):
+            return [{'line': it.number, 'part': part, 'record': it.value, 'place': places.of(it.value.get('codeptr'))}
+                    for part, it in shown]
+        found = self.found
+        told = {'answer': found.answer, 'status': self.status, 'partial': self.partial, 'line': found.line,
+                'task': found.task, 'records': records(found.shown), 'sentences': found.sentences, 'order': None}
+        if found.order:
+            sentence, first, left_out, last = found.order
+            told['order'] = {'sentence': sentence, 'first': records(first), 'left_out': left_out, 'last': records(last)}
+        return told
+
+    def as_text(self, places):
+        """The explanation as lines."""
+        found = self.found
+        lines = [found.answer, '', *lines_of(found.shown, places.of), *[''] * bool(found.shown), *found.sentences]
+        if found.order:
+            lines += ['', found.order.sentence, '', *lines_of_order(found.order, places.of)]
+        return '\n'.join(lines)
+
+
+def check(checker, file, log):
+    """The answer of the check, and its exit status. Its other output, as that it is built, goes to the log."""
+    words = [*checker, 'check']
+    with open(file, 'rb') as trace:
+        ran = subprocess.Popen(words, stdin=trace, stdout=subprocess.PIPE, stderr=subprocess.PIPE, text=True)
+    line = ''
+    for line in ran.stderr:
+        log.write(line)
+        log.flush()
+    return ran.stdout.read() or line, ran.wait()
+
+
+def order(checker, file):
+    """Yields thread and seq of each record in the order of the answer."""
+    words = [*checker, 'order']
+    with open(file, 'rb') as trace, subprocess.Popen(words, stdin=trace, stdout=subprocess.PIPE, text=True) as ran:
+        try:
+            next(ran.stdout, None)
+            for line in ran.stdout:
+                thread, seq = line.split()
+                yield int(thread), int(seq)
+        finally:
+            # nobody asks for the rest of the order
+            ran.kill()

@@ -1,0 +1,110 @@
+"""What the header of a file says of the recording: whether it is of a whole run, and what was changed or left out."""
+import json
+
+# What each note in the header says, and how often; the code of the first time follows.
+CHANGED = {
+    'untied': '{count} records of parts of untied tasks are written as of the task that ran there, or left out where it is the'
+              ' same',
+    'created_for_another': '{count} tasks were created in the name of a task that did not run there (taskloop); they are written'
+                           ' as children of the one that did',
+    'discarded_twice': '{count} records that told once more that a task was discarded are left out',
+    'inner_regions': '{count} inner parallel regions of one thread, in which no task was created, are left out',
+    'barriers_renamed': '{count} barriers of code that gcc compiled are written as `barrier`',
+    'doacross': '{count} dependences of doacross loops (source, sink) are left out',
+    'wrong_end': '{count} ends of initial or implicit tasks that came while another task ran are left out',
+    'added_members': '{count} members of teams whose threads never woke are added, on a thread of their own',
+}
+NOT_AUDITED = {
+    'nested': '{count} parallel regions inside others: the file is malformed (NestedParallel or NotCurrent)',
+    'teams': '{count} teams constructs: not audited, the file is malformed',
+    'target': '{count} target tasks: not audited, the file is malformed',
+}
+# Only a file with turns can say where a task resumes.
+MOVED = '{count} times a task went on on another thread (untied tasks)'
+MOVED_BY_VERSION = {
+    1: f'NOT AUDITED: {MOVED}: the file is malformed (Moved), since version 1 of the file cannot say that',
+    2: f'{MOVED}, as its turns say',
+}
+# Why a file has a part of a run only.
+PARTIAL = {
+    'many_records': 'recording stopped at 2^22 records; the program went on',
+    'many_tasks': 'recording stopped at 2^20 tasks; the program went on',
+    'many_threads': 'recording stopped at the 257th thread; the program went on',
+    'deep_tasks': 'recording stopped at a task that stands more than 1,024 steps below its root; the program went on',
+    'no_memory': 'recording stopped, since memory ran out; the program went on',
+    'long_list': '{count} dependences past the 64th of a task are left out',
+    'all_memory': '{count} dependences on all memory are left out',
+    'late_list': '{count} lists of dependences that did not follow the creation of their task are left out',
+    'no_task': '{count} callbacks that named no task are left out',
+    'unknown': '{count} callbacks or dependences of a kind that this recorder does not know are left out',
+    'signal': 'the program ended by a signal ({ending}); the file has what was recorded until then',
+    'open_region': 'the program ended inside a parallel region; the file has what was recorded until then',
+}
+UNTOLD = 'its header does not say how much was recorded: it was cut or changed, or an early recorder wrote it'
+LONGEST_LINE = 1 << 16
+PIECE = 1 << 20
+
+
+class Recording:
+    """What our recorder says of a file in its header. Other recorders say nothing: their files are taken as whole."""
+
+    def __init__(self, path):
+        self.path = path
+        with open(path, 'rb') as it:
+            header = value_of(it.readline(LONGEST_LINE + 1))
+        told = header.get('recorder')
+        self.version, self.is_ours = header.get('version'), isinstance(told, dict)
+        self.told = told if self.is_ours else {}
+        notes = self.told.get('notes')
+        self.notes = {name: it for name, it in notes.items() if isinstance(it, dict)} if isinstance(notes, dict) else {}
+
+    def sentence(self, text, name):
+        """A sentence on a note, with the code of the first time where that is known."""
+        note = self.notes.get(name, {})
+        place = f" (first at {note['codeptr']})" if 'codeptr' in note else ''
+        return text.format(count=note.get('count'), ending=self.told.get('ending')) + place
+
+    def extent(self):
+        """How many records the header says that there are, and by which names not all of the run; or None where it does
+        not say so."""
+        told = self.told.get('recording')
+        if not isinstance(told, dict):
+            return None
+        counts, partial = told.get('records'), told.get('partial')
+        if not isinstance(counts, list) or not isinstance(partial, list) or not all(type(it) is int for it in counts):
+            return None
+        return sum(counts), [str(it) for it in partial]
+
+    def partial(self, count=None):
+        """Why the file has a part of the run only, in sentences; none where it has the whole. `count` is how many records
+        are in the file, where that is known already."""
+        if not self.is_ours:
+            return []
+        extent = self.extent()
+        if not extent:
+            return [UNTOLD]
+        (wanted, names), count = extent, self.count() if count is None else count
+        cut = [f'the file has {count:,} of {wanted:,} records: it was cut or changed'] * (count != wanted)
+        return cut + [self.sentence(PARTIAL[it], it) if it in PARTIAL else it for it in names]
+
+    def count(self):
+        """How many lines follow the header."""
+        with open(self.path, 'rb') as it:
+            return sum(piece.count(b'\n') for piece in iter(lambda: it.read(PIECE), b'')) - 1
+
+    def changes(self):
+        """What was changed or left out in what is recorded, and what the audit does not cover, in sentences."""
+        found = [self.sentence(text, name) for name, text in CHANGED.items() if name in self.notes]
+        if 'moved' in self.notes:
+            found.append(self.sentence(MOVED_BY_VERSION.get(self.version, MOVED), 'moved'))
+        return found + [f'NOT AUDITED: {self.sentence(text, name)}' for name, text in NOT_AUDITED.items()
+                        if name in self.notes]
+
+
+def value_of(line):
+    """The object that a line is, or an empty one."""
+    try:
+        value = json.loads(line)
+    except (ValueError, RecursionError):
+        return {}
+    return value if isinstance(value, dict) else {}
