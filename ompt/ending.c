@@ -64,7 +64,7 @@ static void wait_for_writer(void) {
 
 /* By a signal */
 
-/* Ends the process as it would end without a recorder. */
+/* Ends the process as it would end without a recorder. The first process of a container survives that. */
 static void die(int number) {
     sigset_t only;
     sigemptyset(&only);
@@ -72,6 +72,7 @@ static void die(int number) {
     signal(number, SIG_DFL);
     raise(number);
     pthread_sigmask(SIG_UNBLOCK, &only, NULL);
+    _exit(128 + number);
 }
 
 static void stay(int number) {

@@ -17,7 +17,8 @@
 struct settings settings = {.version = DEFAULT_VERSION};
 
 /* Where an MPI tells a process its rank. */
-static const char *const ranks[] = {"OMPI_COMM_WORLD_RANK", "PMIX_RANK", "PMI_RANK", "MV2_COMM_WORLD_RANK", "SLURM_PROCID"};
+static const char *const ranks[] = {"OMPI_COMM_WORLD_RANK", "PMIX_RANK", "PMI_RANK", "MV2_COMM_WORLD_RANK",
+                                    "SLURM_PROCID"};
 enum { RANKS = sizeof ranks / sizeof *ranks, MOST_NAMES = 10000 };
 
 /* The name that the file is to have, and the one that it has until it is whole; that is empty where there is no file. */

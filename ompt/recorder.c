@@ -200,15 +200,20 @@ static void begin_root(struct thread *thread, struct record record, ompt_data_t 
     keep_known(thread, record);
 }
 
-/* Returns the task of a callback that tells which task runs. In a forked process the runtime begins anew, and does not
-   tell of the initial task that it begins: that begins here where it first occurs. */
-static struct task *running_task(struct thread *thread, ompt_data_t *data) {
-    if (is_forked && data && !data->ptr && !thread->current) {
-        keep_known(thread, (struct record){.callback = THREAD_BEGIN, .kind = ompt_thread_initial});
-        begin_root(thread, (struct record){.callback = IMPLICIT_TASK, .endpoint = ompt_scope_begin, .size = 1, .index = 1,
-                                           .flags = ompt_task_initial}, data);
-    }
+/* In a forked process the runtime begins anew, and does not tell of the initial task that it begins: that begins here,
+   where it first occurs. Returns it, or NULL. */
+__attribute__((noinline)) static struct task *begin_initial(struct thread *thread, ompt_data_t *data) {
+    if (!is_forked || !data || thread->current) return NULL;
+    keep_known(thread, (struct record){.callback = THREAD_BEGIN, .kind = ompt_thread_initial});
+    begin_root(thread, (struct record){.callback = IMPLICIT_TASK, .endpoint = ompt_scope_begin, .size = 1, .index = 1,
+                                       .flags = ompt_task_initial}, data);
     return task_of(data);
+}
+
+/* Returns the task of a callback that tells which task runs. */
+static struct task *running_task(struct thread *thread, ompt_data_t *data) {
+    struct task *task = task_of(data);
+    return task ? task : begin_initial(thread, data);
 }
 
 static void on_parallel_begin(ompt_data_t *encountering, const ompt_frame_t *frame, ompt_data_t *region,

@@ -95,6 +95,9 @@ enum note {
     MANY_RECORDS, MANY_TASKS, MANY_THREADS, DEEP_TASKS, NO_MEMORY, NOTES
 };
 
+/* Not for other libraries; so the compiler needs no look-up at each use. */
+#pragma GCC visibility push(hidden)
+
 extern struct thread *threads[MAX_THREADS];
 extern _Atomic int thread_count;
 extern _Atomic uint32_t region_count;
@@ -138,5 +141,7 @@ void forget_file(void);
 void finish_file(const char *ending);
 /* The name of the program that runs, without its folder. */
 const char *program_name(void);
+
+#pragma GCC visibility pop
 
 #endif

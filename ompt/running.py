@@ -1,10 +1,13 @@
-"""A program in a process group of its own, to which signals are passed on, as a shell runs it."""
+"""A program in a process group of its own, as a shell runs it: signals to this process are passed on to all of the group,
+and the program gets the terminal once it reads it."""
 import os
 import signal
 import subprocess
 
 # What ends a run: it is for the program, which then writes its file.
 PASSED_ON = (signal.SIGINT, signal.SIGTERM, signal.SIGHUP, signal.SIGQUIT)
+# Why a process behind others stops: it reads the terminal, or writes to it where that is set up so.
+WANTS_TERMINAL = (signal.SIGTTIN, signal.SIGTTOU)
 
 
 class Ended:
@@ -33,46 +36,27 @@ def terminal():
 
 
 class Run:
-    """A run of the program, from its start to its end."""
+    """A run of the program, from its start to its end. It has the terminal only from when it wants it, since others that
+    were started with this process, as by `make -j`, are in front too, and Ctrl-C is for all of them."""
 
     def __init__(self, words, environment):
-        self.terminal, self.group, self.was_told = terminal(), os.getpgrp(), False
-        self.had_terminal = self.is_in_front(self.group)
-        self.before = {it: signal.getsignal(it) for it in (*PASSED_ON, signal.SIGTTOU)}
-        # so that this process may give and take the terminal from behind
-        signal.signal(signal.SIGTTOU, signal.SIG_IGN)
+        self.terminal, self.group = terminal(), os.getpgrp()
+        self.was_told = self.has_terminal = False
+        self.before = {it: signal.getsignal(it) for it in (*PASSED_ON, signal.SIGTSTP, signal.SIGTTOU)}
         signal.pthread_sigmask(signal.SIG_BLOCK, PASSED_ON)
         try:
-            self.program = subprocess.Popen(words, env=environment, preexec_fn=self.lead)
+            self.program = subprocess.Popen(words, env=environment, preexec_fn=lead)
             self.take_signals()
-        except OSError:
-            self.give_terminal(self.group)
-            raise
         finally:
             signal.pthread_sigmask(signal.SIG_UNBLOCK, PASSED_ON)
 
-    def lead(self):
-        """Makes the program the leader of its group, and gives it the terminal if this process has it."""
-        os.setpgid(0, 0)
-        self.give_terminal(os.getpid())
-        signal.signal(signal.SIGTTOU, self.before[signal.SIGTTOU])
-        signal.pthread_sigmask(signal.SIG_UNBLOCK, PASSED_ON)
-
-    def give_terminal(self, group):
-        if self.had_terminal:
-            os.tcsetpgrp(self.terminal, group)
-
-    def is_in_front(self, group):
-        try:
-            return self.terminal is not None and os.tcgetpgrp(self.terminal) == group
-        except OSError:
-            return False
-
     def take_signals(self):
-        for it in PASSED_ON:
+        # so that this process may take the terminal back from behind
+        signal.signal(signal.SIGTTOU, signal.SIG_IGN)
+        for it in (*PASSED_ON, signal.SIGTSTP):
             # what was ignored before, as by nohup, the program ignores too
             if self.before[it] != signal.SIG_IGN:
-                signal.signal(it, self.pass_on)
+                signal.signal(it, self.stop if it == signal.SIGTSTP else self.pass_on)
 
     def pass_on(self, number, _frame):
         self.was_told = True
@@ -89,7 +73,7 @@ class Run:
         """Waits for the program's end, and returns how it ended. From then on signals are for this process again."""
         try:
             while os.WIFSTOPPED(status := os.waitpid(self.program.pid, os.WUNTRACED)[1]):
-                self.stop(os.WSTOPSIG(status))
+                self.on_stopped(os.WSTOPSIG(status))
         finally:
             self.take_terminal()
             for number, handler in self.before.items():
@@ -97,16 +81,44 @@ class Run:
         self.program.returncode = os.waitstatus_to_exitcode(status)
         return Ended(self.program.returncode, self.was_told)
 
+    def is_in_front(self, group):
+        try:
+            return self.terminal is not None and os.tcgetpgrp(self.terminal) == group
+        except OSError:
+            return False
+
+    def give_terminal(self):
+        if self.is_in_front(self.group):
+            os.tcsetpgrp(self.terminal, self.program.pid)
+
     def take_terminal(self):
         if self.is_in_front(self.program.pid):
             os.tcsetpgrp(self.terminal, self.group)
 
-    def stop(self, number):
-        """The program stopped, as by Ctrl-Z: so does all that was started with this process. Both go on together."""
-        if self.terminal is None or number == signal.SIGSTOP:
-            return
-        self.take_terminal()
-        os.killpg(self.group, signal.SIGTSTP)
-        if self.is_in_front(self.group):
-            os.tcsetpgrp(self.terminal, self.program.pid)
+    def on_stopped(self, number):
+        """The program stopped: it wants the terminal, or it had it when Ctrl-Z was typed."""
+        if number in WANTS_TERMINAL and self.is_in_front(self.group):
+            self.has_terminal = True
+            self.give_terminal()
+            self.send(signal.SIGCONT)
+        elif number in WANTS_TERMINAL or self.is_in_front(self.program.pid):
+            self.has_terminal = True
+            self.take_terminal()
+            # all that was started with this process stops, this process by `stop`
+            os.killpg(self.group, signal.SIGTSTP)
+
+    def stop(self, number, _frame):
+        """Stops the program and this process, until both are to go on."""
+        self.send(signal.SIGTSTP)
+        signal.signal(number, signal.SIG_DFL)
+        os.kill(os.getpid(), number)
+        signal.signal(number, self.stop)
+        if self.has_terminal:
+            self.give_terminal()
         self.send(signal.SIGCONT)
+
+
+def lead():
+    """Makes the program the leader of its group, before it starts."""
+    os.setpgid(0, 0)
+    signal.pthread_sigmask(signal.SIG_UNBLOCK, PASSED_ON)

@@ -26,8 +26,10 @@ def is_running(number):
 
 
 def lines_of(path):
+    """The lines of the list: a word, the process and two texts."""
     with open(path, encoding='utf-8', errors='surrogateescape') as it:
-        return [line.rstrip('\n').split('\t') for line in it]
+        lines = [line.rstrip('\n').split('\t') for line in it]
+    return [it for it in lines if len(it) == 4]
 
 
 def wait_for_others(path):
@@ -96,8 +98,8 @@ def lacking(program, environment):
 
 
 def sentence_on_lacking(symbols):
-    return (f"LLVM's runtime, under which programs that gcc compiled are recorded, lacks {', '.join(symbols)}: this program"
-            " runs under GCC's own runtime alone, which has no OMPT")
+    return (f"LLVM's runtime, under which programs that gcc compiled are recorded, lacks {', '.join(symbols)}: this"
+            " program runs under GCC's own runtime alone, which has no OMPT")
 
 
 def reason_for_nothing(program, environment, status):
@@ -107,8 +109,8 @@ def reason_for_nothing(program, environment, status):
     if symbols:
         return sentence_on_lacking(symbols)
     if has_word(program, b'ompt_start_tool'):
-        return ('the program has a tool of OMPT in it (ompt_start_tool), and the runtime takes no other; build the tool as a'
-                ' library, and name that in OMP_TOOL_LIBRARIES: then both run')
+        return ('the program has a tool of OMPT in it (ompt_start_tool), and the runtime takes no other; build the tool'
+                ' as a library, and name that in OMP_TOOL_LIBRARIES: then both run')
     runtime = next((it for it in libraries if is_gcc([it]) or is_llvm([it])), None)
     if runtime and not has_word(libraries[runtime], b'ompt_start_tool'):
         return f'the runtime of the program, {libraries[runtime]}, has no OMPT'
@@ -118,5 +120,5 @@ def reason_for_nothing(program, environment, status):
         return 'this program used no OpenMP: its runtime was never started'
     if libraries:
         return 'this program used no OpenMP: it is linked to no OpenMP runtime, and loaded none with OMPT'
-    return ('no runtime with OMPT was loaded: the program used no OpenMP, or is linked statically (no tool can be loaded then),'
-            ' or it is a script whose programs used none')
+    return ('no runtime with OMPT was loaded: the program used no OpenMP, or is linked statically (no tool can be'
+            ' loaded then), or it is a script whose programs used none')

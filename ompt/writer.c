@@ -385,29 +385,31 @@ static void look_at_schedule(const struct record *record) {
     dependent_count++;
 }
 
-/* A region that an explicit or implicit task begins; the cursor moves behind one that is left out. */
-static void look_at_inner_region(struct cursor *cursor, const struct record *record, int thread) {
-    bool is_left_out = passes_inner_region(cursor, record);
-    count(is_left_out ? INNER_REGIONS : NESTED, record->code);
-    lines[thread] -= is_left_out;
-    open_regions -= is_left_out;
+/* Whether a region that an explicit or implicit task begins is left out; the cursor moves behind it then. */
+static bool leaves_out(struct cursor *cursor, const struct record *begin) {
+    bool is_left_out = passes_inner_region(cursor, begin);
+    count(is_left_out ? INNER_REGIONS : NESTED, begin->code);
+    return is_left_out;
 }
 
 /* Gives the tasks their ids, which rise in the order of the lines that make them, and counts what is there and what is
    left out. */
 static void look_at(const struct thread *thread) {
     struct cursor cursor = records_of(thread);
+    uint32_t left_out = 0;
     for (const struct record *record; (record = next(&cursor));) {
-        lines[thread->number]++;
-        open_regions += record->callback == PARALLEL_BEGIN;
-        open_regions -= record->callback == PARALLEL_END;
         if (record->callback == TASK_CREATE) record->other->id = ++last_id;
         else if (record->callback == IMPLICIT_TASK) look_at_root(record);
         else if (record->callback == SYNC_REGION) look_at_region(record);
         else if (record->callback == TASK_SCHEDULE) look_at_schedule(record);
-        else if (record->callback == PARALLEL_BEGIN && !record->task->is_initial)
-            look_at_inner_region(&cursor, record, thread->number);
+        else if (record->callback == PARALLEL_END) open_regions--;
+        else if (record->callback == PARALLEL_BEGIN) {
+            uint32_t at = cursor.at;
+            if (record->task->is_initial || !leaves_out(&cursor, record)) open_regions++;
+            else left_out += cursor.at - at + 1;
+        }
     }
+    lines[thread->number] = cursor.count - left_out;
 }
 
 /* Code that gcc compiled reports its barriers as `barrier_implementation`, or as that on the primary thread and as

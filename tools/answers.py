@@ -12,8 +12,8 @@ from recording import Recording
 # The exit status of each answer, by its first word.
 STATUSES = {'yes': 0, 'no': 1, 'malformed': 2}
 ABOUT_A_PART = 'The file has a part of the run only, and the answer is about that part.'
-YES_OF_A_PART = ('In what was recorded, every wait ended, and every dependent task started, only when it was allowed to, in'
-                 ' every order that the records allow.')
+YES_OF_A_PART = ('In what was recorded, every wait ended, and every dependent task started, only when it was allowed to,'
+                 ' in every order that the records allow.')
 FOR_WANT_OF_THE_REST = 'The file has a part of the run only: a record that is missing may be the reason of this answer.'
 
 

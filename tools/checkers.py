@@ -58,7 +58,7 @@ def find_checker(is_unproved):
         told = f'the program of this checkout is not built: {installed()} audits'
         return [installed()], told if is_checkout else None
     if is_checkout and shutil.which('rt'):
-        return [SCRIPT], ('the program that audits is not built yet: behind this run it is proved and built, which takes 20'
-                          ' to 50 minutes; --unproved compiles it without proofs in two, --no-check only records')
-    raise NoChecker('there is no program to audit with: neither the command rt of the Rattle kit is on the PATH, which builds'
-                    ' it, nor a taskaudit that is installed; --no-check only records')
+        return [SCRIPT], ('the program that audits is not built yet: behind this run it is proved and built, which takes'
+                          ' 20 to 50 minutes; --unproved compiles it without proofs in two, --no-check only records')
+    raise NoChecker('there is no program to audit with: neither the command rt of the Rattle kit is on the PATH, which'
+                    ' builds it, nor a taskaudit that is installed; --no-check only records')

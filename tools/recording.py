@@ -3,10 +3,10 @@ import json
 
 # What each note in the header says, and how often; the code of the first time follows.
 CHANGED = {
-    'untied': '{count} records of parts of untied tasks are written as of the task that ran there, or left out where it is the'
-              ' same',
-    'created_for_another': '{count} tasks were created in the name of a task that did not run there (taskloop); they are written'
-                           ' as children of the one that did',
+    'untied': '{count} records of parts of untied tasks are written as of the task that ran there, or left out where it'
+              ' is the same',
+    'created_for_another': '{count} tasks were created in the name of a task that did not run there (taskloop); they are'
+                           ' written as children of the one that did',
     'discarded_twice': '{count} records that told once more that a task was discarded are left out',
     'inner_regions': '{count} inner parallel regions of one thread, in which no task was created, are left out',
     'barriers_renamed': '{count} barriers of code that gcc compiled are written as `barrier`',
