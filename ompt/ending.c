@@ -30,9 +30,9 @@ enum { LEAVING = 20, SAME_SIGNAL = 200 };
 enum { NOBODY, SOMEBODY, WRITTEN };
 static _Atomic int writing;
 static _Atomic int writer;
-/* The first signal that asked for the end, or 0, and when. */
-static _Atomic int asked_by;
-static _Atomic int64_t asked_at;
+/* The first signal that asked for the end: when, in milliseconds, times SIGNAL_BOUND, and its number; or 0. */
+static _Atomic int64_t asked;
+enum { SIGNAL_BOUND = 128 };
 static pid_t process;         /* that is recorded; none before the first */
 
 static int this_id(void) {
@@ -90,19 +90,22 @@ static void hold_others(void) {
 
 /* Notes that this signal asked for the end, if it is the first one. */
 static bool is_first(int number) {
-    int none = 0;
-    if (!atomic_compare_exchange_strong(&asked_by, &none, number)) return false;
-    atomic_store(&asked_at, milliseconds());
-    return true;
+    int64_t none = 0;
+    return atomic_compare_exchange_strong(&asked, &none, milliseconds() * SIGNAL_BOUND + number);
+}
+
+/* Whether it is the first one once more. */
+static bool is_repeated(void) {
+    return milliseconds() - atomic_load(&asked) / SIGNAL_BOUND < SAME_SIGNAL;
 }
 
 /* A signal while the file is written, or after that. A thread that crashes meanwhile has to wait. What asks for the end
    waits too, but the second time it gets it. */
 static void on_later_signal(int number, bool is_crash) {
     if (getpid() != process || atomic_load(&writing) != SOMEBODY) die(number);
-    else if (!is_crash && (is_first(number) || milliseconds() - atomic_load(&asked_at) < SAME_SIGNAL)) return;
+    else if (!is_crash && (is_first(number) || is_repeated())) return;
     else if (!is_crash || atomic_load(&writer) == this_id()) die(number);
-    else if (atomic_load(&asked_by)) stay(number);
+    else if (atomic_load(&asked)) stay(number);
     else wait_for_writer(), die(number);
 }
 
@@ -133,7 +136,7 @@ void end_process(const char *ending) {
     if (is_writer()) {
         finish_file(ending);
         atomic_store(&writing, WRITTEN);
-        if (atomic_load(&asked_by)) die(atomic_load(&asked_by));
+        if (atomic_load(&asked)) die((int)(atomic_load(&asked) % SIGNAL_BOUND));
     } else if (getpid() == process) {
         wait_for_writer();
     }
@@ -144,7 +147,7 @@ void end_process(const char *ending) {
 static void begin_again(void) {
     if (!process) return;
     process = getpid();
-    atomic_store(&asked_by, 0);
+    atomic_store(&asked, 0);
     forget_file();
     forget_records();
     atomic_store(&writing, NOBODY);
