@@ -28,7 +28,9 @@ use Rattle.clap.proofs.OnLiterals.{clap_on_literals}
 use Rattle.clap.specs.declared.error.kind.ErrorKind.TheVariants.{DisplayVersion}
 use Rattle.taskaudit.specs.declared.work.Job.{Job}
 use Rattle.taskaudit.specs.Commands.{command_line, check_by, number_of, job_named, AsksFor, AsksVersion}
-use Rattle.taskaudit.specs.Commands.{HasFewWorkers}
+use Rattle.taskaudit.specs.Commands.{HasFewWorkers, AsksOf, Place, by_no_word, by_dash, by_name}
+use Rattle.taskaudit.specs.Commands.{file_word, place_named}
+use Rattle.std.proofs.lemmas.Slice.Eq.{bytes_eq-Decides}
 use Rattle.taskaudit.proofs.WorkersLemmas.{no_first, no_second, workers_fit}
 
 is_simple_line : is_simple command_line ≡ true
@@ -93,9 +95,10 @@ names_at (Some (name, rest)) passed e =
     (workers_fit _ (
       record {
         defaults = refl;
-        which = inl refl;
+        which = inr (inr (refl, refl));
       },
-      (record { defaults = refl; which = inr refl }, tt),
+      (record { defaults = refl; which = inl refl },
+      (record { defaults = refl; which = inr (inl refl) }, tt)),
     )
     rest own))
     passed e
@@ -181,6 +184,21 @@ few_named (Some (name, rows)) job e =
 pub few_asked : (words : List Text) (job : Job) → AsksFor words job → HasFewWorkers job
 few_asked words job asked = few_named (subcommand_of command_line words) job asked
 
+-- ---- the place that a job reads from
+
+pub of_no_word : (o : Option Text) → o ≡ None → place_named o ≡ by_no_word
+of_no_word o is = ap place_named is
+
+pub of_a_line : (o : Option Text) (t : Text) → o ≡ Some t → t ≡ codes "-" → place_named o ≡ by_dash
+of_a_line o t is line = ap place_named (is ∙ ap (λ (w : Text). Some w) line)
+
+pub of_a_name : (o : Option Text) (t : Text) → o ≡ Some t → (t ≡ codes "-" → ⊥) → place_named o ≡ by_name t
+of_a_name o t is other = ap place_named is ∙ go (bytes_eq t (codes "-")) refl
+  where
+    go : (b : Bool) → bytes_eq t (codes "-") ≡ b → cond b by_dash (by_name t) ≡ by_name t
+    go true same = absurd (other ((bytes_eq-Decides t (codes "-")).0 same))
+    go false same = refl
+
 is_some_map : {T U : Type 0} (f : T → U) (o : Option T) → is_some (option_map f o) ≡ is_some o
 is_some_map f None = refl
 is_some_map f (Some x) = refl
@@ -210,3 +228,8 @@ module _ (c : Command) (m : ArgMatches) (line : app_of c ≡ command_line) where
     pub asks_for : (job : Job) → option_and_then job_named (subcommand_rows_of m) ≡ Some job
         → AsksFor words job
     asks_for job named = sym (ap (option_and_then job_named) rows) ∙ named
+
+    -- and the place from which they ask it
+    pub asks_of : (place : Place)
+        → place_named (option_and_then file_word (subcommand_rows_of m)) ≡ place → AsksOf words place
+    asks_of place is = sym (ap (λ o. place_named (option_and_then file_word o)) rows) ∙ is

@@ -1,6 +1,8 @@
 pub mod CommandLemmas
 mod WorkersLemmas
+mod LookLemmas
 mod VersionLemmas
+mod ServingLemmas
 mod CountLemmas
 mod PlaceLemmas
 mod HeadlineLemmas

@@ -13,9 +13,9 @@ use Rattle.taskaudit.specs.declared.work.AuditFault.TheVariants as why
 use Rattle.taskaudit.specs.declared.work.Done.{Done}
 use Rattle.taskaudit.specs.declared.work.Job.{Job}
 use Rattle.taskaudit.specs.declared.work.Refusal.{Refusal}
-use Rattle.taskaudit.specs.declared.work.Refusal.TheVariants.{NotText, Words, Audit}
+use Rattle.taskaudit.specs.declared.work.Refusal.TheVariants.{NotText, Words, File, Audit}
 use Rattle.taskaudit.specs.Commands.{command_line, job_named, AsksFor, AsksVersion}
-use Rattle.taskaudit.specs.Programs.{DoesAsked, Ends, IsRefused, ShowsVersion, version_written}
+use Rattle.taskaudit.specs.Programs.{DoesAsked, Ends, IsRefused, ShowsVersion, World, version_written}
 use Rattle.taskaudit.specs.Programs.{version_unwritten, no_memory}
 use Rattle.taskaudit.specs.Statuses.{exit_status_of, usage_status_of}
 use Rattle.taskaudit.specs.Tellings.{Call, write, IsToldFault, IsToldWords, with_text, without_text, version}
@@ -68,17 +68,19 @@ words_told made error _ (inr (inl is)) (unwritten status (said not_this tried) t
 words_told made error _ (inr (inr never)) (unwritten status (said not_this tried) told) = absurd never
 words_told made error _ kinds (out_of_memory {fault = fault} memory told) = memory_told made fault told
 
-pub version_shown : (made : Call → Type 0) (words : List Text) → AsksVersion words
-    → (bytes old new : Option (List ℕ)) (ending : Result Done Refusal)
-    → IfOk ending (DoesAsked words bytes old new)
-    → IfErr ending (IsRefused words bytes old new) → (status : ℕ) → Ends made ending status
-    → ShowsVersion made status
-version_shown made words asks bytes old new (Ok done) does refused status ends =
-    absurd (no_job words asks does.0 does.1)
-version_shown made words asks bytes old new (Err NotText) does refused status ends = absurd refused
-version_shown made words asks bytes old new (Err (Audit fault)) does refused status ends =
-    absurd (no_job words asks refused.0 refused.1)
-version_shown made words asks bytes old new (Err (Words error)) does refused status ends =
-    let kinds = subst (λ (them : Kinds). HasKind them error) (shows_version words asks) refused.0 in
-    subst (ShowsVersion made) (sym (ends.2 ∙ ap exit_status_of ends.1.1))
-    (words_told made error ends.1.0 kinds ends.1.2)
+module _ {F : Type 0} (world : World F) (words : List Text) where
+  pub version_shown : AsksVersion words → (input old new : Option (List ℕ)) (ending : Result Done Refusal)
+      → IfOk ending (DoesAsked world words input old new)
+      → IfErr ending (IsRefused world words input old new) → (status : ℕ)
+      → Ends world.made ending status → ShowsVersion world.made status
+  version_shown asks input old new (Ok done) does refused status ends =
+      absurd (no_job words asks does.0 does.1)
+  version_shown asks input old new (Err NotText) does refused status ends = absurd refused
+  version_shown asks input old new (Err (File fault)) does refused status ends =
+      absurd (no_job words asks refused.0 refused.1)
+  version_shown asks input old new (Err (Audit fault)) does refused status ends =
+      absurd (no_job words asks refused.0 refused.1)
+  version_shown asks input old new (Err (Words error)) does refused status ends =
+      let kinds = subst (λ (them : Kinds). HasKind them error) (shows_version words asks) refused.0 in
+      subst (ShowsVersion world.made) (sym (ends.2 ∙ ap exit_status_of ends.1.1))
+      (words_told world.made error ends.1.0 kinds ends.1.2)

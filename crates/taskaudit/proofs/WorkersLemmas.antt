@@ -1,6 +1,6 @@
 -- What clap finds for `--workers` where it refuses nothing: a number from 1 to 256.
 use Rattle.std.proofs.Common.{◌≡◌, ◌∙◌, ◌&&◌, ◌++◌, ◌⊎◌, ◌==◌, ℕ, Bool, cond, codes, true, false, zero, suc}
-use Rattle.std.proofs.Common.{refl, sym, ap₂, subst, arith, List, [], ◌∷◌, length, drop, Option, Some, None}
+use Rattle.std.proofs.Common.{refl, sym, ap, ap₂, subst, arith, List, [], ◌∷◌, length, drop, Option, Some, None}
 use Rattle.std.proofs.Common.{inl, inr, option_and_then, option_map}
 use Rattle.std.specs.Prelude.{IfSome, is_some, encode_utf8, pos, slice_get, unwrap_or}
 use Rattle.std.specs.List.{AllByRecursion, find, fold, list_all}
@@ -9,6 +9,7 @@ use Rattle.std.specs.Str.{bytes_eq, chars}
 use Rattle.std.specs.Str.Parse.{starts_with_minus}
 use Rattle.std.proofs.lemmas.Int.{ints}
 use Rattle.std.proofs.lemmas.List.Folds.{list_all-append}
+use Rattle.std.proofs.lemmas.Slice.Eq.{bytes_eq-Decides}
 use Rattle.clap.specs.Words.{Row, Rule, Shape, Text, one_of, without_minus}
 use Rattle.clap.specs.Values.{IsSignedIn, IsUnsignedIn, read_as}
 use Rattle.clap.specs.ValueTests.{accepts, is_unsigned_in}
@@ -28,9 +29,10 @@ use Rattle.clap.specs.Faults.{option_fault, other_fault, positional_fault, react
 use Rattle.clap.specs.Faults.{set_fault, settle_fault, short_fault, step_fault, stray_fault, turn_fault}
 use Rattle.clap.specs.Faults.{use_fault, walk_fault, word_fault}
 use Rattle.clap.specs.declared.builder.action.ArgAction.{ArgAction}
-use Rattle.clap.specs.declared.builder.action.ArgAction.TheVariants.{Help}
+use Rattle.clap.specs.declared.builder.action.ArgAction.TheVariants.{Help, Set}
 use Rattle.clap.specs.declared.builder.value_parser.ValueParser.{ValueParser}
 use Rattle.clap.specs.declared.builder.value_parser.ValueParser.TheVariants as vp
+use Rattle.clap.specs.declared.builder.value_parser.Reading.{Reading}
 use Rattle.clap.specs.declared.builder.value_parser.Reading.TheVariants as reading
 use Rattle.clap.specs.declared.error.kind.ErrorKind.TheVariants as kind
 use Rattle.clap.specs.declared.parser.matches.ValueSource.TheVariants.{CommandLine}
@@ -45,18 +47,27 @@ parser = vp.Signed (pos 1) (pos 256)
 abbrev fits : Text → Bool
 fits = accepts false parser
 
--- a row of values that passed
-record HasPassed (r : Row) : Type 0 where
-  read : r.reading ≡ reading.WithoutMinus
-  passed : list_all fits r.values ≡ true
+-- the name of the option `--workers`
+abbrev is_workers : Text → Bool
+is_workers id = bytes_eq id (codes "workers")
+
+-- values that passed
+record HavePassed (how : Reading) (values : List Text) : Type 0 where
+  read : how ≡ reading.WithoutMinus
+  passed : list_all fits values ≡ true
+
+-- the values of the option passed, if the row is one of it
+abbrev HasPassed : Row → Type 0
+HasPassed r = is_workers r.id ≡ true → HavePassed r.reading r.values
 
 abbrev Passed : List Row → Type 0
 Passed = AllByRecursion HasPassed
 
--- an argument that is the option `--workers`, or asks for help
-pub record IsWorkersOrHelp (a : Rule) : Type 0 where
+-- an argument that is the option `--workers`, asks for help, or has another name and one value
+pub record IsKnown (a : Rule) : Type 0 where
   pub defaults : a.defaults ≡ []
-  pub which : (a ≡ filled workers_rule) ⊎ (action_of a ≡ Help)
+  pub which : (a ≡ filled workers_rule)
+      ⊎ ((action_of a ≡ Help) ⊎ ((action_of a ≡ Set) × (is_workers a.id ≡ false)))
 
 -- ---- two steps of which neither fails
 
@@ -91,23 +102,29 @@ without_passes id (r ∷ rs) h = go (bytes_eq r.id id) (without_passes id rs h.1
     go true rest = h.1
     go false rest = (h.0, rest)
 
-with_passes : (id : Text) (vs : List Text) (rows : List Row) → list_all fits vs ≡ true → Passed rows
-    → Passed (with_values id reading.WithoutMinus CommandLine vs rows)
-with_passes id vs [] fit h = (record { read = refl; passed = fit }, tt)
-with_passes id vs (r ∷ rs) fit h = go (bytes_eq r.id id) (with_passes id vs rs fit h.1)
+with_passes : (id : Text) (how : Reading) (vs : List Text) (rows : List Row)
+    → (is_workers id ≡ true → HavePassed how vs) → Passed rows
+    → Passed (with_values id how CommandLine vs rows)
+with_passes id how vs [] fit h = (fit, tt)
+with_passes id how vs (r ∷ rs) fit h = go (bytes_eq r.id id) refl (with_passes id how vs rs fit h.1)
   where
-    go : (b : Bool) → Passed (with_values id reading.WithoutMinus CommandLine vs rs)
+    go : (b : Bool) → bytes_eq r.id id ≡ b → Passed (with_values id how CommandLine vs rs)
         → Passed
         (cond b (record r { values = r.values ++ vs; source = Some (stronger r.source CommandLine) } ∷ rs)
-        (r ∷ with_values id reading.WithoutMinus CommandLine vs rs))
-    go true rest = (
-      record {
-        read = h.0.read;
-        passed = list_all-append fits r.values vs ∙ ap₂ (λ (a b : Bool). a && b) h.0.passed fit;
-      },
+        (r ∷ with_values id how CommandLine vs rs))
+    go true same rest = (
+      λ named.
+          let is : r.id ≡ id = (bytes_eq-Decides r.id id).0 same in
+          record {
+            read = (h.0 named).read;
+            passed =
+                list_all-append fits r.values vs
+                ∙ ap₂ (λ (a b : Bool). a && b) (h.0 named).passed
+                (fit (ap is_workers (sym is) ∙ named)).passed;
+          },
       h.1,
     )
-    go false rest = (h.0, rest)
+    go false same rest = (h.0, rest)
 
 -- ---- one use of an argument
 
@@ -120,40 +137,54 @@ of_workers again vs rows e h =
     no_second (range_kinds 1 1 (length vs)) _ e in
     let kinds : values_kinds false parser values ≡ [] =
     no_second (repeat_fault again (codes "workers") rows) _ set in
-    with_passes (codes "workers") values (without (codes "workers") rows) (values_fit values kinds)
+    with_passes (codes "workers") reading.WithoutMinus values (without (codes "workers") rows)
+    (λ named. record { read = refl; passed = values_fit values kinds })
     (without_passes (codes "workers") rows h)
 
-used_passes : (again : Bool) (a : Rule) (vs : List Text) (rows : List Row) → IsWorkersOrHelp a
+-- of another argument with one value
+of_other : (a : Rule) (vs : List Text) (rows : List Row) → is_workers a.id ≡ false → Passed rows
+    → Passed (used_as Set a.id (reading_by a) (values_or_missing a vs) rows)
+of_other a vs rows other h =
+    with_passes a.id (reading_by a) (values_or_missing a vs) (without a.id rows)
+    (λ named. let never = sym named ∙ other in absurd (cc))
+    (without_passes a.id rows h)
+
+used_passes : (again : Bool) (a : Rule) (vs : List Text) (rows : List Row) → IsKnown a
     → use_fault again a vs rows ≡ [] → Passed rows
     → Passed (used a vs rows)
 used_passes again a vs rows known e h = go known.which
   where
-    go : (a ≡ filled workers_rule) ⊎ (action_of a ≡ Help) → Passed (used a vs rows)
+    go : (a ≡ filled workers_rule)
+        ⊎ ((action_of a ≡ Help) ⊎ ((action_of a ≡ Set) × (is_workers a.id ≡ false)))
+        → Passed (used a vs rows)
     go (inl is) =
         subst (λ (r : Rule). use_fault again r vs rows ≡ [] → Passed (used r vs rows)) (sym is)
         (λ f. of_workers again vs rows f h) e
-    go (inr help) =
+    go (inr (inl help)) =
         subst (λ (x : ArgAction). Passed (used_as x a.id (reading_by a) (values_or_missing a vs) rows))
         (sym help) h
+    go (inr (inr (set, other))) =
+        subst (λ (x : ArgAction). Passed (used_as x a.id (reading_by a) (values_or_missing a vs) rows))
+        (sym set) (of_other a vs rows other h)
 
-find_known : (p : Rule → Bool) (c : List Rule) → AllByRecursion IsWorkersOrHelp c
-    → IfSome (find p c) IsWorkersOrHelp
+find_known : (p : Rule → Bool) (c : List Rule) → AllByRecursion IsKnown c
+    → IfSome (find p c) IsKnown
 find_known p [] k = tt
 find_known p (a ∷ rest) k = go (p a) (find_known p rest k.1)
   where
-    go : (b : Bool) → IfSome (find p rest) IsWorkersOrHelp
-        → IfSome (cond b (Some a) (find p rest)) IsWorkersOrHelp
+    go : (b : Bool) → IfSome (find p rest) IsKnown
+        → IfSome (cond b (Some a) (find p rest)) IsKnown
     go true later = k.0
     go false later = later
 
-module _ (s : Shape) (known : AllByRecursion IsWorkersOrHelp s.rules) where
+module _ (s : Shape) (known : AllByRecursion IsKnown s.rules) where
   abbrev c : List Rule
   c = s.rules
 
   abbrev again : Bool
   again = s.args_override_self
 
-  by_id : (o : Option Rule) (vs : List Text) (rows : List Row) → IfSome o IsWorkersOrHelp
+  by_id : (o : Option Rule) (vs : List Text) (rows : List Row) → IfSome o IsKnown
       → option_map_or (λ a. use_fault again a vs rows) o [] ≡ []
       → Passed rows → Passed (used_by_id o vs rows)
   by_id None vs rows k e h = h
@@ -169,25 +200,25 @@ module _ (s : Shape) (known : AllByRecursion IsWorkersOrHelp s.rules) where
   settle_passes : (h : Held) → settle_fault c again h ≡ [] → Passed h.rows → Passed (settled c h).rows
   settle_passes h e p = settles h.pending h.rows e p
 
-  react_passes : (a : Rule) (vs : List Text) (h : Held) → IsWorkersOrHelp a → react_fault c again a vs h ≡ []
+  react_passes : (a : Rule) (vs : List Text) (h : Held) → IsKnown a → react_fault c again a vs h ≡ []
       → Passed h.rows
       → Passed (reacted c a vs h).rows
   react_passes a vs h k e p =
       used_passes again a vs _ k (no_second (settle_fault c again h) _ e) (settle_passes h (no_first _ _ e) p)
 
-  option_passes : (a : Rule) (v : Option Text) (h : Held) → IsWorkersOrHelp a
+  option_passes : (a : Rule) (v : Option Text) (h : Held) → IsKnown a
       → option_fault c again a v h ≡ [] → Passed h.rows
       → Passed (option_met c a v h).0.rows
   option_passes a (Some v) h k e p = react_passes a (v ∷ []) h k e p
   option_passes a None h k e p = settle_passes h e p
 
-  flag_passes : (a : Rule) (v : Option Text) (h : Held) → IsWorkersOrHelp a
+  flag_passes : (a : Rule) (v : Option Text) (h : Held) → IsKnown a
       → cond (is_some v) (kind.TooManyValues ∷ []) (react_fault c again a [] h) ≡ [] → Passed h.rows
       → Passed (flag_met c a v h).0.rows
   flag_passes a (Some v) h k e p = p
   flag_passes a None h k e p = react_passes a [] h k e p
 
-  long_passes : (o : Option Rule) (v : Option Text) (h : Held) → IfSome o IsWorkersOrHelp
+  long_passes : (o : Option Rule) (v : Option Text) (h : Held) → IfSome o IsKnown
       → long_fault c again o v h ≡ [] → Passed h.rows
       → Passed (long_met c o v h).0.rows
   long_passes None v h k e p = p
@@ -204,7 +235,7 @@ module _ (s : Shape) (known : AllByRecursion IsWorkersOrHelp s.rules) where
   -- a letter of a bundle, and what follows it
   short_passes : (o : Option Rule) (rest : Text) (h : Held) (fault : Held → Kinds)
       (met : Held → Held × Outcome)
-      → IfSome o IsWorkersOrHelp → ((g : Held) → fault g ≡ [] → Passed g.rows → Passed (met g).0.rows)
+      → IfSome o IsKnown → ((g : Held) → fault g ≡ [] → Passed g.rows → Passed (met g).0.rows)
       → short_fault c again o rest h fault ≡ [] → Passed h.rows → Passed (short_met c o rest h met).0.rows
   short_passes None rest h fault met k later e p = p
   short_passes (Some a) rest h fault met k later e p = go (takes_values a) e
@@ -343,7 +374,7 @@ module _ (s : Shape) (known : AllByRecursion IsWorkersOrHelp s.rules) where
 
   -- ---- after the walk
 
-  default_passes : (a : Rule) (rows : List Row) → IsWorkersOrHelp a → Passed rows
+  default_passes : (a : Rule) (rows : List Row) → IsKnown a → Passed rows
       → Passed (with_default rows a)
   default_passes a rows k p = go (has_row a.id rows)
     where
@@ -352,7 +383,7 @@ module _ (s : Shape) (known : AllByRecursion IsWorkersOrHelp s.rules) where
       go false =
           subst (λ (vs : List Text). Passed (default_rows a.id (reading_by a) vs rows)) (sym k.defaults) p
 
-  defaults_pass : (rules : List Rule) (rows : List Row) → AllByRecursion IsWorkersOrHelp rules → Passed rows
+  defaults_pass : (rules : List Rule) (rows : List Row) → AllByRecursion IsKnown rules → Passed rows
       → Passed (fold with_default rows rules)
   defaults_pass [] rows k p = p
   defaults_pass (a ∷ rest) rows k p =
@@ -370,13 +401,20 @@ module _ (s : Shape) (known : AllByRecursion IsWorkersOrHelp s.rules) where
 
 -- ---- the number
 
-find_passed : (p : Row → Bool) (rows : List Row) → Passed rows → IfSome (find p rows) HasPassed
-find_passed p [] h = tt
-find_passed p (r ∷ rs) h = go (p r) (find_passed p rs h.1)
+abbrev RowPassed : Row → Type 0
+RowPassed r = HavePassed r.reading r.values
+
+abbrev of_workers_row : Row → Bool
+of_workers_row r = is_workers r.id
+
+find_passed : (rows : List Row) → Passed rows → IfSome (find of_workers_row rows) RowPassed
+find_passed [] h = tt
+find_passed (r ∷ rs) h = go (is_workers r.id) refl (find_passed rs h.1)
   where
-    go : (b : Bool) → IfSome (find p rs) HasPassed → IfSome (cond b (Some r) (find p rs)) HasPassed
-    go true later = h.0
-    go false later = later
+    go : (b : Bool) → is_workers r.id ≡ b → IfSome (find of_workers_row rs) RowPassed
+        → IfSome (cond b (Some r) (find of_workers_row rs)) RowPassed
+    go true named later = h.0 named
+    go false named later = later
 
 without_minus-cond : (t : Text) → without_minus t ≡ cond (starts_with_minus t) (drop 1 t) t
 without_minus-cond [] = refl
@@ -400,7 +438,7 @@ unsigned_of t h = subst (IsUnsignedIn 1 256) (sym (without_minus-cond t)) (go (s
         let numeral = rw minus at h.0 in
         rw minus (numeral, omega (arith, ints), omega (arith, ints), omega (arith, ints))
 
-row_fits : (r : Row) → HasPassed r → IfSome (row_text r) (λ t. is_unsigned_in 1 256 t ≡ true)
+row_fits : (r : Row) → RowPassed r → IfSome (row_text r) (λ t. is_unsigned_in 1 256 t ≡ true)
 row_fits r h =
     subst
     (λ how. IfSome (option_map (read_as how) (slice_get r.values 0)) (λ t. is_unsigned_in 1 256 t ≡ true))
@@ -414,14 +452,14 @@ row_fits r h =
         Accepts-accepts false (vp.Unsigned 1 256) (without_minus v)
         (unsigned_of v (accepts-Accepts false parser v (both _ _ p).0))
 
-one_fits : (o : Option Row) → IfSome o HasPassed
+one_fits : (o : Option Row) → IfSome o RowPassed
     → IfSome (option_and_then row_text o) (λ t. is_unsigned_in 1 256 t ≡ true)
 one_fits None h = tt
 one_fits (Some r) h = row_fits r h
 
 -- the value of an option that was found is a number from 1 to 256
-pub workers_fit : (s : Shape) → AllByRecursion IsWorkersOrHelp s.rules → (words : List Text)
+pub workers_fit : (s : Shape) → AllByRecursion IsKnown s.rules → (words : List Text)
     → level_fault s [] nothing_held words false [] ≡ []
     → IfSome (one_of (codes "workers") (rows_after s.rules [] words)) (λ t. is_unsigned_in 1 256 t ≡ true)
 workers_fit s known words e =
-    one_fits _ (find_passed (λ r. bytes_eq r.id (codes "workers")) _ (rows_pass s known words e))
+    one_fits _ (find_passed _ (rows_pass s known words e))

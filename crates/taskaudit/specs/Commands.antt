@@ -3,12 +3,15 @@ use Rattle.std.specs.Prelude.{◌≡◌, ◌≤◌, ◌⊎◌, ℕ, ⊤, true, f
 use Rattle.std.specs.Prelude.{option_and_then, if◌then◌else◌}
 use Rattle.std.specs.Str.{bytes_eq}
 use Rattle.std.specs.Str.Parse.{digits_value, without_leading_plus}
-use Rattle.clap.specs.Words.{App, Row, Rule, Text, new_app, new_rule, one_of, subcommand_of, with_rule}
+use Rattle.clap.specs.Words.{App, Row, Rule, Text, first_of, new_app, new_rule, one_of, subcommand_of}
+use Rattle.clap.specs.Words.{with_rule}
 use Rattle.clap.specs.ValueTests.{is_unsigned_in}
 use Rattle.clap.specs.declared.builder.action.ArgAction.TheVariants.{Set}
 use Rattle.clap.specs.declared.builder.value_parser.ValueParser.TheVariants.{Signed}
 use Rattle.taskaudit.specs.declared.work.Job.{Job}
 use Rattle.taskaudit.specs.declared.work.Job.TheVariants.{Check, Order, Record, Upgrade}
+use Rattle.taskaudit.specs.declared.work.Input.{Input}
+use Rattle.taskaudit.specs.declared.work.Input.TheVariants.{Unnamed, Standard, Named}
 
 -- the option `--workers N`: a number from 1 to 256
 abbrev pub workers_rule : Rule
@@ -19,12 +22,23 @@ workers_rule = record (new_rule (codes "workers")) {
   parser = Some (Signed (pos 1) (pos 256));
 }
 
+-- the word for the file, which may be left out
+abbrev pub file_rule : Rule
+file_rule = record (new_rule (codes "file")) {
+  action = Some Set;
+  value_names = 1;
+}
+
+-- a subcommand with a word for a file
+abbrev pub file_app : Text → App
+file_app name = with_rule (new_app name) file_rule
+
 -- the subcommand `check`
 abbrev pub check_app : App
-check_app = with_rule (new_app (codes "check")) workers_rule
+check_app = with_rule (file_app (codes "check")) workers_rule
 
--- what clap reads of the command: it has a version, and wants a subcommand, of which there are four, and
--- `check` alone has an option
+-- what clap reads of the command: it has a version, and wants a subcommand, of which there are four, each
+-- with a word for a file, and `check` alone has an option
 unfoldable pub command_line : App
 command_line = record {
   top = record (new_app (codes "taskaudit")).top {
@@ -33,8 +47,8 @@ command_line = record {
     subcommand_required = true;
     disable_help_subcommand = true;
   };
-  subs = check_app.top ∷ (new_app (codes "order")).top
-      ∷ (new_app (codes "record")).top ∷ (new_app (codes "upgrade")).top ∷ [];
+  subs = check_app.top ∷ (file_app (codes "order")).top
+      ∷ (file_app (codes "record")).top ∷ (file_app (codes "upgrade")).top ∷ [];
 }
 
 -- behind the name of the program stands what asks for the version, and nothing else
@@ -61,6 +75,32 @@ job_named (name, rows) = if bytes_eq name (codes "check") then check_by (one_of 
 -- the words ask for the job
 abbrev pub AsksFor : List Text → Job → Type 0
 AsksFor words job = option_and_then job_named (subcommand_of command_line words) ≡ Some job
+
+-- where a job reads from: standard input, which no word names; standard input by the word `-`; or a file by
+-- its name
+pub data Place : Type 0 where
+  by_no_word : Place
+  by_dash : Place
+  by_name : Text → Place
+
+-- the place that the word for the file names, if there is one
+abbrev pub place_named : Option Text → Place
+place_named None = by_no_word
+place_named (Some word) = if bytes_eq word (codes "-") then by_dash else by_name word
+
+-- the word for the file that was found behind a subcommand
+abbrev pub file_word : Text × List Row → Option Text
+file_word (name, rows) = first_of (codes "file") rows
+
+-- the words ask for a job on this place
+abbrev pub AsksOf : List Text → Place → Type 0
+AsksOf words place = place_named (option_and_then file_word (subcommand_of command_line words)) ≡ place
+
+-- the place as the program holds it
+abbrev pub place_of : Input → Place
+place_of Unnamed = by_no_word
+place_of Standard = by_dash
+place_of (Named name) = by_name name.now
 
 -- the threads of a check, where the job names their number, are 1 to 256
 abbrev pub HasFewWorkers : Job → Type 0

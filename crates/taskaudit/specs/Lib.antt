@@ -1,7 +1,7 @@
 -- What the program promises. Read Headline first: it quotes nothing but definitions of ompt_events. Then
 -- Audits (`Reports.kept` ties the headline to an answer), Recordings (which trace `record` writes),
 -- Upgradings (which one `upgrade` writes), Reports and Orders (what is printed), Devices, Statuses, and
--- Commands, Tellings and Programs (from the command line to the exit status).
+-- Commands, Packings, FileFaults, Tellings and Programs (from the command line to the exit status).
 pub mod Headline
 pub mod Audits
 pub mod Recordings
@@ -11,5 +11,7 @@ pub mod Orders
 pub mod Devices
 pub mod Statuses
 pub mod Commands
+pub mod Packings
+pub mod FileFaults
 pub mod Tellings
 pub mod Programs

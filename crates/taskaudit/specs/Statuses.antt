@@ -17,7 +17,7 @@ use Rattle.taskaudit.specs.declared.work.Outcome.TheVariants as outcome
 use Rattle.taskaudit.specs.declared.work.AuditFault.{AuditFault}
 use Rattle.taskaudit.specs.declared.work.AuditFault.TheVariants as fault
 use Rattle.taskaudit.specs.declared.work.Refusal.{Refusal}
-use Rattle.taskaudit.specs.declared.work.Refusal.TheVariants.{NotText, Words, Audit}
+use Rattle.taskaudit.specs.declared.work.Refusal.TheVariants.{NotText, Words, File, Audit}
 use Rattle.clap.specs.Words.{kind_of}
 
 -- a verdict was given
@@ -72,4 +72,5 @@ abbrev pub exit_status_of : Result Done Refusal → ℕ
 exit_status_of (Ok done) = done_status done
 exit_status_of (Err NotText) = 4
 exit_status_of (Err (Words error)) = usage_status_of (kind_of error)
+exit_status_of (Err (File fault)) = 3
 exit_status_of (Err (Audit fault)) = fault_status_of fault

@@ -8,8 +8,12 @@ use Rattle.taskaudit.specs.declared.work.AuditFault.{AuditFault}
 use Rattle.taskaudit.specs.declared.work.AuditFault.TheVariants.{Memory, Write}
 use Rattle.taskaudit.specs.declared.work.Done.{Done}
 use Rattle.taskaudit.specs.declared.work.Refusal.{Refusal}
-use Rattle.taskaudit.specs.declared.work.Refusal.TheVariants.{NotText, Words, Audit}
+use Rattle.taskaudit.specs.declared.work.Refusal.TheVariants.{NotText, Words, File, Audit}
+use Rattle.taskaudit.specs.declared.work.FileFault.{FileFault}
+use Rattle.taskaudit.specs.declared.work.Job.{Job}
+use Rattle.taskaudit.specs.declared.work.Job.TheVariants.{Check, Order, Record, Upgrade}
 use Rattle.taskaudit.specs.declared.version.TheConstants.{VERSION_TEXT}
+use Rattle.taskaudit.specs.FileFaults.{file_fault_text_of}
 use Rattle.taskaudit.specs.Reports.{fault_text_of}
 use Rattle.taskaudit.specs.Statuses.{usage_status_of}
 
@@ -17,6 +21,8 @@ use Rattle.taskaudit.specs.Statuses.{usage_status_of}
 pub data Call : Type 0 where
   -- for the text of the fault: whether there is memory for it
   text_of : AuditFault → Bool → Call
+  -- for the text of why a file is not read: whether there is memory for it
+  text_of_file : FileFault → Bool → Call
   -- to show what clap says of the words: whether it is written
   show : Error → Bool → Call
   -- to write these bytes on standard output: whether they are written
@@ -53,6 +59,31 @@ pub data IsToldWords (made : Call → Type 0) : Error → Refusal → Type 0 whe
   out_of_memory : {error : Error} {fault : AuditFault} → kind_of error ≡ OutOfMemory
       → IsToldFault made Memory fault → IsToldWords made error (Audit fault)
 
+-- why a file is not read stays what it is exactly where there is memory for its text, and else becomes a lack
+-- of memory; the text of what it is then is printed
+pub data IsToldFile (made : Call → Type 0) : FileFault → Refusal → Type 0 where
+  with_file_text : {fault : FileFault} → made (text_of_file fault true)
+      → made (print (file_fault_text_of fault)) → IsToldFile made fault (File fault)
+  without_file_text : {fault : FileFault} → made (text_of_file fault false)
+      → made (print (fault_text_of Memory)) → IsToldFile made fault (Audit Memory)
+
+-- what is told at a terminal of a job that reads from there
+abbrev pub reading_text_of : Job → List ℕ
+reading_text_of (Check workers) =
+    codes "taskaudit: reading a trace from standard input (Ctrl-D ends it); taskaudit check --help says more\n"
+reading_text_of Order =
+    codes "taskaudit: reading a trace from standard input (Ctrl-D ends it); taskaudit order --help says more\n"
+reading_text_of Record =
+    codes "taskaudit: reading a script from standard input (Ctrl-D ends it); taskaudit record --help says more\n"
+reading_text_of Upgrade =
+    codes "taskaudit: reading a trace from standard input (Ctrl-D ends it); taskaudit upgrade --help says more\n"
+
+-- it was asked whether somebody sits at a terminal, and if so, that was told
+pub record IsAwaited (made : Call → Type 0) (sits : Bool → Type 0) (job : Job) : Type 0 where
+  pub is_terminal : Bool
+  pub asked : sits is_terminal
+  pub told : is_terminal ≡ true → made (print (reading_text_of job))
+
 -- an ending, and what it is after it was told; made are the calls of the console
 abbrev pub IsTold : (Call → Type 0) → Result Done Refusal → Result Done Refusal → Type 0
 IsTold made (Ok done) told = told ≡ Ok done
@@ -60,5 +91,7 @@ IsTold made (Err NotText) told =
     (told ≡ Err NotText) × made (print (codes "error: a command-line argument is not UTF-8\n"))
 IsTold made (Err (Words error)) told =
     (refusal : Refusal) × (told ≡ Err refusal) × IsToldWords made error refusal
+IsTold made (Err (File fault)) told =
+    (refusal : Refusal) × (told ≡ Err refusal) × IsToldFile made fault refusal
 IsTold made (Err (Audit fault)) told =
     (after : AuditFault) × (told ≡ Err (Audit after)) × IsToldFault made fault after

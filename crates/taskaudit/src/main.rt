@@ -6,6 +6,8 @@
 #![tactic(auto)]
 
 mod auditing;
+mod looking;
+mod opening;
 mod order;
 mod program;
 mod record;
@@ -31,7 +33,7 @@ fn main(rt: HostRuntime) -> ExitCode {
 }
 
 /// The words of the command line, the program's name first.
-fn command_words<R: Env + AllocGlobal>(rt: &R) -> Result<Vec<String>, Refusal> {
+fn command_words<R: Env + AllocGlobal>(rt: &R) -> Result<Vec<String>, Refusal<'static>> {
     match read_words(rt) {
         Ok(words) => Ok(words),
         Err(error) if error.kind() == ErrorKind::OutOfMemory => Err(Refusal::Audit(

@@ -3,10 +3,11 @@ ghost use Rattle.std.specs.Prelude.{◌≡◌, ◌<◌, ◌≤◌, ◌^◌, IfOk
 ghost use Rattle.ompt_events.specs.Limits.{max_records};
 ghost use Rattle.checker.specs.Verdicts.{IsVerdict};
 ghost use Rattle.clap.specs.Words.{kind_of};
+ghost use Rattle.taskaudit.specs.FileFaults.{file_fault_text_of};
 ghost use Rattle.taskaudit.specs.Reports.{AreCounts, report_of, fault_text_of, yes_text, no_text, late_text, dependent_at, malformed_text, place_text, record_place};
 ghost use Rattle.taskaudit.specs.Statuses.{fault_status_of, usage_status_of};
 
-use crate::work::AuditFault;
+use crate::work::{AuditFault, FileFault};
 use callbacks::CallFault;
 use certificate::{ReadCause, UpgradeFault, WriteFault};
 use checker::{Verdict, Why};
@@ -21,8 +22,8 @@ const CALL_REFUSED: u8 = 2;
 /// The exit status where a trace is not upgraded.
 const NOT_UPGRADED: u8 = 2;
 
-/// The exit status where the input is not read, or the report or the trace is not written.
-const NOT_REPORTED: u8 = 3;
+/// The exit status where the input is not opened or not read, or the report or the trace is not written.
+pub const NOT_REPORTED: u8 = 3;
 
 /// The exit status of wrong command-line arguments.
 pub const WRONG_WORDS: u8 = 4;
@@ -218,6 +219,13 @@ pub fn fault_text(alloc: Global, fault: &AuditFault) -> Result<String, AuditFaul
     ensures memory { IsOkUnless result AuditFault.Memory }
 {
     format!(in alloc; "{fault}\n").map_err(|_| AuditFault::Memory)
+}
+
+/// The text of the fault: one line, with its line feed.
+pub fn file_fault_text(alloc: Global, fault: &FileFault) -> Result<String, AllocError>
+    ensures { IfOk result (λ text. string_bytes text ≡ file_fault_text_of fault.now) }
+{
+    format!(in alloc; "{fault}\n")
 }
 
 /// The exit status of the program where no verdict is reported, or no trace written.

@@ -1,11 +1,11 @@
 //! The command line.
 ghost use Rattle.std.specs.Prelude.{◌≡◌, true, false, codes, map, IfOk, IfErr, Some, is_some, option_and_then};
-ghost use Rattle.clap.specs.Words.{app_of, rule_of, rows_of, found_of, one_of, shape_of, new_app, fault_of, kind_of, takes, subcommand_rows_of, FailsBy};
+ghost use Rattle.clap.specs.Words.{app_of, rule_of, rows_of, found_of, first_of, one_of, shape_of, new_app, fault_of, kind_of, takes, subcommand_rows_of, FailsBy};
 ghost use Rattle.clap.specs.declared.builder.command.Command.TheViews.{out-Command};
-ghost use Rattle.taskaudit.specs.Commands.{command_line, check_app, workers_rule, check_by, job_named, AsksFor, HasFewWorkers};
+ghost use Rattle.taskaudit.specs.Commands.{command_line, check_app, file_app, file_rule, workers_rule, check_by, job_named, file_word, place_named, place_of, AsksFor, AsksOf, HasFewWorkers};
 
 use crate::version::VERSION_TEXT;
-use crate::work::Job;
+use crate::work::{Asked, Input, Job};
 use checker::MAX_WORKERS;
 use clap::error::ErrorKind;
 use clap::{Arg, ArgAction, ArgMatches, Command, Error, value_parser};
@@ -18,18 +18,24 @@ const ABOUT: &str =
                      it was allowed to?";
 
 /// What `check` is for.
-const CHECK_ABOUT: &str = "Checks the trace file on standard input";
+const CHECK_ABOUT: &str = "Checks a trace file";
 
 /// What `order` is for.
 const ORDER_ABOUT: &str =
-    "Checks the trace file on standard input, and prints an order of its events that shows the answer";
+    "Checks a trace file, and prints an order of its events that shows the answer";
 
 /// What `record` is for.
 const RECORD_ABOUT: &str =
-    "Runs the script on standard input with recorders, and writes the trace that they record";
+    "Runs a script with recorders, and writes the trace that they record";
 
 /// What `upgrade` is for.
-const UPGRADE_ABOUT: &str = "Writes the trace file on standard input in version 2 of its format";
+const UPGRADE_ABOUT: &str = "Writes a trace file in version 2 of its format";
+
+/// What the word for the file is for.
+const TRACE_HELP: &str = "The trace file, or - for standard input; without it standard input";
+
+/// What the word for the file of `record` is for.
+const SCRIPT_HELP: &str = "The script, or - for standard input; without it standard input";
 
 /// What the option `--workers` of `check` is for.
 const WORKERS_HELP: &str = "Reads and checks on N threads (1 to 256); without it, on one";
@@ -147,11 +153,12 @@ Exit status: 0 written, 2 not upgraded, 3 input not read or trace not written,
 taskaudit check --help says what the input is."#;
 
 /// What the command line asks for; its first word is the program's name.
-pub fn job<'a, S: AsStr>(alloc: Global, words: &'a [S]) -> Result<Job, Error>
-    ensures asked { IfOk result (AsksFor (map S.text words.entry.now)) }
+pub fn asked<'a, S: AsStr>(alloc: Global, words: &'a [S]) -> Result<Asked<'a>, Error>
+    ensures job { IfOk result (λ asked. AsksFor (map S.text words.entry.now) asked.job) }
+    ensures input { IfOk result (λ asked. AsksOf (map S.text words.entry.now) (place_of asked.input)) }
 
     // A check that names the number of its threads has 1 to 256.
-    ensures workers { IfOk result HasFewWorkers }
+    ensures workers { IfOk result (λ asked. HasFewWorkers asked.job) }
 
     // Words that clap accepts are refused only where memory runs out.
     ensures passes { IfErr result (λ e. takes command_line (map S.text words.entry.now) ≡ true
@@ -160,19 +167,38 @@ pub fn job<'a, S: AsStr>(alloc: Global, words: &'a [S]) -> Result<Job, Error>
 {
     match command(alloc)?.try_get_matches_from(words) {
         // One subcommand is required, so one was met.
-        Ok(matches) => Ok(job_met(&matches)),
+        Ok(matches) => Ok(asked_of(&matches)),
         Err(error) => Err(error),
     }
 }
 
-/// The job that the subcommand names.
-fn job_met(matches: &ArgMatches) -> Job
+/// What the subcommand and the words behind it ask for.
+fn asked_of<'a>(matches: &ArgMatches<'a>) -> Asked<'a>
     requires { is_some (option_and_then job_named (subcommand_rows_of matches.now)) ≡ true }
-    ensures { option_and_then job_named (subcommand_rows_of matches.now) ≡ Some result }
+    ensures job { option_and_then job_named (subcommand_rows_of matches.now) ≡ Some result.job }
+    ensures input { place_named (option_and_then file_word (subcommand_rows_of matches.now))
+        ≡ place_of result.input }
 {
     match matches.subcommand() {
-        Some((name, found)) => job_of(name, found),
-        None => Job::Check(None),
+        Some((name, found)) => Asked {
+            job: job_of(name, found),
+            input: input_of(found),
+        },
+        None => Asked {
+            job: Job::Check(None),
+            input: Input::Unnamed,
+        },
+    }
+}
+
+/// Where a job reads from, by what was found for its arguments.
+fn input_of<'a>(found: &ArgMatches<'a>) -> Input<'a>
+    ensures { place_named (first_of (codes "file") (rows_of (found_of found.now))) ≡ place_of result }
+{
+    match found.get_str("file") {
+        None => Input::Unnamed,
+        Some("-") => Input::Standard,
+        Some(name) => Input::Named(name),
     }
 }
 
@@ -203,9 +229,9 @@ fn command<'a>(alloc: Global) -> Result<Command<'a>, AllocError>
     ensures local { IfOk result (λ c. (out-Command c).has_globals ≡ false) }
 {
     let check = checking(alloc)?;
-    let order = plain(alloc, "order", ORDER_ABOUT, ORDER_EXPLANATION);
-    let recording = plain(alloc, "record", RECORD_ABOUT, RECORD_EXPLANATION);
-    let upgrading = plain(alloc, "upgrade", UPGRADE_ABOUT, UPGRADE_EXPLANATION);
+    let order = reading(alloc, "order", ORDER_ABOUT, ORDER_EXPLANATION, TRACE_HELP)?;
+    let recording = reading(alloc, "record", RECORD_ABOUT, RECORD_EXPLANATION, SCRIPT_HELP)?;
+    let upgrading = reading(alloc, "upgrade", UPGRADE_ABOUT, UPGRADE_EXPLANATION, TRACE_HELP)?;
     Command::new(alloc, "taskaudit")
         .version(VERSION_TEXT)
         .about(ABOUT)
@@ -218,12 +244,37 @@ fn command<'a>(alloc: Global) -> Result<Command<'a>, AllocError>
         .subcommand(upgrading)
 }
 
-/// The subcommand `check`, with its option.
+/// The subcommand `check`, with its option and its file.
 fn checking<'a>(alloc: Global) -> Result<Command<'a>, AllocError>
     ensures shape { IfOk result (λ c. shape_of c ≡ check_app.top) }
     ensures local { IfOk result (λ c. (out-Command c).has_globals ≡ false) }
 {
-    plain(alloc, "check", CHECK_ABOUT, EXPLANATION).arg(workers(alloc))
+    reading(alloc, "check", CHECK_ABOUT, EXPLANATION, TRACE_HELP)?.arg(workers(alloc))
+}
+
+/// A subcommand with a word for the file that it reads.
+fn reading<'a>(
+    alloc: Global,
+    name: &'a str,
+    about: &'a str,
+    explanation: &'a str,
+    help: &'a str,
+) -> Result<Command<'a>, AllocError>
+    ensures shape { IfOk result (λ c. shape_of c ≡ (file_app name.entry.now).top) }
+    ensures local { IfOk result (λ c. (out-Command c).has_globals ≡ false) }
+{
+    plain(alloc, name, about, explanation).arg(file(alloc, help))
+}
+
+/// The word for that file.
+fn file<'a>(alloc: Global, help: &'a str) -> Arg<'a>
+    ensures rule { rule_of result ≡ file_rule }
+    ensures local { result.global ≡ false }
+{
+    Arg::new(alloc, "file")
+        .value_name("FILE")
+        .help(help)
+        .action(ArgAction::Set)
 }
 
 /// The option `--workers` of `check`.

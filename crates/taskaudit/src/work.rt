@@ -1,6 +1,7 @@
 //! What the program is asked to do, and what comes of it.
 ghost use Rattle.std.specs.Prelude.{◌≡◌};
 ghost use Rattle.taskaudit.specs.Reports.{call_fault_name, call_fault_number};
+ghost use Rattle.taskaudit.specs.FileFaults.{open_fault_name, packing_name, unpacker, job_name};
 ghost use Rattle.taskaudit.specs.Statuses.{done_status, outcome_status};
 
 use callbacks::CallFault;
@@ -12,14 +13,46 @@ use std::fmt;
 /// What the words of the command line ask for.
 #[derive(Clone, Copy, Debug, PartialEq, Eq)]
 pub enum Job {
-    /// To judge the trace on standard input, by this number of threads where one is given.
+    /// To judge the trace, by this number of threads where one is given.
     Check(Option<u32>),
-    /// To judge the trace on standard input and print an order that shows the verdict.
+    /// To judge the trace and print an order that shows the verdict.
     Order,
-    /// To run the script on standard input and write the trace that its recorders gather.
+    /// To run the script and write the trace that its recorders gather.
     Record,
-    /// To write the trace on standard input in version 2.
+    /// To write the trace in version 2.
     Upgrade,
+}
+
+impl Job {
+    /// Returns the word that asks for it.
+    pub fn name(self) -> &'static str
+        ensures { result.now ≡ job_name self }
+    {
+        match self {
+            Job::Check(_) => "check",
+            Job::Order => "order",
+            Job::Record => "record",
+            Job::Upgrade => "upgrade",
+        }
+    }
+}
+
+/// Where a job reads from.
+#[derive(Clone, Copy, Debug, PartialEq, Eq)]
+pub enum Input<'a> {
+    /// Standard input, since no word says where from.
+    Unnamed,
+    /// Standard input, by the word `-`.
+    Standard,
+    /// The file of this name.
+    Named(&'a str),
+}
+
+/// The job that the words of the command line ask for, and where it reads from.
+#[derive(Clone, Copy, Debug, PartialEq, Eq)]
+pub struct Asked<'a> {
+    pub job: Job,
+    pub input: Input<'a>,
 }
 
 /// What is printed of a verdict.
@@ -164,13 +197,111 @@ fn call_fault_name(fault: CallFault) -> &'static str
     }
 }
 
+/// Why a file is not opened.
+#[derive(Clone, Copy, Debug, PartialEq, Eq)]
+pub enum OpenFault {
+    /// There is no file of this name.
+    Missing,
+    /// The file may not be read.
+    Denied,
+    /// It is a folder.
+    Folder,
+    /// Another cause.
+    Other,
+}
+
+impl OpenFault {
+    /// Returns what is printed of it.
+    fn name(self) -> &'static str
+        ensures { result.now ≡ open_fault_name self }
+    {
+        match self {
+            OpenFault::Missing => "no such file",
+            OpenFault::Denied => "permission denied",
+            OpenFault::Folder => "is a folder",
+            OpenFault::Other => "cannot be opened",
+        }
+    }
+}
+
+/// How a file is compressed.
+#[derive(Clone, Copy, Debug, PartialEq, Eq)]
+pub enum Packing {
+    Gzip,
+    Zstandard,
+    Xz,
+}
+
+impl Packing {
+    /// Returns its name.
+    fn name(self) -> &'static str
+        ensures { result.now ≡ packing_name self }
+    {
+        match self {
+            Packing::Gzip => "gzip",
+            Packing::Zstandard => "Zstandard",
+            Packing::Xz => "xz",
+        }
+    }
+
+    /// Returns the program that prints such a file unpacked.
+    fn unpacker(self) -> &'static str
+        ensures { result.now ≡ unpacker self }
+    {
+        match self {
+            Packing::Gzip => "zcat",
+            Packing::Zstandard => "zstdcat",
+            Packing::Xz => "xzcat",
+        }
+    }
+}
+
+/// Why the file of this name is not read. Its text is what the program prints, without the line feed.
+#[derive(Clone, Copy, Debug, PartialEq, Eq)]
+pub enum FileFault<'a> {
+    /// It is not opened.
+    Unopened { name: &'a str, why: OpenFault },
+    /// It is compressed, and this job cannot read it so.
+    Compressed {
+        name: &'a str,
+        packing: Packing,
+        job: Job,
+    },
+}
+
+impl fmt::Display for FileFault<'_> {
+    ghost use Rattle.std.specs.Prelude.{Some};
+    ghost use Rattle.taskaudit.specs.FileFaults.{file_line};
+
+    ghost output = { λ fault. Some (file_line fault) };
+
+    fn fmt<W: fmt::Write>(&self, f: &mut fmt::Formatter<W>) -> fmt::Result {
+        match self {
+            FileFault::Unopened { name, why } => {
+                let cause = why.name();
+                write!(f, "unopened: {name}: {cause}")
+            }
+            FileFault::Compressed { name, packing, job } => {
+                let kind = packing.name();
+                let program = packing.unpacker();
+                let word = job.name();
+                write!(f, "compressed: {name} is {kind}: run {program} {name} | taskaudit {word} -")
+            }
+        }
+    }
+}
+
+impl Error for FileFault<'_> {}
+
 /// Why the program has not done what it is asked for.
 #[derive(Drop)]
-pub enum Refusal {
+pub enum Refusal<'a> {
     /// An argument of the command line is not UTF-8.
     NotText,
     /// The arguments are wrong, or ask for help.
     Words(clap::Error),
+    /// The file that they name is not read.
+    File(FileFault<'a>),
     /// The audit, or the recording, has this fault.
     Audit(AuditFault),
 }

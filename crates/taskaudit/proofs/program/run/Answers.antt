@@ -21,3 +21,7 @@ returns-in-Ok-clause-version g c =
     version_shown _ _ asks (g.I.Source.remaining c.args.source.now)
     (g.O.Sink.contents c.args.sink.now)
     (g.O.Sink.contents c.serve.new.sink) _ c.serve.ensures.does c.serve.ensures.refused _ c.end.ensures)
+
+pub returns-in-Ok-clause-untouched : goal.returns-in-Ok-clause-untouched
+returns-in-Ok-clause-untouched g c =
+    rw (c.in-Ok.is, ← c.as_slice.ensures.value) c.serve.ensures.untouched

@@ -6,11 +6,11 @@ use Rattle.taskaudit.proofs.words.checking.Goals as goal
 pub returns-clause-shape : goal.returns-clause-shape
 returns-clause-shape c =
     IfOk-weaker c.arg.result _ _ (λ r h. ap (λ (a : App). a.top) (h.shape c.workers.ensures.local)
-    ∙ ap₂ (λ (s : Shape) (a : Rule). record s { rules = s.rules ++ a ∷ [] }) c.plain.ensures.shape
+    ∙ ap₂ (λ (s : Shape) (a : Rule). record s { rules = s.rules ++ a ∷ [] }) c.in_ok-reading.ensures.shape
     c.workers.ensures.rule) c.arg.ensures
 
 pub returns-clause-local : goal.returns-clause-local
 returns-clause-local c =
     IfOk-weaker c.arg.result _ _
-    (λ r h. h.globals ∙ ap₂ (λ (x y : Bool). x || y) c.plain.ensures.local c.workers.ensures.local)
+    (λ r h. h.globals ∙ ap₂ (λ (x y : Bool). x || y) c.in_ok-reading.ensures.local c.workers.ensures.local)
     c.arg.ensures

@@ -30,15 +30,15 @@ returns-clause-app c =
     c.in_ok-subcommand.ensures.shape c.in_ok-check.ensures.local
     ∙ ap₂ with_subcommand top_is c.in_ok-check.ensures.shape in
     let with_order =
-    c.in_ok-subcommand-2.ensures.shape c.plain-order.ensures.local
-    ∙ ap₂ with_subcommand with_check c.plain-order.ensures.shape in
+    c.in_ok-subcommand-2.ensures.shape c.in_ok-order.ensures.local
+    ∙ ap₂ with_subcommand with_check c.in_ok-order.ensures.shape in
     let with_record =
-    c.in_ok-subcommand-3.ensures.shape c.plain-recording.ensures.local
-    ∙ ap₂ with_subcommand with_order c.plain-recording.ensures.shape in
+    c.in_ok-subcommand-3.ensures.shape c.in_ok-recording.ensures.local
+    ∙ ap₂ with_subcommand with_order c.in_ok-recording.ensures.shape in
     IfOk-weaker c.subcommand-4.result _ _
     (λ r h.
-    h.shape c.plain-upgrading.ensures.local
-    ∙ ap₂ with_subcommand with_record c.plain-upgrading.ensures.shape)
+    h.shape c.in_ok-upgrading.ensures.local
+    ∙ ap₂ with_subcommand with_record c.in_ok-upgrading.ensures.shape)
     c.subcommand-4.ensures
 
 abbrev either : Bool → Bool → Bool
@@ -49,8 +49,8 @@ returns-clause-local c =
     let top_is : (out-Command c.subcommand_required.result).has_globals ≡ false = search rules in
     let with_check = c.in_ok-subcommand.ensures.globals ∙ ap₂ either top_is c.in_ok-check.ensures.local in
     let with_order =
-    c.in_ok-subcommand-2.ensures.globals ∙ ap₂ either with_check c.plain-order.ensures.local in
+    c.in_ok-subcommand-2.ensures.globals ∙ ap₂ either with_check c.in_ok-order.ensures.local in
     let with_record =
-    c.in_ok-subcommand-3.ensures.globals ∙ ap₂ either with_order c.plain-recording.ensures.local in
+    c.in_ok-subcommand-3.ensures.globals ∙ ap₂ either with_order c.in_ok-recording.ensures.local in
     IfOk-weaker c.subcommand-4.result _ _
-    (λ r h. h.globals ∙ ap₂ either with_record c.plain-upgrading.ensures.local) c.subcommand-4.ensures
+    (λ r h. h.globals ∙ ap₂ either with_record c.in_ok-upgrading.ensures.local) c.subcommand-4.ensures

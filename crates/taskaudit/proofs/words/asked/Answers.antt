@@ -2,25 +2,32 @@
 use Rattle.std.proofs.Common.{◌≡◌, ◌∙◌, ap, sym, subst, true, map}
 use Rattle.clap.specs.Words.{App, fault_of, HasKind}
 use Rattle.clap.specs.Matches.{has_subcommand}
-use Rattle.taskaudit.proofs.CommandLemmas.{few_asked, is_free_line, meets_one, names_job, asks_for}
-use Rattle.taskaudit.proofs.words.job.Goals as goal
+use Rattle.taskaudit.proofs.CommandLemmas.{few_asked, is_free_line, meets_one, names_job, asks_for, asks_of}
+use Rattle.taskaudit.specs.Commands.{place_of}
+use Rattle.taskaudit.proofs.words.asked.Goals as goal
 
-pub job_met-requires : goal.job_met-requires
-job_met-requires g c =
+pub asked_of-requires : goal.asked_of-requires
+asked_of-requires g c =
     let met : has_subcommand c.in-Ok.matches ≡ true =
     meets_one _ _ c.in_ok-command.ensures.app c.in_ok-command.ensures.local c.in-Ok.ensures.parsed in
     names_job _ _ c.in_ok-command.ensures.app _ c.in-Ok.ensures.matches
     (c.in-Ok.ensures.kinds (is_free_line _ c.in_ok-command.ensures.app)) met
 
-pub returns-in-Ok-clause-asked : goal.returns-in-Ok-clause-asked
-returns-in-Ok-clause-asked g c =
-    asks_for _ _ c.in_ok-command.ensures.app _ c.in-Ok.ensures.matches c.job_met.result c.job_met.ensures
+pub returns-in-Ok-clause-job : goal.returns-in-Ok-clause-job
+returns-in-Ok-clause-job g c =
+    asks_for _ _ c.in_ok-command.ensures.app _ c.in-Ok.ensures.matches c.asked_of.result.job
+    c.asked_of.ensures.job
+
+pub returns-in-Ok-clause-input : goal.returns-in-Ok-clause-input
+returns-in-Ok-clause-input g c =
+    asks_of _ _ c.in_ok-command.ensures.app _ c.in-Ok.ensures.matches (place_of c.asked_of.result.input)
+    c.asked_of.ensures.input
 
 pub returns-in-Ok-clause-workers : goal.returns-in-Ok-clause-workers
 returns-in-Ok-clause-workers g c =
     few_asked (map g.S.AsStr.text c.args.words.now) _
-    (asks_for _ _ c.in_ok-command.ensures.app _ c.in-Ok.ensures.matches c.job_met.result
-    c.job_met.ensures)
+    (asks_for _ _ c.in_ok-command.ensures.app _ c.in-Ok.ensures.matches c.asked_of.result.job
+    c.asked_of.ensures.job)
 
 pub returns-in-Ok-clause-kinds : goal.returns-in-Ok-clause-kinds
 returns-in-Ok-clause-kinds g c =
