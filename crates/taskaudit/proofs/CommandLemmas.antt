@@ -97,8 +97,10 @@ names_at (Some (name, rest)) passed e =
         defaults = refl;
         which = inr (inr (refl, refl));
       },
-      (record { defaults = refl; which = inl refl },
-      (record { defaults = refl; which = inr (inl refl) }, tt)),
+      (
+        record { defaults = refl; which = inl refl },
+        (record { defaults = refl; which = inr (inl refl) }, tt),
+      ),
     )
     rest own))
     passed e

@@ -34,7 +34,7 @@ pub fn run<S: AsStr + Drop, C: Console + Inputs + Threads + Wait + Sync, I: Sour
     sink: &mut O,
 ) -> u8
     ensures runs { Runs (world_of (C.made console.now) (C.opens console.now) (C.sits console.now)
-            C.File.remaining)
+        C.File.remaining)
         (result_map_both (λ list. map S.text list.items) (λ refusal. refusal) words.entry)
         (I.remaining source.old) (O.contents sink.old) (O.contents sink.new) result }
 
@@ -72,30 +72,36 @@ pub fn serve<'a, S: AsStr, C: Console + Inputs + Threads + Wait + Sync, I: Sourc
     sink: &mut O,
 ) -> Result<Done, Refusal<'a>>
     ensures does { IfOk result (DoesAsked (world_of (C.made console.now) (C.opens console.now)
-            (C.sits console.now) C.File.remaining)
+        (C.sits console.now) C.File.remaining)
         (map S.text words.entry.now) (I.remaining source.old) (O.contents sink.old) (O.contents sink.new)) }
     ensures refused { IfErr result (IsRefused (world_of (C.made console.now) (C.opens console.now)
-            (C.sits console.now) C.File.remaining)
+        (C.sits console.now) C.File.remaining)
         (map S.text words.entry.now) (I.remaining source.old) (O.contents sink.old) (O.contents sink.new)) }
     ensures untouched { (name : Text) → AsksOf (map S.text words.entry.now) (by_name name)
         → source.new ≡ source.old }
 {
     match asked(alloc, words) {
-        Ok(Asked {
-            job,
-            input: Input::Unnamed,
-        }) => {
+        Ok(
+            Asked {
+                job,
+                input: Input::Unnamed,
+            },
+        ) => {
             tell_reading(console, job);
             ending_of(do_job(alloc, console, job, source, sink))
         }
-        Ok(Asked {
-            job,
-            input: Input::Standard,
-        }) => ending_of(do_job(alloc, console, job, source, sink)),
-        Ok(Asked {
-            job,
-            input: Input::Named(name),
-        }) => do_named(alloc, console, job, name, sink),
+        Ok(
+            Asked {
+                job,
+                input: Input::Standard,
+            },
+        ) => ending_of(do_job(alloc, console, job, source, sink)),
+        Ok(
+            Asked {
+                job,
+                input: Input::Named(name),
+            },
+        ) => do_named(alloc, console, job, name, sink),
         Err(error) => Err(Refusal::Words(error)),
     }
 }

@@ -12,16 +12,20 @@ use certificate::WriteFault;
 use clap::error::ErrorKind;
 
 /// What `check` tells at a terminal.
-const CHECK_READS: &str = "taskaudit: reading a trace from standard input (Ctrl-D ends it); taskaudit check --help says more\n";
+const CHECK_READS: &str =
+    "taskaudit: reading a trace from standard input (Ctrl-D ends it); taskaudit check --help says more\n";
 
 /// What `order` tells at a terminal.
-const ORDER_READS: &str = "taskaudit: reading a trace from standard input (Ctrl-D ends it); taskaudit order --help says more\n";
+const ORDER_READS: &str =
+    "taskaudit: reading a trace from standard input (Ctrl-D ends it); taskaudit order --help says more\n";
 
 /// What `record` tells at a terminal.
-const RECORD_READS: &str = "taskaudit: reading a script from standard input (Ctrl-D ends it); taskaudit record --help says more\n";
+const RECORD_READS: &str =
+    "taskaudit: reading a script from standard input (Ctrl-D ends it); taskaudit record --help says more\n";
 
 /// What `upgrade` tells at a terminal.
-const UPGRADE_READS: &str = "taskaudit: reading a trace from standard input (Ctrl-D ends it); taskaudit upgrade --help says more\n";
+const UPGRADE_READS: &str =
+    "taskaudit: reading a trace from standard input (Ctrl-D ends it); taskaudit upgrade --help says more\n";
 
 /// Where the program tells why there is no verdict or no trace.
 pub trait Console {

@@ -25,8 +25,7 @@ const ORDER_ABOUT: &str =
     "Checks a trace file, and prints an order of its events that shows the answer";
 
 /// What `record` is for.
-const RECORD_ABOUT: &str =
-    "Runs a script with recorders, and writes the trace that they record";
+const RECORD_ABOUT: &str = "Runs a script with recorders, and writes the trace that they record";
 
 /// What `upgrade` is for.
 const UPGRADE_ABOUT: &str = "Writes a trace file in version 2 of its format";
@@ -230,8 +229,20 @@ fn command<'a>(alloc: Global) -> Result<Command<'a>, AllocError>
 {
     let check = checking(alloc)?;
     let order = reading(alloc, "order", ORDER_ABOUT, ORDER_EXPLANATION, TRACE_HELP)?;
-    let recording = reading(alloc, "record", RECORD_ABOUT, RECORD_EXPLANATION, SCRIPT_HELP)?;
-    let upgrading = reading(alloc, "upgrade", UPGRADE_ABOUT, UPGRADE_EXPLANATION, TRACE_HELP)?;
+    let recording = reading(
+        alloc,
+        "record",
+        RECORD_ABOUT,
+        RECORD_EXPLANATION,
+        SCRIPT_HELP,
+    )?;
+    let upgrading = reading(
+        alloc,
+        "upgrade",
+        UPGRADE_ABOUT,
+        UPGRADE_EXPLANATION,
+        TRACE_HELP,
+    )?;
     Command::new(alloc, "taskaudit")
         .version(VERSION_TEXT)
         .about(ABOUT)

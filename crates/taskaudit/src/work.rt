@@ -260,7 +260,10 @@ impl Packing {
 #[derive(Clone, Copy, Debug, PartialEq, Eq)]
 pub enum FileFault<'a> {
     /// It is not opened.
-    Unopened { name: &'a str, why: OpenFault },
+    Unopened {
+        name: &'a str,
+        why: OpenFault,
+    },
     /// It is compressed, and this job cannot read it so.
     Compressed {
         name: &'a str,
@@ -285,7 +288,10 @@ impl fmt::Display for FileFault<'_> {
                 let kind = packing.name();
                 let program = packing.unpacker();
                 let word = job.name();
-                write!(f, "compressed: {name} is {kind}: run {program} {name} | taskaudit {word} -")
+                write!(
+                    f,
+                    "compressed: {name} is {kind}: run {program} {name} | taskaudit {word} -"
+                )
             }
         }
     }

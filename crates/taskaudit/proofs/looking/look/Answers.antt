@@ -14,7 +14,7 @@ loop-end-preserved g c =
     let more = take_more c.loop-end.first c.read_some.new.buffer c.loop-end.end (6 - c.loop-end.end)
     c.in_ok-count.count (omega (arith, now.within, now.size)) bound.0 in
     let P : List ℕ → Type 0 = λ t. Keeps (g.I.Source.remaining c.args.source)
-        (prepend_known t (g.I.Source.remaining c.read_some.new.source)) in
+    (prepend_known t (g.I.Source.remaining c.read_some.new.source)) in
     record {
       within = omega (arith, now.within, bound.0, c.read_some.auto.buffer);
       size = length_more c.loop-end.first c.read_some.new.buffer c.loop-end.end now.within now.size (search rules);
