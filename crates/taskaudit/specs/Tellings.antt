@@ -59,13 +59,13 @@ pub data IsToldWords (made : Call → Type 0) : Error → Refusal → Type 0 whe
   out_of_memory : {error : Error} {fault : AuditFault} → kind_of error ≡ OutOfMemory
       → IsToldFault made Memory fault → IsToldWords made error (Audit fault)
 
--- why a file is not read stays what it is exactly where there is memory for its text, and else becomes a lack
--- of memory; the text of what it is then is printed
+-- why a file is not read stays what it is exactly where there is memory for its text, which is then printed;
+-- else the lack of memory is told
 pub data IsToldFile (made : Call → Type 0) : FileFault → Refusal → Type 0 where
   with_file_text : {fault : FileFault} → made (text_of_file fault true)
       → made (print (file_fault_text_of fault)) → IsToldFile made fault (File fault)
-  without_file_text : {fault : FileFault} → made (text_of_file fault false)
-      → made (print (fault_text_of Memory)) → IsToldFile made fault (Audit Memory)
+  without_file_text : {fault : FileFault} {after : AuditFault} → made (text_of_file fault false)
+      → IsToldFault made Memory after → IsToldFile made fault (Audit after)
 
 -- what is told at a terminal of a job that reads from there
 abbrev pub reading_text_of : Job → List ℕ

@@ -154,10 +154,7 @@ fn tell_file<'a, C: Console>(console: &C, fault: FileFault<'a>) -> Refusal<'a>
             console.print(text.as_str());
             Refusal::File(fault)
         }
-        None => {
-            console.print("out of memory\n");
-            Refusal::Audit(AuditFault::Memory)
-        }
+        None => Refusal::Audit(tell_fault(console, AuditFault::Memory)),
     }
 }
 

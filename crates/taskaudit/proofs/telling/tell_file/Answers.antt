@@ -9,4 +9,4 @@ returns-in-Some g c =
     (subst P (c.as_str.ensures.value ∙ c.in-Some.ensures.text) c.print.ensures.made)
 
 pub returns-in-None : goal.returns-in-None
-returns-in-None g c = without_file_text c.in-None.ensures.made c.print-in-None.ensures.made
+returns-in-None g c = without_file_text c.in-None.ensures.made c.tell_fault.ensures
