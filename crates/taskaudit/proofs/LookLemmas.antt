@@ -1,7 +1,7 @@
 -- The bytes that were looked at stay in front of the others.
 use Rattle.std.proofs.Common.{◌≡◌, ◌∙◌, ℕ, ◌+◌, ◌-◌, ◌<◌, ◌≤◌, List, [], ◌++◌, length, take, drop, min, arith}
-use Rattle.std.proofs.Common.{sym, ap, refl, subst, Option, None, Some, Result, length-take, length-drop}
-use Rattle.std.proofs.Common.{append_assoc, append-nil, ap₂, length-append}
+use Rattle.std.proofs.Common.{sym, ap, refl, Option, None, Some, Result, length-take, length-drop}
+use Rattle.std.proofs.Common.{append_assoc, ap₂, length-append}
 use Rattle.std.proofs.Math.ListN.{drop_of_length-le}
 use Rattle.std.proofs.Math.Seq.{take-add, take-append_seam}
 use Rattle.std.proofs.lemmas.Slice.{take-put_mid_below}
@@ -9,7 +9,7 @@ use borrow.Rule.Slice.PartMut.{put_mid, post_of}
 use Rattle.std.proofs.lemmas.List.{take-append-drop, drop-drop, drop-take, drop_at, take_all}
 use Rattle.std.proofs.lemmas.List.{take-append-le}
 use Rattle.std.specs.Prelude.{IfSome}
-use Rattle.std.specs.Io.KnownBytes.{Consumes, IsAtEnd, Keeps, ReadConsumes, prepend_known}
+use Rattle.std.specs.Io.KnownBytes.{Consumes, Keeps, ReadConsumes, prepend_known}
 
 pub keeps_itself : (a : Option (List ℕ)) → Keeps a a
 keeps_itself None = tt
@@ -76,8 +76,7 @@ pub rest_given : {E : Type 0} (known known' : Option (List ℕ)) (held : List �
     (buffer : List ℕ)
     → held ≡ [] → ReadConsumes known known' r buffer
     → ReadConsumes (prepend_known held known) (prepend_known held known') r buffer
-rest_given {E} known known' held r buffer none read =
-    let P : Option (List ℕ) → Option (List ℕ) → Type 0 = λ a b. ReadConsumes a b r buffer in
+rest_given known known' held r buffer none read =
     rw (none, prepend_none known, prepend_none known') read
 
 pub none_held : (first : List ℕ) (at end : ℕ) → end ≤ at → drop at (take end first) ≡ []
@@ -102,15 +101,6 @@ six_looked_at (Some all) None first six kept = absurd kept
 six_looked_at (Some all) (Some rest) first six kept =
     ap (take 6) (sym kept) ∙ take-append-le 6 first rest (omega arith)
     ∙ take_all 6 first (omega arith)
-
--- and so are fewer, where no byte is behind them
-pub all_looked_at : (all known : Option (List ℕ)) (first : List ℕ) → length first ≤ 6 → IsAtEnd known
-    → Keeps all (prepend_known first known) → IfSome all (λ bytes. take 6 bytes ≡ first)
-all_looked_at None known first few ended kept = tt
-all_looked_at (Some all) None first few ended kept = absurd kept
-all_looked_at (Some all) (Some rest) first few ended kept =
-    let is : all ≡ first = sym kept ∙ ap (λ t. first ++ t) ended ∙ append-nil first in
-    ap (take 6) is ∙ take_all 6 first few
 
 -- what was read behind the first bytes is theirs
 pub take_more : (first buffer : List ℕ) (e k n : ℕ) → e ≤ length first → n ≤ length buffer

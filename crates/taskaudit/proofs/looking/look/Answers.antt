@@ -1,4 +1,4 @@
-use Rattle.std.proofs.Common.{rules, ◌≡◌, ◌+◌, ◌-◌, ◌≤◌, ℕ, List, length, take, arith, length-take, refl, sym, subst}
+use Rattle.std.proofs.Common.{rules, ◌≡◌, ◌-◌, ℕ, List, length, take, arith, length-take, refl, sym, subst}
 use Rattle.std.specs.Io.KnownBytes.{Keeps, prepend_known}
 use Rattle.taskaudit.proofs.LookLemmas.{keeps_behind_none, length_more, more_given, six_looked_at, take_more}
 use Rattle.taskaudit.proofs.looking.look.Goals as goal

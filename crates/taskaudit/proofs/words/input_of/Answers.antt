@@ -1,5 +1,5 @@
-use Rattle.std.proofs.Common.{◌≡◌, ◌∙◌, sym, ap, codes, option_map}
-use Rattle.clap.specs.Words.{found_of, first_of, rows_of}
+use Rattle.std.proofs.Common.{◌∙◌, sym, ap, codes, option_map}
+use Rattle.clap.specs.Words.{found_of}
 use Rattle.clap.proofs.WalkLemmas.{first_value-rows}
 use Rattle.taskaudit.proofs.CommandLemmas.{of_no_word, of_a_line, of_a_name}
 use Rattle.taskaudit.proofs.words.input_of.Goals as goal
