@@ -9,7 +9,8 @@ use Rattle.taskaudit.specs.declared.work.Refusal.{Refusal}
 use Rattle.taskaudit.specs.Commands.{AsksFor}
 use Rattle.taskaudit.specs.Programs.{IsRefused, IsStandard, LeavesOfJob, World, ending_of}
 
-module _ {F : Type 0} (world : World F) (words : List Text) (job : Job) (input old new : Option (List ℕ)) where
+module _ {F : Type 0} (world : World F) (words : List Text) (job : Job) (input : Option (List ℕ))
+    (old new : Option (List ℕ)) where
   refused_job : (result : Result Done AuditFault) → AsksFor words job → IsStandard world words job
       → IfErr result (LeavesOfJob job input old new)
       → IfErr (ending_of result) (IsRefused world words input old new)

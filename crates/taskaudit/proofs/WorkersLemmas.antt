@@ -1,6 +1,7 @@
 -- What clap finds for `--workers` where it refuses nothing: a number from 1 to 256.
 use Rattle.std.proofs.Common.{◌≡◌, ◌∙◌, ◌&&◌, ◌++◌, ◌⊎◌, ◌==◌, ℕ, Bool, cond, codes, true, false, zero, suc}
-use Rattle.std.proofs.Common.{refl, sym, ap, ap₂, subst, arith, List, [], ◌∷◌, length, drop, Option, Some, None}
+use Rattle.std.proofs.Common.{refl, sym, ap, ap₂, subst, arith, List, [], ◌∷◌, length, drop}
+use Rattle.std.proofs.Common.{Option, Some, None}
 use Rattle.std.proofs.Common.{inl, inr, option_and_then, option_map}
 use Rattle.std.specs.Prelude.{IfSome, is_some, encode_utf8, pos, slice_get, unwrap_or}
 use Rattle.std.specs.List.{AllByRecursion, find, fold, list_all}

@@ -135,12 +135,13 @@ IsRefusedJob world words job input old new refusal =
     × IsFileRefused world.opens world.remaining job name old new refusal)
     ⊎ IsFaultOn world words job input old new refusal
 
--- words are refused for what clap says of them, and nothing is written; a job, or the file that the words name,
--- only where the words ask for it, and it leaves what such a fault leaves of it
+-- words are refused for what clap says of them, and nothing is written; a job, or the file that the words
+-- name, only where the words ask for it, and it leaves what such a fault leaves of it
 abbrev pub IsRefused : {F : Type 0} → World F → List Text → Option (List ℕ) → Option (List ℕ)
     → Option (List ℕ) → Refusal → Type 0
 IsRefused world words input old new NotText = ⊥
-IsRefused world words input old new (Words error) = HasKind (fault_of command_line words) error × Keeps old new
+IsRefused world words input old new (Words error) =
+    HasKind (fault_of command_line words) error × Keeps old new
 IsRefused world words input old new refusal =
     (job : Job) × AsksFor words job × IsRefusedJob world words job input old new refusal
 

@@ -70,13 +70,13 @@ pub data IsToldFile (made : Call → Type 0) : FileFault → Refusal → Type 0 
 -- what is told at a terminal of a job that reads from there
 abbrev pub reading_text_of : Job → List ℕ
 reading_text_of (Check workers) =
-    codes "taskaudit: reading a trace from standard input (Ctrl-D ends it); taskaudit check --help says more\n"
+    codes "taskaudit: reading a trace from this terminal (Ctrl-D ends it); see taskaudit check --help\n"
 reading_text_of Order =
-    codes "taskaudit: reading a trace from standard input (Ctrl-D ends it); taskaudit order --help says more\n"
+    codes "taskaudit: reading a trace from this terminal (Ctrl-D ends it); see taskaudit order --help\n"
 reading_text_of Record =
-    codes "taskaudit: reading a script from standard input (Ctrl-D ends it); taskaudit record --help says more\n"
+    codes "taskaudit: reading a script from this terminal (Ctrl-D ends it); see taskaudit record --help\n"
 reading_text_of Upgrade =
-    codes "taskaudit: reading a trace from standard input (Ctrl-D ends it); taskaudit upgrade --help says more\n"
+    codes "taskaudit: reading a trace from this terminal (Ctrl-D ends it); see taskaudit upgrade --help\n"
 
 -- it was asked whether somebody sits at a terminal, and if so, that was told
 pub record IsAwaited (made : Call → Type 0) (sits : Bool → Type 0) (job : Job) : Type 0 where

@@ -13,19 +13,19 @@ use clap::error::ErrorKind;
 
 /// What `check` tells at a terminal.
 const CHECK_READS: &str =
-    "taskaudit: reading a trace from standard input (Ctrl-D ends it); taskaudit check --help says more\n";
+    "taskaudit: reading a trace from this terminal (Ctrl-D ends it); see taskaudit check --help\n";
 
 /// What `order` tells at a terminal.
 const ORDER_READS: &str =
-    "taskaudit: reading a trace from standard input (Ctrl-D ends it); taskaudit order --help says more\n";
+    "taskaudit: reading a trace from this terminal (Ctrl-D ends it); see taskaudit order --help\n";
 
 /// What `record` tells at a terminal.
 const RECORD_READS: &str =
-    "taskaudit: reading a script from standard input (Ctrl-D ends it); taskaudit record --help says more\n";
+    "taskaudit: reading a script from this terminal (Ctrl-D ends it); see taskaudit record --help\n";
 
 /// What `upgrade` tells at a terminal.
 const UPGRADE_READS: &str =
-    "taskaudit: reading a trace from standard input (Ctrl-D ends it); taskaudit upgrade --help says more\n";
+    "taskaudit: reading a trace from this terminal (Ctrl-D ends it); see taskaudit upgrade --help\n";
 
 /// Where the program tells why there is no verdict or no trace.
 pub trait Console {

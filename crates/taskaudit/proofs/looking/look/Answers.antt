@@ -17,7 +17,8 @@ loop-end-preserved g c =
     (prepend_known t (g.I.Source.remaining c.read_some.new.source)) in
     record {
       within = omega (arith, now.within, bound.0, c.read_some.auto.buffer);
-      size = length_more c.loop-end.first c.read_some.new.buffer c.loop-end.end now.within now.size (search rules);
+      size = length_more c.loop-end.first c.read_some.new.buffer c.loop-end.end now.within now.size
+          (search rules);
       kept = subst P (sym more) (more_given _ _ _ _ _ now.kept read.0);
     }
 
