@@ -92,11 +92,15 @@ def check(checker, file, log):
     words = [*checker, 'check']
     with open(file, 'rb') as trace:
         ran = subprocess.Popen(words, stdin=trace, stdout=subprocess.PIPE, stderr=subprocess.PIPE, text=True)
-    line = ''
+    last = ''
     for line in ran.stderr:
-        log.write(line)
+        log.write(last)
         log.flush()
-    return ran.stdout.read() or line, ran.wait()
+        last = line
+    answer = ran.stdout.read()
+    if answer:
+        log.write(last)
+    return answer or last, ran.wait()
 
 
 def order(checker, file):
