@@ -3,60 +3,12 @@ folder.
 
 A release has the program linked with no shared library, its object file, a Debian package, the file RELEASE,
 which names commit, version and logic, and the checksums of all."""
-import gzip
-import hashlib
-import importlib.machinery
-import importlib.util
-import io
 import os
 import shutil
-import subprocess
-import tarfile
 import tempfile
 
-TOP = os.path.dirname(os.path.dirname(os.path.abspath(__file__)))
-DESCRIPTION = """Auditor of recorded OpenMP tasks
- taskaudit reads a file of recorded events of OpenMP's tool interface (OMPT) and
- answers whether each taskwait, taskgroup and barrier ended, and each task with
- dependences started, only when it was allowed to. What it answers about the
- bytes that it reads is proved by machine."""
-# The documents named in the help and the errors.
-DOCUMENTS = ('CAUSES.md', 'FORMAT.md', 'RECORDING.md', 'trace.schema.json')
-COMPLETIONS = {'bash': 'usr/share/bash-completion/completions/taskaudit',
-               'zsh': 'usr/share/zsh/vendor-completions/_taskaudit',
-               'fish': 'usr/share/fish/vendor_completions.d/taskaudit.fish'}
-
-
-class NotMade(Exception):
-    """Why there is no release."""
-
-
-def load(name):
-    """Returns a script of tools/ that has no ending as a module."""
-    loader = importlib.machinery.SourceFileLoader(name, os.path.join(TOP, 'tools', name))
-    module = importlib.util.module_from_spec(importlib.util.spec_from_loader(name, loader))
-    loader.exec_module(module)
-    return module
-
-
-def read(path):
-    with open(path, 'rb') as it:
-        return it.read()
-
-
-def called(words, what):
-    """Runs a command, and returns what it prints."""
-    try:
-        ran = subprocess.run(words, cwd=TOP, stdin=subprocess.DEVNULL, capture_output=True)
-    except OSError as error:
-        raise NotMade(f'{what}: {error}') from error
-    if ran.returncode:
-        raise NotMade(f'{what}: {ran.stderr.decode(errors="replace").strip()}')
-    return ran.stdout
-
-
-def sum_of(data):
-    return hashlib.sha256(data).hexdigest()
+from calling import TOP, NotMade, called, read, sum_of
+from debian import package_of
 
 
 class Kit:
@@ -75,8 +27,8 @@ class Kit:
                 *self.parts], 'rattle-link')
 
     def link_static(self, thing, to):
-        """Links an object file with the C library of this machine, and with no shared library."""
-        called(['cc', '-static', '-Wl,--build-id=none', '-o', to, thing, *self.parts, '-lm', '-lpthread'],
+        """Links an object file with the C library of this machine, with no shared library and without symbols."""
+        called(['cc', '-static', '-s', '-Wl,--build-id=none', '-o', to, thing, *self.parts, '-lm', '-lpthread'],
                'cc -static (a C compiler and a static C library, as libc6-dev of Debian has it, are needed)')
 
 
@@ -100,64 +52,6 @@ def object_at_hand(kit, program):
     os.makedirs(os.path.dirname(kept), exist_ok=True)
     shutil.copyfile(f'{program}.o', kept)
     return kept
-
-
-def compressed(data):
-    """Returns what gzip makes of the bytes, with no time and no name."""
-    return gzip.compress(data, 9, mtime=0)
-
-
-def tar_of(files, seconds):
-    """Returns a compressed tar archive of these files, a mode and bytes by each name, and their folders."""
-    folders = {'/'.join(name.split('/')[:at]) for name in files for at in range(1, name.count('/') + 1)}
-    raw = io.BytesIO()
-    with tarfile.open(fileobj=raw, mode='w', format=tarfile.GNU_FORMAT) as archive:
-        for name in ['', *sorted([*folders, *files])]:
-            mode, data = files.get(name, (0o755, b''))
-            member = tarfile.TarInfo(f'./{name}' if name else '.')
-            member.type = tarfile.REGTYPE if name in files else tarfile.DIRTYPE
-            member.mode, member.size, member.mtime = mode, len(data), seconds
-            member.uname = member.gname = 'root'
-            archive.addfile(member, io.BytesIO(data))
-    return compressed(raw.getvalue())
-
-
-def archive_of(members, seconds):
-    """Returns an archive in the form of `ar`."""
-    parts = [b'!<arch>\n']
-    for name, data in members:
-        head = f'{name:<16}{seconds:<12}{0:<6}{0:<6}{"100644":<8}{len(data):<10}`\n'
-        parts += [head.encode(), data, b'\n' * (len(data) % 2)]
-    return b''.join(parts)
-
-
-def installed_files(program):
-    """Returns the files of the package, a mode and bytes by each name. The manual page and the completions
-    are made from the help that is kept in tools/texts."""
-    pages = load('pages')
-    helps = pages.Helps()
-    files = {'usr/bin/taskaudit': program,
-             'usr/share/man/man1/taskaudit.1.gz': compressed(pages.man(helps).encode()),
-             'usr/share/doc/taskaudit/changelog.gz': compressed(read(os.path.join(TOP, 'CHANGELOG.md')))}
-    for shell, name in COMPLETIONS.items():
-        files[name] = pages.KINDS[shell](helps).encode()
-    for name in DOCUMENTS:
-        files[f'usr/share/doc/taskaudit/{name}'] = read(os.path.join(TOP, 'docs', name))
-    return {name: (0o755 if '/bin/' in name else 0o644, data) for name, data in files.items()}
-
-
-def package_of(program, version, seconds):
-    """Returns the Debian package."""
-    files = installed_files(program)
-    size = sum(len(data) for _, data in files.values())
-    keeper = called(['git', 'log', '-1', '--format=%cn <%ce>'], 'git log').decode().strip()
-    control = (f'Package: taskaudit\nVersion: {version}\nArchitecture: amd64\nMaintainer: {keeper}\n'
-               f'Installed-Size: {(size + 1023) // 1024}\nSection: devel\nPriority: optional\n'
-               f'Description: {DESCRIPTION}\n')
-    sums = ''.join(f'{hashlib.md5(data).hexdigest()}  {name}\n' for name, (_, data) in sorted(files.items()))
-    about = {'control': (0o644, control.encode()), 'md5sums': (0o644, sums.encode())}
-    return archive_of([('debian-binary', b'2.0\n'), ('control.tar.gz', tar_of(about, seconds)),
-                       ('data.tar.gz', tar_of(files, seconds))], seconds)
 
 
 def statically_linked(kit, thing):
