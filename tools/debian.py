@@ -34,8 +34,6 @@ NEEDED = ('ompt/running.py', 'ompt/runs.py', 'tools/answers.py', 'tools/checkers
           'tools/fields.py', 'tools/orders.py', 'tools/page.py', 'tools/recording.py', 'tools/traces.py',
           'tools/texts/version', 'tests/model.py', 'docs/trace.schema.json')
 LIBRARIES = ('libtaskaudit_ompt.so', 'libtaskaudit_beside.so')
-# What differs between two builds of the same sources, or serves a debugger alone.
-STRIPPED = ('.comment', '.note.gnu.build-id')
 ANY_PYTHON, PYTHON = b'#!/usr/bin/env python3\n', b'#!/usr/bin/python3\n'
 RECOMMENDED = 'libomp5 | libomp-dev, llvm | binutils'
 OVERRIDDEN = """# taskaudit itself needs no shared library, so it runs on any Linux on x86-64.
@@ -59,8 +57,8 @@ Comment:
  Compiled with LLVM's headers omp-tools.h and ompt-multiplex.h, which are under the same license.
 
 License: Apache-2.0-with-LLVM-exception
- Licensed under the Apache License, version 2.0, with the exceptions below. On Debian systems the text of that license is
- in /usr/share/common-licenses/Apache-2.0.
+ Licensed under the Apache License, version 2.0, with the exceptions below. On Debian systems the text of that
+ license is in /usr/share/common-licenses/Apache-2.0.
  .
 {exceptions}
 """
@@ -108,7 +106,7 @@ def libraries():
             path = os.path.join(room, name)
             if not os.path.exists(path):
                 raise NotMade(f"{name} is not built: LLVM's headers, as libomp-dev of Debian has them, are needed")
-            called(['strip', '--strip-unneeded', *(f'--remove-section={it}' for it in STRIPPED), path], 'strip')
+            called(['strip', '--strip-unneeded', '--remove-section=.comment', path], 'strip')
             found[name] = read(path), called(['objdump', '-T', path], 'objdump').decode()
     return found
 
