@@ -34,6 +34,8 @@ NEEDED = ('ompt/running.py', 'ompt/runs.py', 'tools/answers.py', 'tools/checkers
           'tools/fields.py', 'tools/orders.py', 'tools/page.py', 'tools/recording.py', 'tools/traces.py',
           'tools/texts/version', 'tests/model.py', 'docs/trace.schema.json')
 LIBRARIES = ('libtaskaudit_ompt.so', 'libtaskaudit_beside.so')
+# The scripts have match statements.
+OLDEST_PYTHON = (3, 10)
 ANY_PYTHON, PYTHON = b'#!/usr/bin/env python3\n', b'#!/usr/bin/python3\n'
 RECOMMENDED = 'libomp5 | libomp-dev, llvm | binutils'
 OVERRIDDEN = """# taskaudit itself needs no shared library, so it runs on any Linux on x86-64.
@@ -164,8 +166,9 @@ def package_of(program, version, seconds):
     files = installed_files(program, recorders, (version, keeper, seconds))
     links = {f'usr/bin/{name}': f'../lib/taskaudit/{place}' for name, place in SCRIPTS.items()}
     size = sum(len(data) for _, data in files.values())
+    needed = f'libc6 (>= {libc_of(recorders)}), python3 (>= {OLDEST_PYTHON[0]}.{OLDEST_PYTHON[1]})'
     control = (f'Package: taskaudit\nVersion: {version}\nArchitecture: amd64\nMaintainer: {keeper}\n'
-               f'Installed-Size: {(size + 1023) // 1024}\nDepends: libc6 (>= {libc_of(recorders)}), python3 (>= 3.9)\n'
+               f'Installed-Size: {(size + 1023) // 1024}\nDepends: {needed}\n'
                f'Recommends: {RECOMMENDED}\nSection: devel\nPriority: optional\nDescription: {DESCRIPTION}\n')
     sums = ''.join(f'{hashlib.md5(data).hexdigest()}  {name}\n' for name, (_, data) in sorted(files.items()))
     about = {'control': (0o644, control.encode()), 'md5sums': (0o644, sums.encode())}
