@@ -89,11 +89,18 @@ static bool refuse(const char *what, const char *why) {
 
 /* Names */
 
-const char *program_name(void) {
+/* Returns the program that runs, by its whole name. What would end a line of the list becomes `_`. */
+static const char *program(void) {
     static char name[LONGEST_NAME];
     ssize_t length = readlink("/proc/self/exe", name, sizeof name - 1);
     name[length > 0 ? length : 0] = 0;
-    const char *last = strrchr(name, '/');
+    for (char *at = name; *at; at++)
+        if (*at == '\n' || *at == '\t') *at = '_';
+    return name;
+}
+
+const char *program_name(void) {
+    const char *name = program(), *last = strrchr(name, '/');
     return last ? last + 1 : name;
 }
 
@@ -147,7 +154,7 @@ static bool make_part(void) {
         int made = open(part_name, O_WRONLY | O_CREAT | O_EXCL | O_CLOEXEC, 0666);
         if (made >= 0) {
             close(made);
-            tell_run("begin", part_name, program_name());
+            tell_run("begin", part_name, program());
             return true;
         }
         if (errno != EEXIST) break;
@@ -251,7 +258,7 @@ static const char *reason(int number) {
 
 void finish_file(const char *ending) {
     if (!part_name[0]) return;
-    int file = open(part_name, O_WRONLY | O_TRUNC | O_CLOEXEC);
+    int file = open(part_name, O_WRONLY | O_CREAT | O_TRUNC | O_CLOEXEC, 0666);
     const char *why = file < 0 ? reason(errno) : write_records(file, ending);
     if (file >= 0 && close(file) != 0 && !why) why = reason(errno);
     if (!why && !move_to_name()) why = reason(errno);

@@ -5,7 +5,7 @@ import subprocess
 import time
 from collections import namedtuple
 
-# A process that began to record: its number and its program; the file if it is whole, or why there is none.
+# A process that began to record: its number and its program, by its path; the file if it is whole, or why there is none.
 Process = namedtuple('Process', 'number program file reason')
 
 # How long processes may take to end after a signal.
