@@ -252,8 +252,7 @@ static bool move_to_name(void) {
 }
 
 static const char *reason(int number) {
-    if (number == ENOSPC || number == EDQUOT) return "the disk is full";
-    return number == EACCES || number == EPERM || number == EROFS ? "it must not be written" : "it could not be written";
+    return number == ENOSPC || number == EDQUOT ? "the disk is full" : "it could not be written";
 }
 
 void finish_file(const char *ending) {
