@@ -4,9 +4,8 @@ ghost use Rattle.std.specs.Prelude.{◌≡◌, ◌≤◌, ◌<◌, ◌+◌, ◌-
 ghost use Rattle.certificate.specs.Pieces.{IsWholeLines, IsPieceJudged, AreJudged, TakesLine, TakesText, WithRecord, SamePiece};
 ghost use Rattle.certificate.specs.Blocks.{AreCuts, IsPiece};
 
-use crate::window::MAX_LINE;
 use json::Scratch;
-use lines::{ReadCause, record, record_in_front};
+use lines::{MAX_LINE, ReadCause, record, record_in_front};
 use memchr::memchr;
 use ompt_events::Record;
 use std::alloc::{AllocError, Global};

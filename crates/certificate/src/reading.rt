@@ -12,9 +12,9 @@ ghost use Rattle.lines.specs.Limits.{max_line};
 use crate::device::{MAX_TURNS, Source};
 use crate::faults::ReadFault;
 use crate::kept::Kept;
-use crate::window::{MAX_LINE, Window};
+use crate::window::Window;
 use json::Scratch;
-use lines::{ReadCause, TRACES, header, record, record_as_written, record_in_front};
+use lines::{MAX_LINE, ReadCause, TRACES, header, record, record_as_written, record_in_front};
 use ompt_events::{MAX_RECORDS, Trace};
 use std::alloc::Global;
 

@@ -7,13 +7,10 @@ ghost use Rattle.certificate.specs.Counts.{TakesTurns, agains_after, breaks_afte
 ghost use Rattle.certificate.specs.Windows.{IsDeviceFault, IsWindow};
 
 use crate::device::{DeviceFault, MAX_TURNS, Source};
-use lines::ReadCause;
+use lines::{MAX_LINE, ReadCause};
 use memchr::memchr;
 use std::alloc::{AllocError, Global};
 use std::marker::Model;
-
-/// The most bytes that a line may have before its line feed.
-pub(crate) const MAX_LINE: usize = 65_536;
 
 /// Twice the longest line with its line feed: if it is full, half of it is or becomes free.
 const SIZE: usize = 2 * (MAX_LINE + 1);

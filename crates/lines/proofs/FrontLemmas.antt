@@ -1,19 +1,15 @@
 -- A line in written form in front of other bytes: where it ends, and what it stands for.
-use Rattle.std.proofs.Common.{◌≡◌, ◌∙◌, ℕ, zero, suc, ◌<◌, ◌≤◌, ◌-◌, ◌++◌, List, [], ◌∷◌, length, take}
+use Rattle.std.proofs.Common.{◌≡◌, ◌∙◌, ℕ, zero, suc, ◌<◌, ◌-◌, List, [], ◌∷◌, length, take}
 use Rattle.std.proofs.Common.{get_or}
-use Rattle.std.proofs.Common.{Ok, Some, true, refl, ap, sym, arith}
+use Rattle.std.proofs.Common.{Some, true, refl, ap, sym, arith}
 use Rattle.std.proofs.Math.Seq.{take-append_seam, get_or-append_right}
 use Rattle.std.proofs.Math.ListN.{get_or-append}
 use Rattle.std.proofs.lemmas.Bool.{false≢true, eqb-true}
 use Rattle.std.proofs.lemmas.List.{length-append}
 use Rattle.std.specs.Prelude.{◌==◌, slice_index}
 use Rattle.memchr.specs.Find.{IsFirstByte, is_byte}
-use Rattle.ompt_events.specs.declared.records.Record.{Record}
-use Rattle.lines.specs.Limits.{max_line}
-use Rattle.lines.specs.RecordLines.{line_says}
 use Rattle.lines.specs.Texts.{Takes}
 use Rattle.lines.proofs.JsonLemmas.{IsUnbroken}
-use Rattle.lines.proofs.TextLemmas.{IsLineOf}
 
 -- no byte of an unbroken line is a line feed
 unbroken-each : (bytes : List ℕ) (i : ℕ) → IsUnbroken bytes → i < length bytes
@@ -29,27 +25,27 @@ pub front-length : (text line behind : List ℕ) → Takes text line behind
 front-length text line behind takes =
     let long = ap length takes.is ∙ length-append line behind in omega (arith, long)
 
-pub front-line : (text line behind : List ℕ) (version : ℕ) (r : Record) → IsLineOf version line r
-    → Takes text line behind → 0 < length behind → slice_index behind 0 ≡ 10
+pub front-line : (text line behind : List ℕ) → IsUnbroken line → Takes text line behind
+    → 0 < length behind → slice_index behind 0 ≡ 10
     → IsFirstByte (is_byte 10) text (Some (length text - length behind))
-front-line text line behind version r is takes some feed =
+front-line text line behind unbroken takes some feed =
     rw (front-length text line behind takes, takes.is) (
       record {
         low = omega arith;
         high = let long = length-append line behind in omega (arith, long, some);
         before = λ i low below passes.
-            unbroken-each line i is.unbroken below
+            unbroken-each line i unbroken below
             (ap (is_byte 10) (sym (get_or-append line behind 0 i below)) ∙ passes);
       },
       ap (is_byte 10) (get_or-append_right line behind (length line) 0 (omega arith)
           ∙ ap (λ n. get_or behind n 0) (omega arith) ∙ feed),
     )
 
-pub front-says : (text line behind : List ℕ) (version : ℕ) (r : Record) → IsLineOf version line r
-    → Takes text line behind → line_says version (take (length text - length behind) text) ≡ Ok r
-front-says text line behind version r is takes =
+pub front-taken : (text line behind : List ℕ) → Takes text line behind
+    → take (length text - length behind) text ≡ line
+front-taken text line behind takes =
     rw (front-length text line behind takes)
-    (ap (line_says version) (ap (take (length line)) takes.is ∙ take-append_seam line behind) ∙ is.says)
+    (ap (take (length line)) takes.is ∙ take-append_seam line behind)
 
 -- a list of no bytes
 pub nothing_behind : (bytes : List ℕ) → (length bytes == 0) ≡ true → bytes ≡ []

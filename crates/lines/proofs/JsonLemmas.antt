@@ -246,6 +246,13 @@ is_utf8-compact_text d n h =
 pub unbroken-compact_text : (d : Data) (n : ℕ) → IsPlain d n → IsUnbroken (compact_text d)
 unbroken-compact_text d n h = unbroken-printed _ (printed-compact_text d n h)
 
+pub unbroken-members : (ms : Members) (n : ℕ) → MembersArePlain ms n
+    → IsUnbroken (compact_text (object ms))
+unbroken-members ms n h =
+    let printed : ArePrinted (compact_text (object ms)) =
+    ((omega arith, omega arith), printed-members_text false ms n h) in
+    unbroken-printed (compact_text (object ms)) printed
+
 -- the value of the line
 pub value_of-compact_text : (d : Data) (n : ℕ) → IsPlain d n → n ≤ max_depth
     → value_of (compact_text d) ≡ Some d

@@ -15,3 +15,5 @@ pub mod FrontLemmas
 mod SaysLemmas
 pub mod LineLemmas
 mod WrittenLemmas
+mod InFrontLemmas
+mod KnownLemmas

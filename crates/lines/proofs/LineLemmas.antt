@@ -41,15 +41,15 @@ use Rattle.ompt_events.specs.Traces.{BodyInRange, IsInRange}
 use Rattle.lines.specs.declared.cause.ReadCause.TheVariants.{Header, Limit}
 use Rattle.lines.specs.Limits.{max_line}
 use Rattle.lines.specs.RecordLines.{bounded, is_short, claim_fits, turns_if_fit, body_fits, record_fits}
-use Rattle.lines.specs.RecordLines.{line_says, header_says, version_in, said_of}
+use Rattle.lines.specs.RecordLines.{header_says, version_in, said_of}
 use Rattle.lines.specs.RecordLines.{format_name}
 use Rattle.lines.specs.Texts.{with_member, whole_number, data_of, number_or_null, flag_names, dep_data}
-use Rattle.lines.specs.Texts.{claim_members, turn_members, body_members, record_members, line_of}
+use Rattle.lines.specs.Texts.{claim_members, turn_members, body_members, record_members}
 use Rattle.lines.specs.Texts.{header_members, header_data, header_line}
 use Rattle.lines.proofs.JsonLemmas.{is_plain_text, IsPlain, ArePlain, size, items_size}
 use Rattle.lines.proofs.JsonLemmas.{value_of-compact_text, length-compact_text}
 use Rattle.lines.proofs.ObjectLemmas.{IsPlainMember, IsPlain-object_of, added_size, size-object_of}
-use Rattle.lines.proofs.TextLemmas.{AllByRecursion-from, IsLineOf, IsLineOf-plain}
+use Rattle.lines.proofs.TextLemmas.{AllByRecursion-from}
 use Rattle.lines.proofs.TextLemmas.{items_size-items_of, items_size-wholes, ArePlain-items_of}
 use Rattle.lines.proofs.TextLemmas.{ArePlain-wholes}
 use Rattle.lines.proofs.SaysLemmas.{Says-sound}
@@ -410,9 +410,3 @@ IsWritten-sound version r range sound = record {
       ap (bounded record_fits) (Says-sound version r sound)
       ∙ ap (λ b. cond b (Ok r) (Err Limit)) (fits r range sound.0);
 }
-
-pub IsLineOf-line_of : (version : ℕ) (r : Record) → IsInRange r → IsSoundIn version r.body
-    → IsLineOf version (line_of r) r
-IsLineOf-line_of version r range sound =
-    let written = IsWritten-sound version r range sound in
-    IsLineOf-plain version (data_of r) 3 r written.plain (omega arith) written.short written.says

@@ -19,7 +19,8 @@ use Rattle.serde_json.specs.Written.{compact_text, members_text, comma_if}
 use Rattle.lines.specs.declared.members.Member.{Member}
 use Rattle.lines.specs.declared.members.Member.TheVariants as variant
 use Rattle.lines.specs.declared.written.Value.{Value}
-use Rattle.lines.specs.MemberNames.{member_code, member_name}
+use Rattle.lines.specs.InFront.{listed}
+use Rattle.lines.specs.MemberNames.{all_members, member_code, member_name}
 use Rattle.lines.specs.Members.{value_named}
 use Rattle.lines.specs.Objects.{ArePlaced, rows, value_data, IsMemberInFront}
 use Rattle.lines.specs.PlainData.{puts, IsPlain, MembersArePlain}
@@ -34,15 +35,7 @@ use Rattle.lines.proofs.TakeLemmas.{Takes-both}
 
 -- ---- names
 
-all_members : List Member
-all_members =
-    variant.Actual ∷ variant.After ∷ variant.Callback ∷ variant.Child ∷ variant.Deps ∷ variant.Endpoint
-    ∷ variant.Flags ∷ variant.Format ∷ variant.Index ∷ variant.Kept ∷ variant.Kind ∷ variant.List
-    ∷ variant.Next ∷ variant.NextTurn ∷ variant.Parallel ∷ variant.Path ∷ variant.Prior
-    ∷ variant.PriorTurn ∷ variant.Requested ∷ variant.Root ∷ variant.Seen ∷ variant.Seq ∷ variant.Status
-    ∷ variant.Task ∷ variant.Thread ∷ variant.Type ∷ variant.Var ∷ variant.Version ∷ []
-
-member-named : (m : Member) → value_named member_name all_members (member_name m) ≡ Some m
+pub member-named : (m : Member) → value_named member_name all_members (member_name m) ≡ Some m
 unfolding value_named all_members
 member-named variant.Actual = refl
 member-named variant.After = refl
@@ -84,17 +77,13 @@ bytes_eq-same bytes = (bytes_eq-Decides bytes bytes).1 refl
 
 -- ---- one member more
 
--- the members in the order of the line
-abbrev pub listed : List (List ℕ × Data) → Members
-listed [] = no_members
-listed (row ∷ rs) = member row.0 row.1 (listed rs)
-
 listed-more : (rs : List (List ℕ × Data)) (k : List ℕ) (d : Data)
     → listed (rs ++ (k, d) ∷ []) ≡ followed (listed rs) (member k d no_members)
 listed-more [] k d = refl
 listed-more (row ∷ rs) k d = ap (λ ms. member row.0 row.1 ms) (listed-more rs k d)
 
-puts-listed : (rs : List (List ℕ × Data)) (found : Members) → puts (listed rs) found ≡ with_members rs found
+pub puts-listed : (rs : List (List ℕ × Data)) (found : Members)
+    → puts (listed rs) found ≡ with_members rs found
 unfolding with_member
 puts-listed [] found = refl
 puts-listed (row ∷ rs) found = puts-listed rs (put row.0 row.1 found)

@@ -1,5 +1,5 @@
 -- A line of a file. Read first what a line stands for: `RecordLines` and `StepLines`, over `Members`, and what the
--- line of a record is: `Texts`; then how it is read: `Objects`, and `LooseBodies`.
+-- line of a record is: `Texts`; then how it is read: `InFront`, `Objects`, and `LooseBodies`.
 pub mod CauseNames
 pub mod Limits
 pub mod MemberNames
@@ -11,4 +11,5 @@ pub mod LooseBodies
 pub mod StepLines
 pub mod Texts
 pub mod PlainData
+pub mod InFront
 pub mod Objects

@@ -1,5 +1,5 @@
 -- What each member of a line's object is called.
-use Rattle.std.specs.Prelude.{List, ℕ, codes}
+use Rattle.std.specs.Prelude.{List, [], ◌∷◌, ℕ, codes}
 use Rattle.lines.specs.declared.members.Member.{Member}
 use Rattle.lines.specs.declared.members.Member.TheVariants as variant
 
@@ -116,6 +116,14 @@ member_name variant.Thread = thread
 member_name variant.Type = type
 member_name variant.Var = var
 member_name variant.Version = version
+
+unfoldable pub all_members : List Member
+all_members =
+    variant.Actual ∷ variant.After ∷ variant.Callback ∷ variant.Child ∷ variant.Deps ∷ variant.Endpoint
+    ∷ variant.Flags ∷ variant.Format ∷ variant.Index ∷ variant.Kept ∷ variant.Kind ∷ variant.List
+    ∷ variant.Next ∷ variant.NextTurn ∷ variant.Parallel ∷ variant.Path ∷ variant.Prior
+    ∷ variant.PriorTurn ∷ variant.Requested ∷ variant.Root ∷ variant.Seen ∷ variant.Seq ∷ variant.Status
+    ∷ variant.Task ∷ variant.Thread ∷ variant.Type ∷ variant.Var ∷ variant.Version ∷ []
 
 -- the members in the order of their names, numbered from 0
 abbrev pub member_code : Member → ℕ

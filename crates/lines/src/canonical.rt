@@ -1,165 +1,230 @@
-//! Lines as they are written, read part by part, from the front of a text. Any other line is left to the
-//! general way.
-ghost use Rattle.std.specs.Prelude.{◌≡◌, IfSome};
-ghost use Rattle.lines.specs.Texts.{Takes, line_of, task_tail, status_tail};
+//! Lines as they are written, read part by part, from the front of a text. Members that the format does not
+//! know may stand between the parts. Any other line is left to the general way.
+ghost use Rattle.std.specs.Prelude.{◌≡◌, ◌∷◌, IfSome};
+ghost use Rattle.lines.specs.InFront.{AreMembersInFront, IsRecordInFront, IsRecordInside, status_tail_members, task_tail_members};
 
+use crate::others::{after_both, after_others, past_first_others};
 use crate::parts::{
-    byte, cancel_flags, deps, end, endpoint, id, id_or_null, path, short, status, sync_kind,
+    after, byte, cancel_flags, deps, endpoint, id_or_null, number, path, short, status, sync_kind,
     task_flags, thread_kind, truth,
 };
 use crate::tables::line_parts;
 use ompt_events::{Body, BoxedClaim, Claim, ClaimPath, Record, Status, Turns};
 use std::alloc::Global;
 
-// A part of a line, by the kind of its value.
+// A value, by its kind.
+macro_rules! take_value {
+    (byte $alloc:ident $rest:ident) => { byte($rest) };
+    (short $alloc:ident $rest:ident) => { short($rest) };
+    (id $alloc:ident $rest:ident) => { number($rest) };
+    (id_or_null $alloc:ident $rest:ident) => { id_or_null($rest) };
+    (truth $alloc:ident $rest:ident) => { truth($rest) };
+    (status $alloc:ident $rest:ident) => { status($rest) };
+    (endpoint $alloc:ident $rest:ident) => { endpoint($rest) };
+    (sync_kind $alloc:ident $rest:ident) => { sync_kind($rest) };
+    (thread_kind $alloc:ident $rest:ident) => { thread_kind($rest) };
+    (task_flags $alloc:ident $rest:ident) => { task_flags($rest) };
+    (cancel_flags $alloc:ident $rest:ident) => { cancel_flags($rest) };
+    (path $alloc:ident $rest:ident) => { path($alloc, $rest) };
+    (deps $alloc:ident $rest:ident) => { deps($alloc, $rest) };
+}
+
+// A part of a line, behind members that are not known: a whole member where there is one, a text, and a value.
 macro_rules! take_part {
-    (byte $alloc:ident $rest:ident $text:literal) => { byte($rest, $text) };
-    (short $alloc:ident $rest:ident $text:literal) => { short($rest, $text) };
-    (id $alloc:ident $rest:ident $text:literal) => { id($rest, $text) };
-    (id_or_null $alloc:ident $rest:ident $text:literal) => { id_or_null($rest, $text) };
-    (truth $alloc:ident $rest:ident $text:literal) => { truth($rest, $text) };
-    (status $alloc:ident $rest:ident $text:literal) => { status($rest, $text) };
-    (endpoint $alloc:ident $rest:ident $text:literal) => { endpoint($rest, $text) };
-    (sync_kind $alloc:ident $rest:ident $text:literal) => { sync_kind($rest, $text) };
-    (thread_kind $alloc:ident $rest:ident $text:literal) => { thread_kind($rest, $text) };
-    (task_flags $alloc:ident $rest:ident $text:literal) => { task_flags($rest, $text) };
-    (cancel_flags $alloc:ident $rest:ident $text:literal) => { cancel_flags($rest, $text) };
-    (path $alloc:ident $rest:ident $text:literal) => { path($alloc, $rest, $text) };
-    (deps $alloc:ident $rest:ident $text:literal) => { deps($alloc, $rest, $text) };
+    ($alloc:ident $rest:ident $text:literal $kind:ident $value:ident) => {
+        let Some($rest) = after_others($rest, $text) else { return None; };
+        let Some(($value, $rest)) = take_value!($kind $alloc $rest) else { return None; };
+    };
+    ($alloc:ident $rest:ident $whole:literal $text:literal $kind:ident $value:ident) => {
+        let Some($rest) = after_others($rest, $whole) else { return None; };
+        take_part!($alloc $rest $text $kind $value);
+    };
+}
+
+// The first part of a line.
+macro_rules! take_first {
+    ($alloc:ident $rest:ident $text:literal $kind:ident $value:ident) => {
+        let Some($rest) = after($rest, $text) else { return None; };
+        let Some(($value, $rest)) = take_value!($kind $alloc $rest) else { return None; };
+    };
+    ($alloc:ident $rest:ident $whole:literal $text:literal $kind:ident $value:ident) => {
+        let Some($rest) = after_both($rest, concat!($whole, $text), $whole, $text) else {
+            return None;
+        };
+        let Some(($value, $rest)) = take_value!($kind $alloc $rest) else { return None; };
+    };
 }
 
 // What follows the parts of a line.
 macro_rules! take_rest {
-    (end $rest:ident) => { let Some($rest) = end($rest) else { return None; }; };
+    (end $rest:ident) => { let Some($rest) = after_others($rest, "}") else { return None; }; };
     ($tail:ident $rest:ident $first:ident $second:ident $third:ident $fourth:ident) => {
         let Some((($first, $second, $third, $fourth), $rest)) = $tail($rest) else { return None; };
     };
 }
 
 // The parts of a line, what follows them, and then what they make.
-macro_rules! take_parts {
-    (($alloc:ident $rest:ident $made:tt) $($text:literal $kind:ident $value:ident),*; $tail:ident $($last:ident)*) => {{
-        $(let Some(($value, $rest)) = take_part!($kind $alloc $rest $text) else {
-            return None;
-        };)*
+macro_rules! take_line {
+    (
+        ($alloc:ident $rest:ident $made:tt)
+        $($first:literal)+ $first_kind:ident $first_value:ident
+        $(, $($text:literal)+ $kind:ident $value:ident)*; $tail:ident $($last:ident)*
+    ) => {{
+        take_first!($alloc $rest $($first)+ $first_kind $first_value);
+        $(take_part!($alloc $rest $($text)+ $kind $value);)*
+        take_rest!($tail $rest $($last)*);
+        Some(($made, $rest))
+    }};
+}
+
+// The same of the last members of a line.
+macro_rules! take_tail {
+    (
+        ($alloc:ident $rest:ident $made:tt)
+        $($text:literal $kind:ident $value:ident),*; $tail:ident $($last:ident)*
+    ) => {{
+        $(take_part!($alloc $rest $text $kind $value);)*
         take_rest!($tail $rest $($last)*);
         Some(($made, $rest))
     }};
 }
 
 /// Returns the record of a line in written form that a text begins with, and what follows the line; none
-/// where the text begins with no such line, or out of memory. Looks for turns in version 2 alone.
+/// where the text begins with no such line, or out of memory. Looks for turns in version 2 alone. Such a line
+/// has no spaces, and its members stand in the order of their names. Those that the format does not know
+/// change nothing, but none stands first.
+#[inline(always)]
 pub(crate) fn canonical(alloc: Global, version: u32, line: &[u8]) -> Option<(Record, &[u8])>
-    ensures { IfSome result (λ taken. Takes line.now (line_of taken.0) taken.1.now) }
+    ensures { IfSome result (λ taken. IsRecordInFront line.now taken.0 taken.1.now) }
 {
-    match line.get(7) {
-        Some(b'p') => parallel(line),
-        Some(b's') => sync_region(line),
-        Some(b'd') => dependences(alloc, line),
-        Some(b'c') => cancel(alloc, line),
-        Some(b't') => task_or_thread(alloc, version, line),
-        _ => implicit_task(line),
+    let inside = after(line, "{")?;
+    let (event, behind) = members(alloc, version, inside)?;
+    Some((event, behind))
+}
+
+/// Returns the same of a line whose first members the format does not know.
+pub(crate) fn behind_others(alloc: Global, version: u32, line: &[u8]) -> Option<(Record, &[u8])>
+    ensures { IfSome result (λ taken. IsRecordInFront line.now taken.0 taken.1.now) }
+{
+    let first = after(line, "{")?;
+    let inside = past_first_others(first)?;
+    let (event, behind) = members(alloc, version, inside)?;
+    Some((event, behind))
+}
+
+/// Reads the members of a line, and its end.
+#[inline(always)]
+fn members(alloc: Global, version: u32, inside: &[u8]) -> Option<(Record, &[u8])>
+    ensures { IfSome result (λ taken. IsRecordInside inside.now taken.0 taken.1.now) }
+{
+    match inside.get(6) {
+        Some(b'p') => parallel(inside),
+        Some(b's') => sync_region(inside),
+        Some(b'd') => dependences(alloc, inside),
+        Some(b'c') => cancel(alloc, inside),
+        Some(b't') => task_or_thread(alloc, version, inside),
+        _ => implicit_task(inside),
     }
 }
 
 /// Reads the line of a parallel region.
-fn parallel(line: &[u8]) -> Option<(Record, &[u8])>
-    ensures { IfSome result (λ taken. Takes line.now (line_of taken.0) taken.1.now) }
+fn parallel(inside: &[u8]) -> Option<(Record, &[u8])>
+    ensures { IfSome result (λ taken. IsRecordInside inside.now taken.0 taken.1.now) }
 {
-    match line.get(16) {
-        Some(b'b') => parallel_begin(line),
-        _ => parallel_end(line),
+    match inside.get(15) {
+        Some(b'b') => parallel_begin(inside),
+        _ => parallel_end(inside),
     }
 }
 
 /// Reads a `cancel`.
-fn cancel(alloc: Global, line: &[u8]) -> Option<(Record, &[u8])>
-    ensures { IfSome result (λ taken. Takes line.now (line_of taken.0) taken.1.now) }
+fn cancel(alloc: Global, inside: &[u8]) -> Option<(Record, &[u8])>
+    ensures { IfSome result (λ taken. IsRecordInside inside.now taken.0 taken.1.now) }
 {
-    match discarding(alloc, line) {
+    match discarding(alloc, inside) {
         Some(taken) => Some(taken),
-        None => cancelling(line),
+        None => cancelling(inside),
     }
 }
 
 /// Reads the line of a task that is created or scheduled, or of a thread.
-fn task_or_thread(alloc: Global, version: u32, line: &[u8]) -> Option<(Record, &[u8])>
-    ensures { IfSome result (λ taken. Takes line.now (line_of taken.0) taken.1.now) }
+fn task_or_thread(alloc: Global, version: u32, inside: &[u8]) -> Option<(Record, &[u8])>
+    ensures { IfSome result (λ taken. IsRecordInside inside.now taken.0 taken.1.now) }
 {
-    match line.get(12) {
-        Some(b'c') => task_create(line),
-        Some(b's') => task_schedule(alloc, version, line),
-        _ => thread(line),
+    match inside.get(11) {
+        Some(b'c') => task_create(inside),
+        Some(b's') => task_schedule(alloc, version, inside),
+        _ => thread(inside),
     }
 }
 
 /// Reads a `task_schedule`.
-fn task_schedule(alloc: Global, version: u32, line: &[u8]) -> Option<(Record, &[u8])>
-    ensures { IfSome result (λ taken. Takes line.now (line_of taken.0) taken.1.now) }
+fn task_schedule(alloc: Global, version: u32, inside: &[u8]) -> Option<(Record, &[u8])>
+    ensures { IfSome result (λ taken. IsRecordInside inside.now taken.0 taken.1.now) }
 {
-    match in_turn(alloc, version, line) {
+    match in_turn(alloc, version, inside) {
         Some(taken) => Some(taken),
-        None => without_turns(alloc, line),
+        None => without_turns(alloc, inside),
     }
 }
 
 /// Reads the same with turns: in version 2 alone.
-fn in_turn(alloc: Global, version: u32, line: &[u8]) -> Option<(Record, &[u8])>
-    ensures { IfSome result (λ taken. Takes line.now (line_of taken.0) taken.1.now) }
+fn in_turn(alloc: Global, version: u32, inside: &[u8]) -> Option<(Record, &[u8])>
+    ensures { IfSome result (λ taken. IsRecordInside inside.now taken.0 taken.1.now) }
 {
     if version != 2 {
         return None;
     }
-    match line.get(23) {
-        Some(b'k') => finishing_in_turn(alloc, line),
-        _ => switching_in_turn(line),
+    match inside.get(22) {
+        Some(b'k') => finishing_in_turn(alloc, inside),
+        _ => switching_in_turn(inside),
     }
 }
 
 /// Reads the same without turns.
-fn without_turns(alloc: Global, line: &[u8]) -> Option<(Record, &[u8])>
-    ensures { IfSome result (λ taken. Takes line.now (line_of taken.0) taken.1.now) }
+fn without_turns(alloc: Global, inside: &[u8]) -> Option<(Record, &[u8])>
+    ensures { IfSome result (λ taken. IsRecordInside inside.now taken.0 taken.1.now) }
 {
-    match line.get(23) {
-        Some(b'k') => finishing(alloc, line),
-        _ => switching(line),
+    match inside.get(22) {
+        Some(b'k') => finishing(alloc, inside),
+        _ => switching(inside),
     }
 }
 
 /// Reads the line of a thread.
-fn thread(line: &[u8]) -> Option<(Record, &[u8])>
-    ensures { IfSome result (λ taken. Takes line.now (line_of taken.0) taken.1.now) }
+fn thread(inside: &[u8]) -> Option<(Record, &[u8])>
+    ensures { IfSome result (λ taken. IsRecordInside inside.now taken.0 taken.1.now) }
 {
-    match line.get(14) {
-        Some(b'b') => thread_begin(line),
-        _ => thread_end(line),
+    match inside.get(13) {
+        Some(b'b') => thread_begin(inside),
+        _ => thread_end(inside),
     }
 }
 
 /// Reads `thread_begin`.
-fn thread_begin(line: &[u8]) -> Option<(Record, &[u8])>
-    ensures { IfSome result (λ taken. Takes line.now (line_of taken.0) taken.1.now) }
+fn thread_begin(inside: &[u8]) -> Option<(Record, &[u8])>
+    ensures { IfSome result (λ taken. IsRecordInside inside.now taken.0 taken.1.now) }
 {
-    line_parts!(thread_begin take_parts
-        (_alloc line (Record { thread, seq, seen, body: Body::ThreadBegin { kind } }))
+    line_parts!(thread_begin take_line
+        (_alloc inside (Record { thread, seq, seen, body: Body::ThreadBegin { kind } }))
         kind seen seq thread)
 }
 
 /// Reads `thread_end`.
-fn thread_end(line: &[u8]) -> Option<(Record, &[u8])>
-    ensures { IfSome result (λ taken. Takes line.now (line_of taken.0) taken.1.now) }
+fn thread_end(inside: &[u8]) -> Option<(Record, &[u8])>
+    ensures { IfSome result (λ taken. IsRecordInside inside.now taken.0 taken.1.now) }
 {
-    line_parts!(thread_end take_parts
-        (_alloc line (Record { thread, seq, seen, body: Body::ThreadEnd }))
+    line_parts!(thread_end take_line
+        (_alloc inside (Record { thread, seq, seen, body: Body::ThreadEnd }))
         seen seq thread)
 }
 
 /// Reads `parallel_begin`.
-fn parallel_begin(line: &[u8]) -> Option<(Record, &[u8])>
-    ensures { IfSome result (λ taken. Takes line.now (line_of taken.0) taken.1.now) }
+fn parallel_begin(inside: &[u8]) -> Option<(Record, &[u8])>
+    ensures { IfSome result (λ taken. IsRecordInside inside.now taken.0 taken.1.now) }
 {
-    line_parts!(parallel_begin take_parts
-        (_alloc line (Record {
+    line_parts!(parallel_begin take_line
+        (_alloc inside (Record {
             thread, seq, seen,
             body: Body::ParallelBegin { requested, task, parallel },
         }))
@@ -167,20 +232,20 @@ fn parallel_begin(line: &[u8]) -> Option<(Record, &[u8])>
 }
 
 /// Reads `parallel_end`.
-fn parallel_end(line: &[u8]) -> Option<(Record, &[u8])>
-    ensures { IfSome result (λ taken. Takes line.now (line_of taken.0) taken.1.now) }
+fn parallel_end(inside: &[u8]) -> Option<(Record, &[u8])>
+    ensures { IfSome result (λ taken. IsRecordInside inside.now taken.0 taken.1.now) }
 {
-    line_parts!(parallel_end take_parts
-        (_alloc line (Record { thread, seq, seen, body: Body::ParallelEnd { task, parallel } }))
+    line_parts!(parallel_end take_line
+        (_alloc inside (Record { thread, seq, seen, body: Body::ParallelEnd { task, parallel } }))
         parallel seen seq task thread)
 }
 
 /// Reads `implicit_task`.
-fn implicit_task(line: &[u8]) -> Option<(Record, &[u8])>
-    ensures { IfSome result (λ taken. Takes line.now (line_of taken.0) taken.1.now) }
+fn implicit_task(inside: &[u8]) -> Option<(Record, &[u8])>
+    ensures { IfSome result (λ taken. IsRecordInside inside.now taken.0 taken.1.now) }
 {
-    line_parts!(implicit_task take_parts
-        (_alloc line (Record {
+    line_parts!(implicit_task take_line
+        (_alloc inside (Record {
             thread, seq, seen,
             body: Body::ImplicitTask { endpoint, actual, index, flags, parallel, task },
         }))
@@ -188,29 +253,29 @@ fn implicit_task(line: &[u8]) -> Option<(Record, &[u8])>
 }
 
 /// Reads `task_create`.
-fn task_create(line: &[u8]) -> Option<(Record, &[u8])>
-    ensures { IfSome result (λ taken. Takes line.now (line_of taken.0) taken.1.now) }
+fn task_create(inside: &[u8]) -> Option<(Record, &[u8])>
+    ensures { IfSome result (λ taken. IsRecordInside inside.now taken.0 taken.1.now) }
 {
-    line_parts!(task_create take_parts
-        (_alloc line (Record { thread, seq, seen, body: Body::TaskCreate { deps, flags, task, child } }))
+    line_parts!(task_create take_line
+        (_alloc inside (Record { thread, seq, seen, body: Body::TaskCreate { deps, flags, task, child } }))
         child deps flags seen seq task thread)
 }
 
 /// Reads `dependences`.
-fn dependences(alloc: Global, line: &[u8]) -> Option<(Record, &[u8])>
-    ensures { IfSome result (λ taken. Takes line.now (line_of taken.0) taken.1.now) }
+fn dependences(alloc: Global, inside: &[u8]) -> Option<(Record, &[u8])>
+    ensures { IfSome result (λ taken. IsRecordInside inside.now taken.0 taken.1.now) }
 {
-    line_parts!(dependences take_parts
-        (alloc line (Record { thread, seq, seen, body: Body::Dependences { task, list } }))
+    line_parts!(dependences take_line
+        (alloc inside (Record { thread, seq, seen, body: Body::Dependences { task, list } }))
         list seen seq task thread)
 }
 
 /// Reads a `task_schedule` that finishes nothing.
-fn switching(line: &[u8]) -> Option<(Record, &[u8])>
-    ensures { IfSome result (λ taken. Takes line.now (line_of taken.0) taken.1.now) }
+fn switching(inside: &[u8]) -> Option<(Record, &[u8])>
+    ensures { IfSome result (λ taken. IsRecordInside inside.now taken.0 taken.1.now) }
 {
-    line_parts!(switching take_parts
-        (_alloc line (Record {
+    line_parts!(switching take_line
+        (_alloc inside (Record {
             thread, seq, seen,
             body: Body::TaskSchedule { status, turns: None, prior, next, claim: None },
         }))
@@ -218,11 +283,11 @@ fn switching(line: &[u8]) -> Option<(Record, &[u8])>
 }
 
 /// Reads a `task_schedule` that finishes a task, its body or its event.
-fn finishing(alloc: Global, line: &[u8]) -> Option<(Record, &[u8])>
-    ensures { IfSome result (λ taken. Takes line.now (line_of taken.0) taken.1.now) }
+fn finishing(alloc: Global, inside: &[u8]) -> Option<(Record, &[u8])>
+    ensures { IfSome result (λ taken. IsRecordInside inside.now taken.0 taken.1.now) }
 {
-    line_parts!(finishing take_parts
-        (alloc line {
+    line_parts!(finishing take_line
+        (alloc inside {
             let Some(claim) = claim_of(alloc, kept, root, path) else {
                 return None;
             };
@@ -235,11 +300,11 @@ fn finishing(alloc: Global, line: &[u8]) -> Option<(Record, &[u8])>
 }
 
 /// Reads a `task_schedule` that finishes nothing, with turns.
-fn switching_in_turn(line: &[u8]) -> Option<(Record, &[u8])>
-    ensures { IfSome result (λ taken. Takes line.now (line_of taken.0) taken.1.now) }
+fn switching_in_turn(inside: &[u8]) -> Option<(Record, &[u8])>
+    ensures { IfSome result (λ taken. IsRecordInside inside.now taken.0 taken.1.now) }
 {
-    line_parts!(switching_in_turn take_parts
-        (_alloc line (Record {
+    line_parts!(switching_in_turn take_line
+        (_alloc inside (Record {
             thread, seq, seen,
             body: Body::TaskSchedule {
                 status,
@@ -251,11 +316,11 @@ fn switching_in_turn(line: &[u8]) -> Option<(Record, &[u8])>
 }
 
 /// Reads a `task_schedule` that finishes a task, its body or its event, with turns.
-fn finishing_in_turn(alloc: Global, line: &[u8]) -> Option<(Record, &[u8])>
-    ensures { IfSome result (λ taken. Takes line.now (line_of taken.0) taken.1.now) }
+fn finishing_in_turn(alloc: Global, inside: &[u8]) -> Option<(Record, &[u8])>
+    ensures { IfSome result (λ taken. IsRecordInside inside.now taken.0 taken.1.now) }
 {
-    line_parts!(finishing_in_turn take_parts
-        (alloc line {
+    line_parts!(finishing_in_turn take_line
+        (alloc inside {
             let Some(claim) = claim_of(alloc, kept, root, path) else {
                 return None;
             };
@@ -272,11 +337,11 @@ fn finishing_in_turn(alloc: Global, line: &[u8]) -> Option<(Record, &[u8])>
 }
 
 /// Reads `sync_region`.
-fn sync_region(line: &[u8]) -> Option<(Record, &[u8])>
-    ensures { IfSome result (λ taken. Takes line.now (line_of taken.0) taken.1.now) }
+fn sync_region(inside: &[u8]) -> Option<(Record, &[u8])>
+    ensures { IfSome result (λ taken. IsRecordInside inside.now taken.0 taken.1.now) }
 {
-    line_parts!(sync_region take_parts
-        (_alloc line (Record {
+    line_parts!(sync_region take_line
+        (_alloc inside (Record {
             thread, seq, seen,
             body: Body::SyncRegion { kind, endpoint, parallel, task },
         }))
@@ -284,20 +349,20 @@ fn sync_region(line: &[u8]) -> Option<(Record, &[u8])>
 }
 
 /// Reads a `cancel` that discards no task.
-fn cancelling(line: &[u8]) -> Option<(Record, &[u8])>
-    ensures { IfSome result (λ taken. Takes line.now (line_of taken.0) taken.1.now) }
+fn cancelling(inside: &[u8]) -> Option<(Record, &[u8])>
+    ensures { IfSome result (λ taken. IsRecordInside inside.now taken.0 taken.1.now) }
 {
-    line_parts!(cancelling take_parts
-        (_alloc line (Record { thread, seq, seen, body: Body::Cancel { flags, task, claim: None } }))
+    line_parts!(cancelling take_line
+        (_alloc inside (Record { thread, seq, seen, body: Body::Cancel { flags, task, claim: None } }))
         flags seen seq task thread)
 }
 
 /// Reads a `cancel` that discards its task.
-fn discarding(alloc: Global, line: &[u8]) -> Option<(Record, &[u8])>
-    ensures { IfSome result (λ taken. Takes line.now (line_of taken.0) taken.1.now) }
+fn discarding(alloc: Global, inside: &[u8]) -> Option<(Record, &[u8])>
+    ensures { IfSome result (λ taken. IsRecordInside inside.now taken.0 taken.1.now) }
 {
-    line_parts!(discarding take_parts
-        (alloc line {
+    line_parts!(discarding take_line
+        (alloc inside {
             let Some(claim) = claim_of(alloc, kept, root, path) else {
                 return None;
             };
@@ -318,16 +383,16 @@ fn claim_of(alloc: Global, kept: u32, root: u64, path: ClaimPath) -> Option<Boxe
 
 /// Reads the last members of a line that names a task.
 fn task_tail(rest: &[u8]) -> Option<((u32, u32, u64, u8), &[u8])>
-    ensures { IfSome result (λ taken. Takes rest.now
-        (task_tail taken.0.0 taken.0.1 taken.0.2 taken.0.3) taken.1.now) }
+    ensures { IfSome result (λ taken. AreMembersInFront rest.now
+        (task_tail_members taken.0.0 taken.0.1 taken.0.2 taken.0.3) (125 ∷ taken.1.now)) }
 {
-    line_parts!(task_tail take_parts (_alloc rest (seen, seq, task, thread)) seen seq task thread)
+    line_parts!(task_tail take_tail (_alloc rest (seen, seq, task, thread)) seen seq task thread)
 }
 
 /// Reads the last members of a line that has a status.
 fn status_tail(rest: &[u8]) -> Option<((u32, u32, Status, u8), &[u8])>
-    ensures { IfSome result (λ taken. Takes rest.now
-        (status_tail taken.0.0 taken.0.1 taken.0.2 taken.0.3) taken.1.now) }
+    ensures { IfSome result (λ taken. AreMembersInFront rest.now
+        (status_tail_members taken.0.0 taken.0.1 taken.0.2 taken.0.3) (125 ∷ taken.1.now)) }
 {
-    line_parts!(status_tail take_parts (_alloc rest (seen, seq, status, thread)) seen seq status thread)
+    line_parts!(status_tail take_tail (_alloc rest (seen, seq, status, thread)) seen seq status thread)
 }

@@ -1,4 +1,4 @@
-//! The parts of a line as it is written: each is a text, and a value behind it.
+//! The values of a line as it is written.
 ghost use Rattle.std.specs.Prelude.{◌≡◌, ◌++◌, ◌+◌, ◌*◌, ◌^◌, ◌<◌, ◌≤◌, true, [], IfSome, codes, decimal, drop, length, map, slice_index, take};
 ghost use Rattle.std.specs.Int.{from_le_bytes, w32, w64};
 ghost use Rattle.std.specs.List.{AllByRecursion};
@@ -74,41 +74,17 @@ fn half(bytes: &[u8], at: usize) -> u32
     }
 }
 
-/// Takes the end of the line.
-#[inline(always)]
-pub(crate) fn end(rest: &[u8]) -> Option<&[u8]>
-    ensures { IfSome result (λ behind. Takes rest.now (codes "}") behind.now) }
-{
-    after(rest, "}")
-}
-
 /// Takes the end of a line that nothing follows.
 pub(crate) fn line_end(rest: &[u8]) -> Option<()>
     ensures { IfSome result (λ _. Takes rest.now (codes "}") []) }
 {
-    let behind = end(rest)?;
+    let behind = after(rest, "}")?;
     if behind.is_empty() { Some(()) } else { None }
-}
-
-/// Takes a whole number.
-#[inline(always)]
-pub(crate) fn id<'l>(rest: &'l [u8], text: &str) -> Option<(u64, &'l [u8])>
-    ensures { IfSome result (λ taken. Takes rest.now (text.now ++ decimal taken.0) taken.1.now) }
-{
-    number(after(rest, text)?)
 }
 
 /// Takes a whole number of 32 bits.
 #[inline(always)]
-pub(crate) fn short<'l>(rest: &'l [u8], text: &str) -> Option<(u32, &'l [u8])>
-    ensures { IfSome result (λ taken. Takes rest.now (text.now ++ decimal taken.0) taken.1.now) }
-{
-    short_number(after(rest, text)?)
-}
-
-/// Takes a whole number of 32 bits without a text before it.
-#[inline(always)]
-fn short_number(rest: &[u8]) -> Option<(u32, &[u8])>
+pub(crate) fn short(rest: &[u8]) -> Option<(u32, &[u8])>
     ensures { IfSome result (λ taken. Takes rest.now (decimal taken.0) taken.1.now) }
 {
     let (number, behind) = number(rest)?;
@@ -117,17 +93,17 @@ fn short_number(rest: &[u8]) -> Option<(u32, &[u8])>
 
 /// Takes a whole number of 8 bits.
 #[inline(always)]
-pub(crate) fn byte<'l>(rest: &'l [u8], text: &str) -> Option<(u8, &'l [u8])>
-    ensures { IfSome result (λ taken. Takes rest.now (text.now ++ decimal taken.0) taken.1.now) }
+pub(crate) fn byte(rest: &[u8]) -> Option<(u8, &[u8])>
+    ensures { IfSome result (λ taken. Takes rest.now (decimal taken.0) taken.1.now) }
 {
-    let (number, behind) = id(rest, text)?;
+    let (number, behind) = number(rest)?;
     Some((u8::try_from(number).ok()?, behind))
 }
 
 /// This many digits are always a number of 64 bits.
 const SAFE_DIGITS: usize = 19;
 
-/// Takes the digits in front as a number of 64 bits. It begins with 0 only if it is 0.
+/// Takes a whole number of 64 bits. It begins with 0 only if it is 0.
 #[inline(always)]
 pub(crate) fn number(rest: &[u8]) -> Option<(u64, &[u8])>
     ensures { IfSome result (λ taken. Takes rest.now (decimal taken.0) taken.1.now) }
@@ -231,11 +207,9 @@ fn digit(rest: &[u8], at: usize) -> Option<u64>
 
 /// Takes a whole number, or `null`.
 #[inline(always)]
-pub(crate) fn id_or_null<'l>(rest: &'l [u8], text: &str) -> Option<(Option<u64>, &'l [u8])>
-    ensures { IfSome result (λ taken. Takes rest.now (text.now ++ compact_text
-        (number_or_null taken.0)) taken.1.now) }
+pub(crate) fn id_or_null(rest: &[u8]) -> Option<(Option<u64>, &[u8])>
+    ensures { IfSome result (λ taken. Takes rest.now (compact_text (number_or_null taken.0)) taken.1.now) }
 {
-    let rest = after(rest, text)?;
     if let Some(behind) = after(rest, "null") {
         return Some((None, behind));
     }
@@ -245,11 +219,9 @@ pub(crate) fn id_or_null<'l>(rest: &'l [u8], text: &str) -> Option<(Option<u64>,
 
 /// Takes a truth value.
 #[inline(always)]
-pub(crate) fn truth<'l>(rest: &'l [u8], text: &str) -> Option<(bool, &'l [u8])>
-    ensures { IfSome result (λ taken. Takes rest.now (text.now ++ compact_text
-        (boolean taken.0)) taken.1.now) }
+pub(crate) fn truth(rest: &[u8]) -> Option<(bool, &[u8])>
+    ensures { IfSome result (λ taken. Takes rest.now (compact_text (boolean taken.0)) taken.1.now) }
 {
-    let rest = after(rest, text)?;
     if let Some(behind) = after(rest, "true") {
         return Some((true, behind));
     }
@@ -274,10 +246,9 @@ pub(crate) fn name<'l>(rest: &'l [u8], name: &str) -> Option<&'l [u8]>
 
 /// Takes how a task stops running.
 #[inline(always)]
-pub(crate) fn status<'l>(rest: &'l [u8], text: &str) -> Option<(Status, &'l [u8])>
-    ensures { IfSome result (λ taken. Takes rest.now (text.now ++ quoted (status_name taken.0)) taken.1.now) }
+pub(crate) fn status(rest: &[u8]) -> Option<(Status, &[u8])>
+    ensures { IfSome result (λ taken. Takes rest.now (quoted (status_name taken.0)) taken.1.now) }
 {
-    let rest = after(rest, text)?;
     match guess_status(rest) {
         Status::Complete => this_status(rest, Status::Complete),
         Status::Switch => this_status(rest, Status::Switch),
@@ -312,10 +283,9 @@ pub(crate) fn guess_status(rest: &[u8]) -> Status {
 
 /// Takes whether a region begins or ends.
 #[inline(always)]
-pub(crate) fn endpoint<'l>(rest: &'l [u8], text: &str) -> Option<(Endpoint, &'l [u8])>
-    ensures { IfSome result (λ taken. Takes rest.now (text.now ++ quoted (endpoint_name taken.0)) taken.1.now) }
+pub(crate) fn endpoint(rest: &[u8]) -> Option<(Endpoint, &[u8])>
+    ensures { IfSome result (λ taken. Takes rest.now (quoted (endpoint_name taken.0)) taken.1.now) }
 {
-    let rest = after(rest, text)?;
     match guess_endpoint(rest) {
         Endpoint::Begin => this_endpoint(rest, Endpoint::Begin),
         Endpoint::End => this_endpoint(rest, Endpoint::End),
@@ -345,10 +315,9 @@ pub(crate) fn guess_endpoint(rest: &[u8]) -> Endpoint {
 
 /// Takes which construct a region belongs to.
 #[inline(always)]
-pub(crate) fn sync_kind<'l>(rest: &'l [u8], text: &str) -> Option<(SyncKind, &'l [u8])>
-    ensures { IfSome result (λ taken. Takes rest.now (text.now ++ quoted (sync_kind_name taken.0)) taken.1.now) }
+pub(crate) fn sync_kind(rest: &[u8]) -> Option<(SyncKind, &[u8])>
+    ensures { IfSome result (λ taken. Takes rest.now (quoted (sync_kind_name taken.0)) taken.1.now) }
 {
-    let rest = after(rest, text)?;
     match guess_sync_kind(rest) {
         SyncKind::Taskwait => this_sync_kind(rest, SyncKind::Taskwait),
         sync_kind => this_sync_kind(rest, sync_kind),
@@ -398,10 +367,9 @@ fn guess_implicit_barrier(rest: &[u8]) -> SyncKind {
 
 /// Takes how a location is used.
 #[inline(always)]
-pub(crate) fn dep_kind<'l>(rest: &'l [u8], text: &str) -> Option<(DepKind, &'l [u8])>
-    ensures { IfSome result (λ taken. Takes rest.now (text.now ++ quoted (dep_kind_name taken.0)) taken.1.now) }
+pub(crate) fn dep_kind(rest: &[u8]) -> Option<(DepKind, &[u8])>
+    ensures { IfSome result (λ taken. Takes rest.now (quoted (dep_kind_name taken.0)) taken.1.now) }
 {
-    let rest = after(rest, text)?;
     let dep_kind = guess_dep_kind(rest);
     let behind = name(rest, dep_kind.name())?;
     Some((dep_kind, behind))
@@ -422,10 +390,9 @@ fn guess_dep_kind(rest: &[u8]) -> DepKind {
 
 /// Takes what a thread is there for.
 #[inline(always)]
-pub(crate) fn thread_kind<'l>(rest: &'l [u8], text: &str) -> Option<(ThreadKind, &'l [u8])>
-    ensures { IfSome result (λ taken. Takes rest.now (text.now ++ quoted (thread_kind_name taken.0)) taken.1.now) }
+pub(crate) fn thread_kind(rest: &[u8]) -> Option<(ThreadKind, &[u8])>
+    ensures { IfSome result (λ taken. Takes rest.now (quoted (thread_kind_name taken.0)) taken.1.now) }
 {
-    let rest = after(rest, text)?;
     let thread_kind = guess_thread_kind(rest);
     let behind = name(rest, thread_kind.name())?;
     Some((thread_kind, behind))
@@ -442,16 +409,7 @@ fn guess_thread_kind(rest: &[u8]) -> ThreadKind {
 }
 
 /// Takes the names of a task's flags.
-#[inline(always)]
-pub(crate) fn task_flags<'l>(rest: &'l [u8], text: &str) -> Option<(TaskFlags, &'l [u8])>
-    ensures { IfSome result (λ taken. Takes rest.now
-        (text.now ++ compact_text (names (flag_names flag.task_flags taken.0.0))) taken.1.now) }
-{
-    task_flags_alone(after(rest, text)?)
-}
-
-/// Takes the same without a text before it.
-fn task_flags_alone(rest: &[u8]) -> Option<(TaskFlags, &[u8])>
+pub(crate) fn task_flags(rest: &[u8]) -> Option<(TaskFlags, &[u8])>
     ensures { IfSome result (λ taken. Takes rest.now
         (compact_text (names (flag_names flag.task_flags taken.0.0))) taken.1.now) }
 {
@@ -473,16 +431,7 @@ fn explicit_alone(rest: &[u8]) -> Option<&[u8]>
 }
 
 /// Takes the names of a cancellation's flags.
-#[inline(always)]
-pub(crate) fn cancel_flags<'l>(rest: &'l [u8], text: &str) -> Option<(CancelFlags, &'l [u8])>
-    ensures { IfSome result (λ taken. Takes rest.now
-        (text.now ++ compact_text (names (flag_names flag.cancel_flags taken.0.0))) taken.1.now) }
-{
-    cancel_flags_alone(after(rest, text)?)
-}
-
-/// Takes the same without a text before it.
-fn cancel_flags_alone(rest: &[u8]) -> Option<(CancelFlags, &[u8])>
+pub(crate) fn cancel_flags(rest: &[u8]) -> Option<(CancelFlags, &[u8])>
     ensures { IfSome result (λ taken. Takes rest.now
         (compact_text (names (flag_names flag.cancel_flags taken.0.0))) taken.1.now) }
 {
@@ -602,16 +551,7 @@ fn past_brace(list: &[u8]) -> Option<&[u8]> {
 }
 
 /// Takes the numbers of a path.
-#[inline(always)]
-pub(crate) fn path<'l>(alloc: Global, rest: &'l [u8], text: &str) -> Option<(ClaimPath, &'l [u8])>
-    ensures { IfSome result (λ taken. Takes rest.now
-        (text.now ++ compact_text (array (items_of (map whole_number taken.0)))) taken.1.now) }
-{
-    path_alone(alloc, after(rest, text)?)
-}
-
-/// Takes the same without a text before it.
-fn path_alone(alloc: Global, rest: &[u8]) -> Option<(ClaimPath, &[u8])>
+pub(crate) fn path(alloc: Global, rest: &[u8]) -> Option<(ClaimPath, &[u8])>
     ensures { IfSome result (λ taken. Takes rest.now
         (compact_text (array (items_of (map whole_number taken.0)))) taken.1.now) }
 {
@@ -637,20 +577,11 @@ fn path_alone(alloc: Global, rest: &[u8]) -> Option<(ClaimPath, &[u8])>
 fn next_number(rest: &[u8], later: bool) -> Option<(u32, &[u8])>
     ensures { IfSome result (λ taken. Takes rest.now (comma_if later ++ decimal taken.0) taken.1.now) }
 {
-    short_number(next_item(rest, later)?)
+    short(next_item(rest, later)?)
 }
 
 /// Takes what a task depends on.
-#[inline(always)]
-pub(crate) fn deps<'l>(alloc: Global, rest: &'l [u8], text: &str) -> Option<(Deps, &'l [u8])>
-    ensures { IfSome result (λ taken. Takes rest.now
-        (text.now ++ compact_text (array (items_of (map dep_data taken.0)))) taken.1.now) }
-{
-    deps_alone(alloc, after(rest, text)?)
-}
-
-/// Takes the same without a text before it.
-fn deps_alone(alloc: Global, rest: &[u8]) -> Option<(Deps, &[u8])>
+pub(crate) fn deps(alloc: Global, rest: &[u8]) -> Option<(Deps, &[u8])>
     ensures { IfSome result (λ taken. Takes rest.now
         (compact_text (array (items_of (map dep_data taken.0)))) taken.1.now) }
 {
@@ -683,7 +614,8 @@ fn next_dep(rest: &[u8], later: bool) -> Option<(Dep, &[u8])>
 // Takes a dependence.
 macro_rules! take_dep {
     (($rest:ident) $($text:literal $kind:ident $value:ident),*; end) => {{
-        $(let ($value, $rest) = take_value!($kind $rest $text)?;)*
+        $(let $rest = after($rest, $text)?;
+        let ($value, $rest) = take_value!($kind $rest)?;)*
         let behind = after($rest, "}")?;
         Some((Dep { $($value),* }, behind))
     }};
@@ -691,8 +623,8 @@ macro_rules! take_dep {
 
 // Takes a value of a dependence, by its kind.
 macro_rules! take_value {
-    (dep_kind $rest:ident $text:literal) => { dep_kind($rest, $text) };
-    (id $rest:ident $text:literal) => { id($rest, $text) };
+    (dep_kind $rest:ident) => { dep_kind($rest) };
+    (id $rest:ident) => { number($rest) };
 }
 
 /// Takes one dependence without a comma before it.

@@ -4,6 +4,7 @@ ghost use Rattle.std.specs.Result.{result_ok};
 ghost use Rattle.ompt_events.specs.declared.records.Body.{Body as SpecBody};
 ghost use Rattle.memchr.specs.Find.{IsFirstByte, is_byte};
 ghost use Rattle.lines.specs.Limits.{max_line};
+ghost use Rattle.lines.specs.InFront.{IsRecordInFront};
 ghost use Rattle.lines.specs.LooseBodies.{loose_body, read_loosely};
 ghost use Rattle.lines.specs.Objects.{IsReadable, object_data};
 ghost use Rattle.lines.specs.RecordLines as spec;
@@ -13,7 +14,7 @@ use crate::bodies::{
     Loose, both, claim_if, dependences, found, implicit_task, parallel_begin, parallel_end,
     sync_region, task_create, thread_begin, thread_end, turns_if,
 };
-use crate::canonical::canonical;
+use crate::canonical::{behind_others, canonical};
 use crate::cause::ReadCause;
 use crate::members::Member;
 use crate::objects::{Object, flags, id, next, status, text};
@@ -24,6 +25,9 @@ use bitflags::Flags;
 use json::Scratch;
 use ompt_events::{Body, CancelFlags, Record, Status};
 use std::alloc::Global;
+
+/// The most bytes of a line, its line feed not counted.
+pub const MAX_LINE: usize = 65_536;
 
 /// The format of trace files.
 pub const TRACES: &str = "task-credit-audit";
@@ -148,6 +152,30 @@ pub fn record(
 ) -> Result<Record, ReadCause>
     ensures { IsSaid result (spec.line_says version line.now) }
 {
+    match record_behind_others(alloc, version, line) {
+        Some(event) => Ok(event),
+        None => in_any_form(alloc, version, line, scratch),
+    }
+}
+
+/// Returns the record of a line in written form whose first members the format does not know.
+#[inline(always)]
+fn record_behind_others(alloc: Global, version: u32, line: &[u8]) -> Option<Record>
+    ensures { IfSome result (λ event. spec.line_says version line.now ≡ Ok event) }
+{
+    let (event, behind) = behind_others(alloc, version, line)?;
+    alone(version, line, event, behind)
+}
+
+/// Returns the record of a line, whatever form it has.
+fn in_any_form(
+    alloc: Global,
+    version: u32,
+    line: &[u8],
+    scratch: &mut Scratch,
+) -> Result<Record, ReadCause>
+    ensures { IsSaid result (spec.line_says version line.now) }
+{
     match written::take_members(alloc, line) {
         Some(members) => record_in(alloc, version, &Object::Written(members)),
         None => on_tape(alloc, version, line, scratch),
@@ -175,6 +203,15 @@ pub fn record_as_written(alloc: Global, version: u32, line: &[u8]) -> Option<Rec
     ensures { IfSome result (λ event. spec.line_says version line.now ≡ Ok event) }
 {
     let (event, behind) = canonical(alloc, version, line)?;
+    alone(version, line, event, behind)
+}
+
+/// Returns the record that a line has in front, if nothing follows it and it may be in a file of this version.
+#[inline(always)]
+fn alone(version: u32, line: &[u8], event: Record, behind: &[u8]) -> Option<Record>
+    requires { IsRecordInFront line.now event behind.now }
+    ensures { IfSome result (λ event. spec.line_says version line.now ≡ Ok event) }
+{
     event.read_numbers();
     if behind.is_empty() && event.body.is_sound_in(version) {
         Some(event)
@@ -195,8 +232,9 @@ pub fn record_in_front(alloc: Global, version: u32, text: &[u8]) -> Option<(Reco
 {
     let (event, behind) = canonical(alloc, version, text)?;
     event.read_numbers();
-    if begins_with_line_feed(behind) && event.body.is_sound_in(version) {
-        Some((event, text.len() - behind.len()))
+    let len = text.len() - behind.len();
+    if begins_with_line_feed(behind) && len <= MAX_LINE && event.body.is_sound_in(version) {
+        Some((event, len))
     } else {
         None
     }

@@ -107,14 +107,15 @@ macro_rules! members {
 }
 
 // The line of each record as it is written, part by part: a text that is the same for all, and then a
-// value. The members stand in the order of their names (`finishing` and `discarding` have a claim,
-// `switching_in_turn` and `finishing_in_turn` have turns). What follows the parts is the end of the line, or
-// a tail that several lines share. Reading and writing share it.
+// value; where a whole member is the same for all, its text stands before. A record's line begins with a
+// brace, which is not in its parts. The members stand in the order of their names (`finishing` and
+// `discarding` have a claim, `switching_in_turn` and `finishing_in_turn` have turns). What follows the parts
+// is the end of the line, or a tail that several lines share. Reading and writing share it.
 macro_rules! line_parts {
     (thread_begin $shape:ident $given:tt $kind:tt $seen:tt $seq:tt $thread:tt) => {
         $shape! {
             $given
-            "{\"cb\":\"thread_begin\",\"kind\":" thread_kind $kind,
+            "\"cb\":\"thread_begin\"" ",\"kind\":" thread_kind $kind,
             ",\"seen\":" short $seen,
             ",\"seq\":" short $seq,
             ",\"thread\":" byte $thread;
@@ -124,7 +125,7 @@ macro_rules! line_parts {
     (thread_end $shape:ident $given:tt $seen:tt $seq:tt $thread:tt) => {
         $shape! {
             $given
-            "{\"cb\":\"thread_end\",\"seen\":" short $seen,
+            "\"cb\":\"thread_end\"" ",\"seen\":" short $seen,
             ",\"seq\":" short $seq,
             ",\"thread\":" byte $thread;
             end
@@ -135,7 +136,7 @@ macro_rules! line_parts {
     ) => {
         $shape! {
             $given
-            "{\"cb\":\"parallel_begin\",\"parallel\":" id $parallel,
+            "\"cb\":\"parallel_begin\"" ",\"parallel\":" id $parallel,
             ",\"requested\":" short $requested;
             task_tail $seen $seq $task $thread
         }
@@ -143,7 +144,7 @@ macro_rules! line_parts {
     (parallel_end $shape:ident $given:tt $parallel:tt $seen:tt $seq:tt $task:tt $thread:tt) => {
         $shape! {
             $given
-            "{\"cb\":\"parallel_end\",\"parallel\":" id $parallel;
+            "\"cb\":\"parallel_end\"" ",\"parallel\":" id $parallel;
             task_tail $seen $seq $task $thread
         }
     };
@@ -152,8 +153,8 @@ macro_rules! line_parts {
     ) => {
         $shape! {
             $given
-            "{\"actual\":" short $actual,
-            ",\"cb\":\"implicit_task\",\"endpoint\":" endpoint $endpoint,
+            "\"actual\":" short $actual,
+            ",\"cb\":\"implicit_task\"" ",\"endpoint\":" endpoint $endpoint,
             ",\"flags\":" task_flags $flags,
             ",\"index\":" short $index,
             ",\"parallel\":" id $parallel;
@@ -165,7 +166,7 @@ macro_rules! line_parts {
     ) => {
         $shape! {
             $given
-            "{\"cb\":\"task_create\",\"child\":" id $child,
+            "\"cb\":\"task_create\"" ",\"child\":" id $child,
             ",\"deps\":" truth $deps,
             ",\"flags\":" task_flags $flags;
             task_tail $seen $seq $task $thread
@@ -174,14 +175,14 @@ macro_rules! line_parts {
     (dependences $shape:ident $given:tt $list:tt $seen:tt $seq:tt $task:tt $thread:tt) => {
         $shape! {
             $given
-            "{\"cb\":\"dependences\",\"list\":" deps $list;
+            "\"cb\":\"dependences\"" ",\"list\":" deps $list;
             task_tail $seen $seq $task $thread
         }
     };
     (switching $shape:ident $given:tt $next:tt $prior:tt $seen:tt $seq:tt $status:tt $thread:tt) => {
         $shape! {
             $given
-            "{\"cb\":\"task_schedule\",\"next\":" id_or_null $next,
+            "\"cb\":\"task_schedule\"" ",\"next\":" id_or_null $next,
             ",\"prior\":" id $prior;
             status_tail $seen $seq $status $thread
         }
@@ -191,7 +192,7 @@ macro_rules! line_parts {
     ) => {
         $shape! {
             $given
-            "{\"cb\":\"task_schedule\",\"kept\":" short $kept,
+            "\"cb\":\"task_schedule\"" ",\"kept\":" short $kept,
             ",\"next\":" id_or_null $next,
             ",\"path\":" path $path,
             ",\"prior\":" id $prior,
@@ -204,7 +205,7 @@ macro_rules! line_parts {
     ) => {
         $shape! {
             $given
-            "{\"cb\":\"task_schedule\",\"next\":" id_or_null $next,
+            "\"cb\":\"task_schedule\"" ",\"next\":" id_or_null $next,
             ",\"next_turn\":" short $next_turn,
             ",\"prior\":" id $prior,
             ",\"prior_turn\":" short $prior_turn;
@@ -217,7 +218,7 @@ macro_rules! line_parts {
     ) => {
         $shape! {
             $given
-            "{\"cb\":\"task_schedule\",\"kept\":" short $kept,
+            "\"cb\":\"task_schedule\"" ",\"kept\":" short $kept,
             ",\"next\":" id_or_null $next,
             ",\"next_turn\":" short $next_turn,
             ",\"path\":" path $path,
@@ -232,7 +233,7 @@ macro_rules! line_parts {
     ) => {
         $shape! {
             $given
-            "{\"cb\":\"sync_region\",\"endpoint\":" endpoint $endpoint,
+            "\"cb\":\"sync_region\"" ",\"endpoint\":" endpoint $endpoint,
             ",\"kind\":" sync_kind $kind,
             ",\"parallel\":" id_or_null $parallel;
             task_tail $seen $seq $task $thread
@@ -241,7 +242,7 @@ macro_rules! line_parts {
     (cancelling $shape:ident $given:tt $flags:tt $seen:tt $seq:tt $task:tt $thread:tt) => {
         $shape! {
             $given
-            "{\"cb\":\"cancel\",\"flags\":" cancel_flags $flags;
+            "\"cb\":\"cancel\"" ",\"flags\":" cancel_flags $flags;
             task_tail $seen $seq $task $thread
         }
     };
@@ -250,7 +251,7 @@ macro_rules! line_parts {
     ) => {
         $shape! {
             $given
-            "{\"cb\":\"cancel\",\"flags\":" cancel_flags $flags,
+            "\"cb\":\"cancel\"" ",\"flags\":" cancel_flags $flags,
             ",\"kept\":" short $kept,
             ",\"path\":" path $path,
             ",\"root\":" id $root;
@@ -280,7 +281,7 @@ macro_rules! line_parts {
     (header $shape:ident $given:tt $version:tt) => {
         $shape! {
             $given
-            "{\"format\":\"task-credit-audit\",\"version\":" short $version;
+            "{\"format\":\"task-credit-audit\"" ",\"version\":" short $version;
             end
         }
     };

@@ -26,22 +26,22 @@ struct Head {
     seen: u32,
 }
 
-// A part of a line, by the kind of its value.
-macro_rules! put_part {
-    (byte $out:ident $text:literal $value:tt) => { put_byte($out, $text, $value) };
-    (short $out:ident $text:literal $value:tt) => { put_short($out, $text, $value) };
-    (id $out:ident $text:literal $value:tt) => { put_id($out, $text, $value) };
-    (id_or_null $out:ident $text:literal $value:tt) => { put_id_or_null($out, $text, $value) };
-    (truth $out:ident $text:literal $value:tt) => { put_truth($out, $text, $value) };
-    (status $out:ident $text:literal $value:tt) => { put_status($out, $text, $value) };
-    (endpoint $out:ident $text:literal $value:tt) => { put_endpoint($out, $text, $value) };
-    (sync_kind $out:ident $text:literal $value:tt) => { put_sync_kind($out, $text, $value) };
-    (dep_kind $out:ident $text:literal $value:tt) => { put_dep_kind($out, $text, $value) };
-    (thread_kind $out:ident $text:literal $value:tt) => { put_thread_kind($out, $text, $value) };
-    (task_flags $out:ident $text:literal $value:tt) => { put_task_flags($out, $text, $value) };
-    (cancel_flags $out:ident $text:literal $value:tt) => { put_cancel_flags($out, $text, $value) };
-    (path $out:ident $text:literal $value:tt) => { put_path($out, $text, $value) };
-    (deps $out:ident $text:literal $value:tt) => { put_deps($out, $text, $value) };
+// A value and the text before it, by its kind.
+macro_rules! put_value {
+    (byte $out:ident $text:expr, $value:tt) => { put_byte($out, $text, $value) };
+    (short $out:ident $text:expr, $value:tt) => { put_short($out, $text, $value) };
+    (id $out:ident $text:expr, $value:tt) => { put_id($out, $text, $value) };
+    (id_or_null $out:ident $text:expr, $value:tt) => { put_id_or_null($out, $text, $value) };
+    (truth $out:ident $text:expr, $value:tt) => { put_truth($out, $text, $value) };
+    (status $out:ident $text:expr, $value:tt) => { put_status($out, $text, $value) };
+    (endpoint $out:ident $text:expr, $value:tt) => { put_endpoint($out, $text, $value) };
+    (sync_kind $out:ident $text:expr, $value:tt) => { put_sync_kind($out, $text, $value) };
+    (dep_kind $out:ident $text:expr, $value:tt) => { put_dep_kind($out, $text, $value) };
+    (thread_kind $out:ident $text:expr, $value:tt) => { put_thread_kind($out, $text, $value) };
+    (task_flags $out:ident $text:expr, $value:tt) => { put_task_flags($out, $text, $value) };
+    (cancel_flags $out:ident $text:expr, $value:tt) => { put_cancel_flags($out, $text, $value) };
+    (path $out:ident $text:expr, $value:tt) => { put_path($out, $text, $value) };
+    (deps $out:ident $text:expr, $value:tt) => { put_deps($out, $text, $value) };
 }
 
 // What follows the parts of a line.
@@ -55,13 +55,27 @@ macro_rules! put_rest {
     };
 }
 
-// The parts of a line, and what follows them.
+// The parts, and what follows them. The texts of a part are put as one.
 macro_rules! put_parts {
-    (($out:ident) $($text:literal $kind:ident $value:tt),*; $rest:ident $($last:tt)*) => {{
-        $(let Ok(()) = put_part!($kind $out $text $value) else {
+    (($out:ident) $($($text:literal)+ $kind:ident $value:tt),*; $rest:ident $($last:tt)*) => {{
+        $(let Ok(()) = put_value!($kind $out concat!($($text),+), $value) else {
             return Err(AllocError);
         };)*
         put_rest!($rest $out $($last)*)
+    }};
+}
+
+// The parts of a record's line, and what follows them. The brace is put with the first.
+macro_rules! put_line {
+    (
+        ($out:ident)
+        $($first:literal)+ $first_kind:ident $first_value:tt
+        $(, $($text:literal)+ $kind:ident $value:tt)*; $rest:ident $($last:tt)*
+    ) => {{
+        let Ok(()) = put_value!($first_kind $out concat!("{", $($first),+), $first_value) else {
+            return Err(AllocError);
+        };
+        put_parts!(($out) $($($text)+ $kind $value),*; $rest $($last)*)
     }};
 }
 
@@ -143,14 +157,14 @@ fn put_thread_begin(out: &mut Vec<u8>, head: Head, kind: ThreadKind) -> Result<(
     ensures { OnOk result (Puts out.old.items out.new.items (line_of (record_of head
         (Body.ThreadBegin kind)))) }
 {
-    line_parts!(thread_begin put_parts (out) kind (head.seen) (head.seq) (head.thread))
+    line_parts!(thread_begin put_line (out) kind (head.seen) (head.seq) (head.thread))
 }
 
 /// Appends `thread_end`.
 fn put_thread_end(out: &mut Vec<u8>, head: Head) -> Result<(), AllocError>
     ensures { OnOk result (Puts out.old.items out.new.items (line_of (record_of head Body.ThreadEnd))) }
 {
-    line_parts!(thread_end put_parts (out) (head.seen) (head.seq) (head.thread))
+    line_parts!(thread_end put_line (out) (head.seen) (head.seq) (head.thread))
 }
 
 /// Appends `parallel_begin`.
@@ -164,7 +178,7 @@ fn put_parallel_begin(
     ensures { OnOk result (Puts out.old.items out.new.items
         (line_of (record_of head (Body.ParallelBegin requested task parallel)))) }
 {
-    line_parts!(parallel_begin put_parts (out) parallel requested (head.seen) (head.seq) task (head.thread))
+    line_parts!(parallel_begin put_line (out) parallel requested (head.seen) (head.seq) task (head.thread))
 }
 
 /// Appends `parallel_end`.
@@ -177,7 +191,7 @@ fn put_parallel_end(
     ensures { OnOk result (Puts out.old.items out.new.items
         (line_of (record_of head (Body.ParallelEnd task parallel)))) }
 {
-    line_parts!(parallel_end put_parts (out) parallel (head.seen) (head.seq) task (head.thread))
+    line_parts!(parallel_end put_line (out) parallel (head.seen) (head.seq) task (head.thread))
 }
 
 /// Appends `implicit_task`.
@@ -194,7 +208,7 @@ fn put_implicit_task(
     ensures { OnOk result (Puts out.old.items out.new.items
         (line_of (record_of head (Body.ImplicitTask endpoint actual index flags parallel task)))) }
 {
-    line_parts!(implicit_task put_parts (out)
+    line_parts!(implicit_task put_line (out)
         actual endpoint flags index parallel (head.seen) (head.seq) task (head.thread))
 }
 
@@ -210,7 +224,7 @@ fn put_task_create(
     ensures { OnOk result (Puts out.old.items out.new.items
         (line_of (record_of head (Body.TaskCreate deps flags task child)))) }
 {
-    line_parts!(task_create put_parts (out) child deps flags (head.seen) (head.seq) task (head.thread))
+    line_parts!(task_create put_line (out) child deps flags (head.seen) (head.seq) task (head.thread))
 }
 
 /// Appends `dependences`.
@@ -218,7 +232,7 @@ fn put_dependences(out: &mut Vec<u8>, head: Head, task: u64, list: &Deps) -> Res
     ensures { OnOk result (Puts out.old.items out.new.items
         (line_of (record_of head (Body.Dependences task list.now)))) }
 {
-    line_parts!(dependences put_parts (out) list (head.seen) (head.seq) task (head.thread))
+    line_parts!(dependences put_line (out) list (head.seen) (head.seq) task (head.thread))
 }
 
 /// Appends a `task_schedule` that finishes nothing.
@@ -232,7 +246,7 @@ fn put_switching(
     ensures { OnOk result (Puts out.old.items out.new.items
         (line_of (record_of head (Body.TaskSchedule status None prior next None)))) }
 {
-    line_parts!(switching put_parts (out) next prior (head.seen) (head.seq) status (head.thread))
+    line_parts!(switching put_line (out) next prior (head.seen) (head.seq) status (head.thread))
 }
 
 /// Appends a `task_schedule` that finishes a task, its body or its event.
@@ -247,7 +261,7 @@ fn put_finishing(
     ensures { OnOk result (Puts out.old.items out.new.items
         (line_of (record_of head (Body.TaskSchedule status None prior next (Some claim.now))))) }
 {
-    line_parts!(finishing put_parts (out)
+    line_parts!(finishing put_line (out)
         (claim.kept) next (&claim.path) prior (claim.root) (head.seen) (head.seq) status (head.thread))
 }
 
@@ -263,7 +277,7 @@ fn put_switching_in_turn(
     ensures { OnOk result (Puts out.old.items out.new.items
         (line_of (record_of head (Body.TaskSchedule status (Some turns) prior next None)))) }
 {
-    line_parts!(switching_in_turn put_parts (out)
+    line_parts!(switching_in_turn put_line (out)
         next (turns.next) prior (turns.prior) (head.seen) (head.seq) status (head.thread))
 }
 
@@ -281,7 +295,7 @@ fn put_finishing_in_turn(
         (line_of (record_of head
         (Body.TaskSchedule status (Some turns) prior next (Some claim.now))))) }
 {
-    line_parts!(finishing_in_turn put_parts (out)
+    line_parts!(finishing_in_turn put_line (out)
         (claim.kept) next (turns.next) (&claim.path) prior (turns.prior) (claim.root)
         (head.seen) (head.seq) status (head.thread))
 }
@@ -298,7 +312,7 @@ fn put_sync_region(
     ensures { OnOk result (Puts out.old.items out.new.items
         (line_of (record_of head (Body.SyncRegion kind endpoint parallel task)))) }
 {
-    line_parts!(sync_region put_parts (out)
+    line_parts!(sync_region put_line (out)
         endpoint kind parallel (head.seen) (head.seq) task (head.thread))
 }
 
@@ -312,7 +326,7 @@ fn put_cancelling(
     ensures { OnOk result (Puts out.old.items out.new.items
         (line_of (record_of head (Body.Cancel flags task None)))) }
 {
-    line_parts!(cancelling put_parts (out) flags (head.seen) (head.seq) task (head.thread))
+    line_parts!(cancelling put_line (out) flags (head.seen) (head.seq) task (head.thread))
 }
 
 /// Appends a `cancel` that discards its task.
@@ -326,7 +340,7 @@ fn put_discarding(
     ensures { OnOk result (Puts out.old.items out.new.items
         (line_of (record_of head (Body.Cancel flags task (Some claim.now))))) }
 {
-    line_parts!(discarding put_parts (out)
+    line_parts!(discarding put_line (out)
         flags (claim.kept) (&claim.path) (claim.root) (head.seen) (head.seq) task (head.thread))
 }
 

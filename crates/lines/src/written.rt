@@ -314,7 +314,7 @@ fn take_listed(rest: &[u8], later: bool) -> Option<(Item<'_>, &[u8])>
 
 /// Takes an item from the front.
 #[inline(always)]
-fn take_item(rest: &[u8]) -> Option<(Item<'_>, &[u8])>
+pub(crate) fn take_item(rest: &[u8]) -> Option<(Item<'_>, &[u8])>
     ensures { IfSome result (λ taken. IsItemInFront rest.now taken.0 taken.1.now) }
 {
     match rest.first() {
@@ -367,7 +367,7 @@ fn take_dependence(rest: &[u8]) -> Option<(Item<'_>, &[u8])>
 
 /// Takes a text without escapes from the front.
 #[inline(always)]
-fn take_plain_text(rest: &[u8]) -> Option<(&str, &[u8])>
+pub(crate) fn take_plain_text(rest: &[u8]) -> Option<(&str, &[u8])>
     ensures plain { IfSome result (λ taken. is_plain_text taken.0.now ≡ true) }
     ensures takes { IfSome result (λ taken. Takes rest.now (quoted taken.0.now) taken.1.now) }
 {
@@ -382,7 +382,7 @@ fn take_plain_text(rest: &[u8]) -> Option<(&str, &[u8])>
 
 /// Returns how many bytes in front stand for themselves in a string of JSON.
 #[inline(always)]
-fn plain_len(rest: &[u8]) -> usize
+pub(crate) fn plain_len(rest: &[u8]) -> usize
     ensures within { result ≤ length rest.now }
     ensures plain { is_plain_text (take result rest.now) ≡ true }
 {

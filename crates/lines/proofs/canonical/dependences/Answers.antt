@@ -1,15 +1,18 @@
-use Rattle.lines.proofs.PartLemmas.{line-dependences}
-use Rattle.lines.proofs.TakeLemmas.{Takes-both, Takes-same}
+use Rattle.std.proofs.Common.{map, refl}
+use Rattle.json.specs.Print.{escape_byte}
+use Rattle.serde_json.specs.Data.{array, string}
+use Rattle.serde_json.specs.View.{items_of}
+use Rattle.lines.specs.declared.members.Member.TheVariants as variant
+use Rattle.lines.specs.CallbackNames as callback
+use Rattle.lines.specs.Texts.{dep_data, with_member}
+use Rattle.lines.proofs.InFrontLemmas.{line-from-two}
 use Rattle.lines.proofs.canonical.dependences.Goals as goal
 
 pub returns : goal.returns
+unfolding escape_byte with_member
 returns c =
-    Takes-same _ _ _ _
-    (line-dependences
-    (record {
-      thread = c.in-Some-task_tail.thread;
-      seq = c.in-Some-task_tail.seq;
-      seen = c.in-Some-task_tail.seen;
-    })
-    c.in-Some-task_tail.task c.in-Some.list)
-    (Takes-both _ _ _ _ _ c.in-Some.ensures c.in-Some-task_tail.ensures)
+    line-from-two variant.Callback variant.List (string callback.dependences) (array (items_of (map
+    dep_data c.in-Some-deps.list)))
+    _ _ _ _ _ _ c.in-Some.ensures c.in-Some-deps.ensures
+    c.in-Some-task_tail.ensures
+    refl

@@ -1,23 +1,27 @@
-use Rattle.lines.proofs.PartLemmas.{line-finishing}
-use Rattle.lines.proofs.TakeLemmas.{Takes-both, Takes-same}
+use Rattle.std.proofs.Common.{map, refl}
+use Rattle.json.specs.Print.{escape_byte}
+use Rattle.serde_json.specs.Data.{array, string}
+use Rattle.serde_json.specs.View.{items_of}
+use Rattle.lines.specs.declared.members.Member.TheVariants as variant
+use Rattle.lines.specs.CallbackNames as callback
+use Rattle.lines.specs.Texts.{number_or_null, whole_number, with_member}
+use Rattle.lines.proofs.InFrontLemmas.{line-from-two, then}
 use Rattle.lines.proofs.canonical.finishing.Goals as goal
 
 pub returns : goal.returns
+unfolding escape_byte with_member
 returns c =
-    rw c.in-Some-claim_of.ensures (Takes-same _ _ _ _
-    (line-finishing
-    (record {
-      thread = c.in-Some-status_tail.thread;
-      seq = c.in-Some-status_tail.seq;
-      seen = c.in-Some-status_tail.seen;
-    })
-    c.in-Some-status_tail.status c.in-Some-id.prior c.in-Some-id_or_null.next (record {
-      kept = c.in-Some.kept;
-      root = c.in-Some-id-2.root;
-      path = c.in-Some-path.path;
-    }))
-    (Takes-both _ _ _ _ _ c.in-Some.ensures
-    (Takes-both _ _ _ _ _ c.in-Some-id_or_null.ensures
-    (Takes-both _ _ _ _ _ c.in-Some-path.ensures
-    (Takes-both _ _ _ _ _ c.in-Some-id.ensures
-    (Takes-both _ _ _ _ _ c.in-Some-id-2.ensures c.in-Some-status_tail.ensures))))))
+    rw c.in-Some-claim_of.ensures
+    (line-from-two variant.Callback variant.Kept (string callback.task_schedule) (whole_number
+    c.in-Some-short.kept)
+    _ _ _ _ _ _ c.in-Some.ensures c.in-Some-short.ensures
+    (then variant.Next (number_or_null c.in-Some-id_or_null.next)
+    _ _ _ _ _ c.in-Some-after_others.ensures c.in-Some-id_or_null.ensures
+    (then variant.Path (array (items_of (map whole_number c.in-Some-path.path)))
+    _ _ _ _ _ c.in-Some-after_others-2.ensures c.in-Some-path.ensures
+    (then variant.Prior (whole_number c.in-Some-number.prior)
+    _ _ _ _ _ c.in-Some-after_others-3.ensures c.in-Some-number.ensures
+    (then variant.Root (whole_number c.in-Some-number-2.root)
+    _ _ _ _ _ c.in-Some-after_others-4.ensures c.in-Some-number-2.ensures
+    c.in-Some-status_tail.ensures))))
+    refl)

@@ -1,20 +1,27 @@
-use Rattle.lines.proofs.PartLemmas.{line-implicit_task}
-use Rattle.lines.proofs.TakeLemmas.{Takes-both, Takes-same}
+use Rattle.std.proofs.Common.{refl}
+use Rattle.json.specs.Print.{escape_byte}
+use Rattle.serde_json.specs.Data.{string}
+use Rattle.ompt_events.specs.Flags as flag
+use Rattle.ompt_events.specs.Names.{endpoint_name}
+use Rattle.lines.specs.declared.members.Member.TheVariants as variant
+use Rattle.lines.specs.CallbackNames as callback
+use Rattle.lines.specs.Texts.{flag_names, names, whole_number, with_member}
+use Rattle.lines.proofs.InFrontLemmas.{line-from-one, then, then-whole}
 use Rattle.lines.proofs.canonical.implicit_task.Goals as goal
 
 pub returns : goal.returns
+unfolding escape_byte with_member
 returns c =
-    Takes-same _ _ _ _
-    (line-implicit_task
-    (record {
-      thread = c.in-Some-task_tail.thread;
-      seq = c.in-Some-task_tail.seq;
-      seen = c.in-Some-task_tail.seen;
-    })
-    c.in-Some-endpoint.endpoint c.in-Some.actual c.in-Some-short.index c.in-Some-task_flags.flags
-    c.in-Some-id.parallel c.in-Some-task_tail.task)
-    (Takes-both _ _ _ _ _ c.in-Some.ensures
-    (Takes-both _ _ _ _ _ c.in-Some-endpoint.ensures
-    (Takes-both _ _ _ _ _ c.in-Some-task_flags.ensures
-    (Takes-both _ _ _ _ _ c.in-Some-short.ensures
-    (Takes-both _ _ _ _ _ c.in-Some-id.ensures c.in-Some-task_tail.ensures)))))
+    line-from-one variant.Actual (whole_number c.in-Some-short.actual)
+    _ _ _ _ _ _ c.in-Some.ensures c.in-Some-short.ensures
+    (then-whole variant.Callback (string callback.implicit_task) _ _ _ _ c.in-Some-after_others.ensures
+    (then variant.Endpoint (string (endpoint_name c.in-Some-endpoint.endpoint))
+    _ _ _ _ _ c.in-Some-after_others-2.ensures c.in-Some-endpoint.ensures
+    (then variant.Flags (names (flag_names flag.task_flags c.in-Some-task_flags.flags.0))
+    _ _ _ _ _ c.in-Some-after_others-3.ensures c.in-Some-task_flags.ensures
+    (then variant.Index (whole_number c.in-Some-short-2.index)
+    _ _ _ _ _ c.in-Some-after_others-4.ensures c.in-Some-short-2.ensures
+    (then variant.Parallel (whole_number c.in-Some-number.parallel)
+    _ _ _ _ _ c.in-Some-after_others-5.ensures c.in-Some-number.ensures
+    c.in-Some-task_tail.ensures)))))
+    refl

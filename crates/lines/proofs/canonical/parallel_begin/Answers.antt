@@ -1,16 +1,19 @@
-use Rattle.lines.proofs.PartLemmas.{line-parallel_begin}
-use Rattle.lines.proofs.TakeLemmas.{Takes-both, Takes-same}
+use Rattle.std.proofs.Common.{refl}
+use Rattle.json.specs.Print.{escape_byte}
+use Rattle.serde_json.specs.Data.{string}
+use Rattle.lines.specs.declared.members.Member.TheVariants as variant
+use Rattle.lines.specs.CallbackNames as callback
+use Rattle.lines.specs.Texts.{whole_number, with_member}
+use Rattle.lines.proofs.InFrontLemmas.{line-from-two, then}
 use Rattle.lines.proofs.canonical.parallel_begin.Goals as goal
 
 pub returns : goal.returns
+unfolding escape_byte with_member
 returns c =
-    Takes-same _ _ _ _
-    (line-parallel_begin
-    (record {
-      thread = c.in-Some-task_tail.thread;
-      seq = c.in-Some-task_tail.seq;
-      seen = c.in-Some-task_tail.seen;
-    })
-    c.in-Some-short.requested c.in-Some-task_tail.task c.in-Some.parallel)
-    (Takes-both _ _ _ _ _ c.in-Some.ensures
-    (Takes-both _ _ _ _ _ c.in-Some-short.ensures c.in-Some-task_tail.ensures))
+    line-from-two variant.Callback variant.Parallel (string callback.parallel_begin) (whole_number
+    c.in-Some-number.parallel)
+    _ _ _ _ _ _ c.in-Some.ensures c.in-Some-number.ensures
+    (then variant.Requested (whole_number c.in-Some-short.requested)
+    _ _ _ _ _ c.in-Some-after_others.ensures c.in-Some-short.ensures
+    c.in-Some-task_tail.ensures)
+    refl

@@ -1,15 +1,17 @@
-use Rattle.lines.proofs.PartLemmas.{line-parallel_end}
-use Rattle.lines.proofs.TakeLemmas.{Takes-both, Takes-same}
+use Rattle.std.proofs.Common.{refl}
+use Rattle.json.specs.Print.{escape_byte}
+use Rattle.serde_json.specs.Data.{string}
+use Rattle.lines.specs.declared.members.Member.TheVariants as variant
+use Rattle.lines.specs.CallbackNames as callback
+use Rattle.lines.specs.Texts.{whole_number, with_member}
+use Rattle.lines.proofs.InFrontLemmas.{line-from-two}
 use Rattle.lines.proofs.canonical.parallel_end.Goals as goal
 
 pub returns : goal.returns
+unfolding escape_byte with_member
 returns c =
-    Takes-same _ _ _ _
-    (line-parallel_end
-    (record {
-      thread = c.in-Some-task_tail.thread;
-      seq = c.in-Some-task_tail.seq;
-      seen = c.in-Some-task_tail.seen;
-    })
-    c.in-Some-task_tail.task c.in-Some.parallel)
-    (Takes-both _ _ _ _ _ c.in-Some.ensures c.in-Some-task_tail.ensures)
+    line-from-two variant.Callback variant.Parallel (string callback.parallel_end) (whole_number
+    c.in-Some-number.parallel)
+    _ _ _ _ _ _ c.in-Some.ensures c.in-Some-number.ensures
+    c.in-Some-task_tail.ensures
+    refl

@@ -1,9 +1,20 @@
-use Rattle.lines.proofs.TakeLemmas.{Takes-both}
+use Rattle.json.specs.Print.{escape_byte}
+use Rattle.serde_json.specs.Data.{string}
+use Rattle.ompt_events.specs.Names.{status_name}
+use Rattle.lines.specs.declared.members.Member.TheVariants as variant
+use Rattle.lines.specs.Texts.{whole_number}
+use Rattle.lines.proofs.InFrontLemmas.{then, then-end}
 use Rattle.lines.proofs.canonical.status_tail.Goals as goal
 
 pub returns : goal.returns
+unfolding escape_byte
 returns c =
-    Takes-both _ _ _ _ _ c.in-Some.ensures
-    (Takes-both _ _ _ _ _ c.in-Some-short.ensures
-    (Takes-both _ _ _ _ _ c.in-Some-status.ensures
-    (Takes-both _ _ _ _ _ c.in-Some-byte.ensures c.in-Some-end.ensures)))
+    then variant.Seen (whole_number c.in-Some-short.seen)
+    _ _ _ _ _ c.in-Some.ensures c.in-Some-short.ensures
+    (then variant.Seq (whole_number c.in-Some-short-2.seq)
+    _ _ _ _ _ c.in-Some-after_others.ensures c.in-Some-short-2.ensures
+    (then variant.Status (string (status_name c.in-Some-status.status))
+    _ _ _ _ _ c.in-Some-after_others-2.ensures c.in-Some-status.ensures
+    (then variant.Thread (whole_number c.in-Some-byte.thread)
+    _ _ _ _ _ c.in-Some-after_others-3.ensures c.in-Some-byte.ensures
+    (then-end _ _ c.in-Some-after_others-4.ensures))))

@@ -1,16 +1,19 @@
-use Rattle.lines.proofs.PartLemmas.{line-switching}
-use Rattle.lines.proofs.TakeLemmas.{Takes-both, Takes-same}
+use Rattle.std.proofs.Common.{refl}
+use Rattle.json.specs.Print.{escape_byte}
+use Rattle.serde_json.specs.Data.{string}
+use Rattle.lines.specs.declared.members.Member.TheVariants as variant
+use Rattle.lines.specs.CallbackNames as callback
+use Rattle.lines.specs.Texts.{number_or_null, whole_number, with_member}
+use Rattle.lines.proofs.InFrontLemmas.{line-from-two, then}
 use Rattle.lines.proofs.canonical.switching.Goals as goal
 
 pub returns : goal.returns
+unfolding escape_byte with_member
 returns c =
-    Takes-same _ _ _ _
-    (line-switching
-    (record {
-      thread = c.in-Some-status_tail.thread;
-      seq = c.in-Some-status_tail.seq;
-      seen = c.in-Some-status_tail.seen;
-    })
-    c.in-Some-status_tail.status c.in-Some-id.prior c.in-Some.next)
-    (Takes-both _ _ _ _ _ c.in-Some.ensures
-    (Takes-both _ _ _ _ _ c.in-Some-id.ensures c.in-Some-status_tail.ensures))
+    line-from-two variant.Callback variant.Next (string callback.task_schedule) (number_or_null
+    c.in-Some-id_or_null.next)
+    _ _ _ _ _ _ c.in-Some.ensures c.in-Some-id_or_null.ensures
+    (then variant.Prior (whole_number c.in-Some-number.prior)
+    _ _ _ _ _ c.in-Some-after_others.ensures c.in-Some-number.ensures
+    c.in-Some-status_tail.ensures)
+    refl

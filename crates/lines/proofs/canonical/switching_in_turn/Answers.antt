@@ -1,20 +1,23 @@
-use Rattle.lines.proofs.PartLemmas.{line-switching_in_turn}
-use Rattle.lines.proofs.TakeLemmas.{Takes-both, Takes-same}
+use Rattle.std.proofs.Common.{refl}
+use Rattle.json.specs.Print.{escape_byte}
+use Rattle.serde_json.specs.Data.{string}
+use Rattle.lines.specs.declared.members.Member.TheVariants as variant
+use Rattle.lines.specs.CallbackNames as callback
+use Rattle.lines.specs.Texts.{number_or_null, whole_number, with_member}
+use Rattle.lines.proofs.InFrontLemmas.{line-from-two, then}
 use Rattle.lines.proofs.canonical.switching_in_turn.Goals as goal
 
 pub returns : goal.returns
+unfolding escape_byte with_member
 returns c =
-    Takes-same _ _ _ _
-    (line-switching_in_turn
-    (record {
-      thread = c.in-Some-status_tail.thread;
-      seq = c.in-Some-status_tail.seq;
-      seen = c.in-Some-status_tail.seen;
-    })
-    c.in-Some-status_tail.status
-    (record { prior = c.in-Some-short-2.prior_turn; next = c.in-Some-short.next_turn })
-    c.in-Some-id.prior c.in-Some.next)
-    (Takes-both _ _ _ _ _ c.in-Some.ensures
-    (Takes-both _ _ _ _ _ c.in-Some-short.ensures
-    (Takes-both _ _ _ _ _ c.in-Some-id.ensures
-    (Takes-both _ _ _ _ _ c.in-Some-short-2.ensures c.in-Some-status_tail.ensures))))
+    line-from-two variant.Callback variant.Next (string callback.task_schedule) (number_or_null
+    c.in-Some-id_or_null.next)
+    _ _ _ _ _ _ c.in-Some.ensures c.in-Some-id_or_null.ensures
+    (then variant.NextTurn (whole_number c.in-Some-short.next_turn)
+    _ _ _ _ _ c.in-Some-after_others.ensures c.in-Some-short.ensures
+    (then variant.Prior (whole_number c.in-Some-number.prior)
+    _ _ _ _ _ c.in-Some-after_others-2.ensures c.in-Some-number.ensures
+    (then variant.PriorTurn (whole_number c.in-Some-short-2.prior_turn)
+    _ _ _ _ _ c.in-Some-after_others-3.ensures c.in-Some-short-2.ensures
+    c.in-Some-status_tail.ensures)))
+    refl

@@ -1,9 +1,18 @@
-use Rattle.lines.proofs.TakeLemmas.{Takes-both}
+use Rattle.json.specs.Print.{escape_byte}
+use Rattle.lines.specs.declared.members.Member.TheVariants as variant
+use Rattle.lines.specs.Texts.{whole_number}
+use Rattle.lines.proofs.InFrontLemmas.{then, then-end}
 use Rattle.lines.proofs.canonical.task_tail.Goals as goal
 
 pub returns : goal.returns
+unfolding escape_byte
 returns c =
-    Takes-both _ _ _ _ _ c.in-Some.ensures
-    (Takes-both _ _ _ _ _ c.in-Some-short.ensures
-    (Takes-both _ _ _ _ _ c.in-Some-id.ensures
-    (Takes-both _ _ _ _ _ c.in-Some-byte.ensures c.in-Some-end.ensures)))
+    then variant.Seen (whole_number c.in-Some-short.seen)
+    _ _ _ _ _ c.in-Some.ensures c.in-Some-short.ensures
+    (then variant.Seq (whole_number c.in-Some-short-2.seq)
+    _ _ _ _ _ c.in-Some-after_others.ensures c.in-Some-short-2.ensures
+    (then variant.Task (whole_number c.in-Some-number.task)
+    _ _ _ _ _ c.in-Some-after_others-2.ensures c.in-Some-number.ensures
+    (then variant.Thread (whole_number c.in-Some-byte.thread)
+    _ _ _ _ _ c.in-Some-after_others-3.ensures c.in-Some-byte.ensures
+    (then-end _ _ c.in-Some-after_others-4.ensures))))

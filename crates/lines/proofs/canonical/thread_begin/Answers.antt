@@ -1,18 +1,24 @@
-use Rattle.lines.proofs.PartLemmas.{line-thread_begin}
-use Rattle.lines.proofs.TakeLemmas.{Takes-both, Takes-same}
+use Rattle.std.proofs.Common.{refl}
+use Rattle.json.specs.Print.{escape_byte}
+use Rattle.serde_json.specs.Data.{string}
+use Rattle.ompt_events.specs.Names.{thread_kind_name}
+use Rattle.lines.specs.declared.members.Member.TheVariants as variant
+use Rattle.lines.specs.CallbackNames as callback
+use Rattle.lines.specs.Texts.{whole_number, with_member}
+use Rattle.lines.proofs.InFrontLemmas.{line-from-two, then, then-end}
 use Rattle.lines.proofs.canonical.thread_begin.Goals as goal
 
 pub returns : goal.returns
+unfolding escape_byte with_member
 returns c =
-    Takes-same _ _ _ _
-    (line-thread_begin
-    (record {
-      thread = c.in-Some-byte.thread;
-      seq = c.in-Some-short-2.seq;
-      seen = c.in-Some-short.seen;
-    })
-    c.in-Some.kind)
-    (Takes-both _ _ _ _ _ c.in-Some.ensures
-    (Takes-both _ _ _ _ _ c.in-Some-short.ensures
-    (Takes-both _ _ _ _ _ c.in-Some-short-2.ensures
-    (Takes-both _ _ _ _ _ c.in-Some-byte.ensures c.in-Some-end.ensures))))
+    line-from-two variant.Callback variant.Kind (string callback.thread_begin) (string (thread_kind_name
+    c.in-Some-thread_kind.kind))
+    _ _ _ _ _ _ c.in-Some.ensures c.in-Some-thread_kind.ensures
+    (then variant.Seen (whole_number c.in-Some-short.seen)
+    _ _ _ _ _ c.in-Some-after_others.ensures c.in-Some-short.ensures
+    (then variant.Seq (whole_number c.in-Some-short-2.seq)
+    _ _ _ _ _ c.in-Some-after_others-2.ensures c.in-Some-short-2.ensures
+    (then variant.Thread (whole_number c.in-Some-byte.thread)
+    _ _ _ _ _ c.in-Some-after_others-3.ensures c.in-Some-byte.ensures
+    (then-end _ _ c.in-Some-after_others-4.ensures))))
+    refl

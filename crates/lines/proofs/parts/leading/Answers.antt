@@ -1,4 +1,4 @@
-use Rattle.std.proofs.Common.{◌≡◌, ◌+◌, ◌<◌, length, get_or, arith}
+use Rattle.std.proofs.Common.{◌<◌, arith}
 use Rattle.lines.proofs.TakeLemmas.{digits-first, digits-more, digits-few}
 use Rattle.lines.proofs.parts.leading.Goals as goal
 

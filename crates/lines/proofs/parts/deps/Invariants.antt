@@ -1,7 +1,7 @@
 use Rattle.std.proofs.Common.{[]}
 use Rattle.lines.specs.Texts.{dep_data}
 use Rattle.lines.proofs.TakeLemmas.{AreItemsTaken}
-use Rattle.lines.proofs.parts.deps_alone.Given as goal
+use Rattle.lines.proofs.parts.deps.Given as goal
 
 -- the items so far
 abbrev pub invariant-items : goal.invariant-items

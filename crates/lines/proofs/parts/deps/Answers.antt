@@ -3,7 +3,7 @@ use Rattle.std.specs.Result.{is_ok}
 use Rattle.serde_json.specs.Written.{compact_text, comma_if}
 use Rattle.lines.specs.Texts.{Takes, dep_data}
 use Rattle.lines.proofs.TakeLemmas.{AreItemsTaken-none, AreItemsTaken-more, Takes-items}
-use Rattle.lines.proofs.parts.deps_alone.Goals as goal
+use Rattle.lines.proofs.parts.deps.Goals as goal
 
 pub items-init : goal.items-init
 items-init c =

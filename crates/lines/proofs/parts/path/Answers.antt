@@ -2,7 +2,7 @@ use Rattle.std.proofs.Common.{rules, ◌≡◌, [], ◌∷◌, ◌++◌}
 use Rattle.serde_json.specs.Written.{compact_text, comma_if}
 use Rattle.lines.specs.Texts.{Takes, whole_number}
 use Rattle.lines.proofs.TakeLemmas.{AreItemsTaken-none, AreItemsTaken-more, Takes-items}
-use Rattle.lines.proofs.parts.path_alone.Goals as goal
+use Rattle.lines.proofs.parts.path.Goals as goal
 
 pub numbers-init : goal.numbers-init
 numbers-init c = rw c.new-numbers.ensures (AreItemsTaken-none whole_number _ _ _ c.in_ok-rest.ensures)

@@ -1,7 +1,7 @@
 use Rattle.std.proofs.Common.{[]}
 use Rattle.lines.specs.Texts.{whole_number}
 use Rattle.lines.proofs.TakeLemmas.{AreItemsTaken}
-use Rattle.lines.proofs.parts.path_alone.Given as goal
+use Rattle.lines.proofs.parts.path.Given as goal
 
 -- the items so far
 abbrev pub invariant-numbers : goal.invariant-numbers
