@@ -52,7 +52,9 @@ class Checker:
         if 'anyOf' in part:
             return ', or '.join(self.described(self.resolved(it)) for it in part['anyOf'])
         if 'const' in part or 'enum' in part:
-            return ' or '.join(json.dumps(it) for it in part.get('enum', [part.get('const')]))
+            values = part.get('enum', [part.get('const')])
+            few = ' or '.join(json.dumps(it) for it in values)
+            return few if len(values) < 4 else f"one of {', '.join(values)}"
         if 'maximum' in part:
             return f"a whole number from {part['minimum']} to {part['maximum']}, in digits"
         words = {'array': 'a list', 'object': 'an object', 'boolean': 'true or false', 'null': 'null or absent'}
@@ -75,28 +77,11 @@ class Checker:
         for name, other in part.get('properties', {}).items():
             if name in value:
                 yield from self.faults(other, value[name], f'`{name}`')
-        if 'oneOf' in part:
-            yield from self.faults_of_choice(part['oneOf'], value, where)
         if 'if' in part and self.accepts(part['if'], value):
             yield from self.faults(part['then'], value, where)
 
     def accepts(self, part, value):
         return not any(self.faults(part, value, ''))
-
-    def faults_of_choice(self, parts, value, where):
-        """A callback, or a status, says which of the parts is meant."""
-        parts = [self.resolved(it) for it in parts]
-        name = next(it for it in ('cb', 'status') if it in parts[0]['properties'])
-        known = {word: it for it in parts for word in self.words(it['properties'][name])}
-        if name not in value:
-            yield f'`{name}` is missing'
-        elif not isinstance(value[name], str) or value[name] not in known:
-            yield f"`{name}` is {json.dumps(value[name])}, and must be one of {', '.join(known)}"
-        else:
-            yield from self.faults(known[value[name]], value, where)
-
-    def words(self, part):
-        return part.get('enum', [part.get('const')])
 
 
 def faults_of(text, version=1):
