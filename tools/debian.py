@@ -16,8 +16,8 @@ from calling import TOP, NotMade, called, load, read
 DESCRIPTION = """Auditor of recorded OpenMP tasks
  taskaudit reads a file of recorded events of OpenMP's tool interface (OMPT) and
  answers whether each taskwait, taskgroup and barrier ended, and each task with
- dependences started, only when it was allowed to. What it answers about the
- bytes that it reads is proved by machine.
+ dependences started, only when it was allowed to. The code that reads, judges and
+ prints is proved by machine.
  .
  taskaudit-run runs a program under LLVM's OpenMP runtime, records its tasks,
  and audits what was recorded. taskaudit-explain explains an answer."""

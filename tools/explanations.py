@@ -302,7 +302,7 @@ def moved(found, trace, record):
                     if it.started == record.started and it.thread != record.thread)
     found.show(earlier, f'task {record.started} ran on thread {earlier.thread}')
     found.say(f'Task {record.started} runs on thread {record.thread} here, and ran on thread {earlier.thread} on line '
-              f'{earlier.number}. A file of version 1 cannot say that a task goes on on another thread; one of version 2'
+              f'{earlier.number}. A file of version 1 cannot say that a task resumes on another thread; one of version 2'
               ' can, since it tells turns.')
 
 
