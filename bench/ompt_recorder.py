@@ -5,46 +5,18 @@ Runs programs with and without the recorder, in ROUNDS rounds (9), and takes the
 prints the memory of a record, and how fast a file of nearly 2^22 records is written.
 """
 import os
-import subprocess
 import sys
 import tempfile
-import time
 
-from common import HERE, TOP, numbers_of, row, table
+from common import numbers_of, row, table
+from recorded import compile_all, run
 
-OMPT = os.path.join(TOP, 'ompt')
-THREADS = 4
 # The program, its words, and what it does.
 PROGRAMS = {'fib of 25': ('fib', '25'), 'blocks of 32, 32 x 32 x 32': ('matrix', '32')}
 LARGEST = ('fib', '29')
 
 
-def compile_all(folder):
-    """Compiles the recorder and the programs."""
-    subprocess.run([os.path.join(OMPT, 'build')], check=True)
-    for name in ('fib', 'matrix'):
-        paths = [os.path.join(HERE, f'{name}.c'), '-o', os.path.join(folder, name)]
-        subprocess.run(['clang', '-O2', '-fopenmp', *paths], check=True)
-
-
-def run(folder, words, file=None):
-    """The seconds of the parallel region and of the whole process, and its peak memory in bytes."""
-    told = {**os.environ, 'OMP_NUM_THREADS': str(THREADS)}
-    if file:
-        told |= {'TASKAUDIT_FILE': file, 'OMP_TOOL_LIBRARIES': os.path.join(OMPT, 'out/libtaskaudit_ompt.so')}
-        # a recorder replaces no file
-        if os.path.exists(file):
-            os.remove(file)
-    begin = time.perf_counter()
-    command = [os.path.join(folder, words[0]), *words[1:]]
-    program = subprocess.Popen(command, env=told, stdout=subprocess.PIPE, text=True)
-    printed = program.stdout.read()
-    _, status, used = os.wait4(program.pid, 0)
-    assert status == 0
-    return float(printed), time.perf_counter() - begin, used.ru_maxrss * 1024
-
-
-def lines_of(file):
+def count_lines(file):
     with open(file, 'rb') as it:
         return sum(1 for _ in it)
 
@@ -54,7 +26,7 @@ def show(folder, file, name, program, rounds):
     both = [(run(folder, program), run(folder, program, file)) for _ in range(rounds)]
     plain, recorded = (min(it[side][0] for it in both) for side in (0, 1))
     memory = min(it[1][2] for it in both) - min(it[0][2] for it in both)
-    count = lines_of(file) - 1
+    count = count_lines(file) - 1
     row(name, f'{count:,}', f'{plain:.3f}', f'{recorded:.3f}', f'{recorded / plain:.2f}',
         f'{memory / count:.0f}')
 
@@ -68,13 +40,13 @@ def writing(folder, file):
 def main():
     rounds = (numbers_of(sys.argv[1:], __doc__) or [9])[0]
     with tempfile.TemporaryDirectory() as folder:
-        compile_all(folder)
+        compile_all(folder, ['fib', 'matrix'])
         file = os.path.join(folder, 'trace.jsonl')
         table('Program', 'Records', 'Seconds', 'Recorded', 'Times', 'Bytes a record')
         for name, program in PROGRAMS.items():
             show(folder, file, name, program, rounds)
         seconds = min(writing(folder, file) for _ in range(3))
-        size, count = os.path.getsize(file) / 1e6, lines_of(file) - 1
+        size, count = os.path.getsize(file) / 1e6, count_lines(file) - 1
         print(f'\n{count:,} records, {size:.0f} MB, written in {seconds:.2f} s: {size / seconds:.0f} MB/s')
 
 

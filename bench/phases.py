@@ -29,6 +29,12 @@ def begun(lines):
             "parallel": 0, "seen": 0, "seq": 0, "task": NEW_TASK, "thread": thread}
 
 
+def turns_of(lines, prior, following):
+    """These turns, as members of a record in a file of version 2."""
+    is_told = json.loads(lines[0])["version"] == 2
+    return {"prior_turn": prior, "next_turn": following} if is_told else {}
+
+
 def with_a_wrong_share(lines):
     """The records, and then a task that claims another share than its own when it is complete."""
     start = begun(lines)
@@ -39,9 +45,9 @@ def with_a_wrong_share(lines):
         start,
         {**record, "cb": "task_create", "seq": 1, "task": parent, "child": child, "deps": False,
          "flags": ["explicit"]},
-        {**schedule, "seq": 2, "status": "switch", "prior": parent, "next": child},
+        {**schedule, "seq": 2, "status": "switch", "prior": parent, "next": child, **turns_of(lines, 0, 0)},
         {**schedule, "seq": 3, "status": "complete", "prior": child, "next": parent, "root": parent,
-         "kept": 0, "path": [1]},
+         "kept": 0, "path": [1], **turns_of(lines, 0, 1)},
     ]
     return lines + [json.dumps(it) for it in last]
 
@@ -54,13 +60,23 @@ def with_a_device(lines):
     return lines + [json.dumps(it) for it in (start, last)]
 
 
+def to_read(path, lines):
+    """The instructions of reading alone."""
+    return instructions_of([STOPWATCH, "read"], path, lines, f"{len(lines) - 1} records")
+
+
+def to_the_causes(path, lines):
+    """The instructions up to the end of the search for the causes to ShareWrong."""
+    return instructions_of([PROGRAM, "check"], path, with_a_wrong_share(lines), "cause 11 ShareWrong")
+
+
 def phases(path, size, order):
     """The instructions of each phase on the run of this many records in this order."""
     lines = trace(size, order)
     check = [PROGRAM, "check"]
     ends = [
-        instructions_of([STOPWATCH, "read"], path, lines, f"{size} records"),
-        instructions_of(check, path, with_a_wrong_share(lines), "cause 11 ShareWrong"),
+        to_read(path, lines),
+        to_the_causes(path, lines),
         instructions_of(check, path, with_a_device(lines), "cause 16 TargetTask"),
         instructions_of(check, path, lines, "yes: "),
     ]
