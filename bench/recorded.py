@@ -1,4 +1,4 @@
-"""Records programs on four threads: compiles the recorder of ompt/ and C programs of bench/, and runs these."""
+"""Records programs on four threads: compiles the recorder of ompt/ and programs of bench/, and runs these."""
 import os
 import subprocess
 import time

@@ -1,10 +1,10 @@
-/* Rounds over a square of blocks: each block by a task that depends on the ones above it and to its left, in
-   a taskgroup; and then a task that reads the last block, and a taskwait. */
+/* wavefront BLOCKS ROUNDS: rounds over a square of blocks, each block by a task that depends on those above it
+   and to its left, in a taskgroup; and then a task that reads the last block, and a taskwait. */
 #include <omp.h>
 #include <stdio.h>
 #include <stdlib.h>
 
-enum { BLOCK = 16, ROUNDS = 32 };
+enum { BLOCK = 16 };
 
 static void update(int size, double *block) {
     for (int i = 0; i < BLOCK; i++)
@@ -15,12 +15,13 @@ static void update(int size, double *block) {
 }
 
 int main(int count, char **words) {
-    int blocks = count > 1 ? atoi(words[1]) : 16, size = BLOCK * blocks + 1;
+    int blocks = count > 1 ? atoi(words[1]) : 16, rounds = count > 2 ? atoi(words[2]) : 32;
+    int size = BLOCK * blocks + 1;
     double *square = calloc((size_t)size * (size_t)size, sizeof(double)), *first = square + size + 1, sum = 0;
     double begin = omp_get_wtime();
 #pragma omp parallel
 #pragma omp single
-    for (int round = 0; round < ROUNDS; round++) {
+    for (int round = 0; round < rounds; round++) {
         double *block = first;
 #pragma omp taskgroup
         for (int i = 0; i < blocks; i++)
