@@ -34,7 +34,7 @@ pub record ArePending (version : ℕ) (pieces : List Piece) : Type 0 where
   pub judged : AreJudged version pieces bytes
   pub some : 0 < length pieces → 0 < line_feeds bytes
 
--- the same of those of whole lines
+-- these pieces stand for the bytes of whole lines
 pub record AreJudgedOf (version : ℕ) (pieces : List Piece) (bytes : List ℕ) : Type 0 where
   pub judged : AreJudged version pieces bytes
   pub none : pieces ≡ [] → bytes ≡ []

@@ -55,7 +55,7 @@ trace_said newest bytes = said (traces newest) bytes
 unfoldable pub file_says_to : ℕ → List ℕ → Result TraceView ReadFault
 file_says_to newest bytes = trace_said newest bytes
 
--- the same for the versions that the program reads
+-- what the bytes are, of a version that the program reads
 abbrev pub file_says : List ℕ → Result TraceView ReadFault
 file_says bytes = file_says_to newest_version bytes
 

@@ -41,7 +41,7 @@ pub record Format (X : Type 0) : Type 0 where
   pub first : X
   pub adds : ℕ → X → List ℕ → Result X ReadCause
 
--- the same of any line
+-- what any line makes of what comes before it
 abbrev pub line_adds : {X : Type 0} → Format X → ℕ → X → List ℕ → Result X ReadCause
 line_adds format n before line = if is_long line then Err LineTooLong else format.adds n before line
 
@@ -64,7 +64,7 @@ from_line format n before [] rest = go_on n (end_adds n before rest) Ok
 from_line format n before (line ∷ lines) rest =
     go_on n (line_adds format n before line) (λ after. from_line format (n + 1) after lines rest)
 
--- the same of the bytes of these lines
+-- what the bytes of the lines from number n on stand for
 abbrev pub rest_says : {X : Type 0} → Format X → ℕ → X → List ℕ → Result X ReadFault
 rest_says format n before bytes = from_line format n before (cut bytes).lines (cut bytes).rest
 

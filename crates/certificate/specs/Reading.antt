@@ -36,7 +36,7 @@ pub record IsBeingRead (n : ℕ) (bytes left : List ℕ) : Type 0 where
   pub few : length waiting ≤ 2 * (max_line + 1)
   pub whole : (left ≡ bytes) ⊎ (0 < line_feeds waiting)
 
--- the same, where these bytes are left
+-- the line of number n is being read, where these bytes are left
 abbrev pub IsLineBeingRead : ℕ → List ℕ → Option (List ℕ) → Type 0
 IsLineBeingRead n bytes None = ⊥
 IsLineBeingRead n bytes (Some left) = IsBeingRead n bytes left
@@ -90,7 +90,7 @@ IsTextCause Field = Unit {0}
 IsTextCause Limit = Unit {0}
 IsTextCause _ = ⊥
 
--- the same, or that memory ran out for the line
+-- a cause that a line of text has, or that memory ran out for it
 abbrev pub IsOfText : ReadCause → Type 0
 IsOfText Memory = Unit {0}
 IsOfText cause = IsTextCause cause

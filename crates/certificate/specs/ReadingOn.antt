@@ -27,7 +27,7 @@ pub record IsBeingReadIn (room n : ℕ) (bytes left : List ℕ) : Type 0 where
   pub begins : IsFromLine n bytes (waiting ++ left)
   pub few : length waiting ≤ room
 
--- the same, where these bytes are left
+-- the line of number n is being read, where these bytes are left
 abbrev pub IsLineBeingReadIn : ℕ → ℕ → List ℕ → Option (List ℕ) → Type 0
 IsLineBeingReadIn room n bytes None = ⊥
 IsLineBeingReadIn room n bytes (Some left) = IsBeingReadIn room n bytes left
@@ -45,7 +45,7 @@ abbrev pub IsAnswerInRoom : ℕ → Result TraceView ReadFault → List ℕ → 
 IsAnswerInRoom room (Ok trace) bytes left = IsReadAnswer (Ok trace) bytes left
 IsAnswerInRoom room (Err fault) bytes left = IsToldInRoom room fault.cause fault.line bytes left
 
--- the same with this many workers and with blocks of this size, or of the size that `read_on` takes
+-- the answer with this many workers and with blocks of this size, or of the size that `read_on` takes
 abbrev pub IsAnswerInBlocks : ℕ → ℕ → Result TraceView ReadFault → List ℕ → Option (List ℕ) → Type 0
 IsAnswerInBlocks workers block answer bytes left = IsAnswerInRoom (room_of workers block) answer bytes left
 

@@ -145,7 +145,7 @@ fn judge_line(
     }
 }
 
-/// Does the same for any line: searches for its end first.
+/// Judges the next line, whatever form it has: searches for its end first.
 #[inline(never)]
 fn judge_other_line(
     alloc: Global,

@@ -44,8 +44,7 @@ pub fn read<S: Source>(alloc: Global, source: &mut S) -> Result<Trace, ReadFault
     read_to(alloc, NEWEST_VERSION, source)
 }
 
-/// Reads the same way a file of a version up to `newest`: 1, or 2 for files that may have turns. Fails as
-/// [`read`] does.
+/// Reads a file of a version up to `newest`: 1, or 2 for files that may have turns. Fails as [`read`] does.
 pub fn read_to<S: Source>(alloc: Global, newest: u32, source: &mut S) -> Result<Trace, ReadFault>
     requires { (1 ≤ newest) × (newest ≤ 2) }
 
@@ -123,7 +122,7 @@ fn read_line<S: Source>(
     }
 }
 
-/// Does the same for any line: searches for its end first.
+/// Reads the next line, whatever form it has: searches for its end first.
 #[inline(never)]
 fn read_other_line<S: Source>(
     alloc: Global,

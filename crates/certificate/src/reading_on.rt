@@ -54,7 +54,7 @@ pub fn read_on<R: Threads + Sync, S: Source>(
     read_blocks(rt, alloc, source, workers, BLOCK)
 }
 
-/// Reads the same way with blocks of another size, from 1 byte to 2^24. Returns the same.
+/// Reads ahead as [`read_on`] does, with blocks of this size, from 1 byte to 2^24. Returns what `read_on` does.
 pub fn read_blocks<R: Threads + Sync, S: Source>(
     rt: &R,
     alloc: Global,

@@ -110,7 +110,7 @@ fn follows(run: &Run, lasts: &[Suspension], at: usize, awaited: Awaited) -> bool
     }
 }
 
-/// Returns whether the task that runs on at a place was last suspended in the turn before, at a record that
+/// Returns whether the task that resumes at a place was last suspended in the turn before, at a record that
 /// names no greater length; also true for an initial or implicit task, which was suspended on the same
 /// thread.
 fn follows_end(run: &Run, lasts: &[Suspension], at: usize, begin: Begin) -> bool

@@ -46,7 +46,7 @@ pub(crate) fn ask<A: Drop, F: Fn(Clear) -> Result<A, Fault>>(
     ask_run(alloc, trace, &families, answer)
 }
 
-/// Does the same once the tree of tasks is known.
+/// Returns what `ask` does. The tree of tasks is known, and shows no cause.
 fn ask_run<A: Drop, F: Fn(Clear) -> Result<A, Fault>>(
     alloc: Global,
     trace: &Trace,
@@ -79,7 +79,7 @@ fn ask_run<A: Drop, F: Fn(Clear) -> Result<A, Fault>>(
     ask_sound(alloc, &sound, answer)
 }
 
-/// Does the same once only order, ledger and TargetTask may still show a cause.
+/// Returns what `ask` does. Only order, ledger and TargetTask may still show a cause.
 fn ask_sound<A: Drop, F: Fn(Clear) -> Result<A, Fault>>(
     alloc: Global,
     sound: &Sound,
@@ -199,7 +199,7 @@ fn order_of(alloc: Global, sound: &Sound) -> Result<Order, Fault>
     order_by_merge(alloc, sound)
 }
 
-/// Does the same if one pass does not show the order. The tables of the merge are dropped at its end.
+/// Returns the order of the records if one pass does not show it. The tables of the merge are dropped at its end.
 fn order_by_merge(alloc: Global, sound: &Sound) -> Result<Order, Fault>
     ensures linearization { IfOk result (IsLinearization sound.now.run.records) }
     ensures greedy { IfOk result (IsGreedy sound.now.run.records) }

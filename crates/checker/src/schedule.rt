@@ -27,7 +27,7 @@ pub(crate) enum Awaited {
 }
 
 /// Returns the place of the record that the one at a place awaits: the creation of the task that it starts,
-/// discards or fulfils, or the record at which the explicit task that runs on there was suspended. Inlined
+/// discards or fulfils, or the record at which the explicit task that resumes there was suspended. Inlined
 /// into the loops over all records.
 #[inline(always)]
 pub(crate) fn awaited_at(run: &Run, suspensions: &Suspensions, at: usize) -> Option<usize>

@@ -47,7 +47,7 @@ pub(crate) fn ask_on<R: Threads, A: Drop, F: Fn(Clear) -> Result<A, Fault>>(
     ask_run_on(rt, alloc, trace, &families, answer)
 }
 
-/// Does the same on two threads once the tree of tasks is known.
+/// Returns what `ask_on` does, by two threads. The tree of tasks is known, and shows no cause.
 fn ask_run_on<R: Threads, A: Drop, F: Fn(Clear) -> Result<A, Fault>>(
     rt: &R,
     alloc: Global,
@@ -82,7 +82,7 @@ fn ask_run_on<R: Threads, A: Drop, F: Fn(Clear) -> Result<A, Fault>>(
     ask_sound_on(rt, alloc, &sound, answer)
 }
 
-/// Does the same once only order, ledger and TargetTask may still show a cause.
+/// Returns what `ask_on` does, by two threads. Only order, ledger and TargetTask may still show a cause.
 fn ask_sound_on<R: Threads, A: Drop, F: Fn(Clear) -> Result<A, Fault>>(
     rt: &R,
     alloc: Global,

@@ -66,7 +66,7 @@ impl Suspensions {
         self.rows[begin.index] + begin.turn as usize
     }
 
-    /// Returns the place at which the explicit task that runs on at a place was suspended. Returns none for
+    /// Returns the place at which the explicit task that resumes at a place was suspended. Returns none for
     /// other tasks.
     pub(crate) fn end_before(&self, run: &Run, at: usize, begin: Begin) -> Option<usize>
         requires known { AreSuspensions run.now.records run.now.family.tasks self.now }

@@ -235,7 +235,7 @@ version_in format newest d =
 abbrev pub version_of : List ℕ → ℕ → List ℕ → Result ℕ ReadCause
 version_of format newest line = ok_or (option_and_then (version_in format newest) (value_of line)) Header
 
--- the same of a trace file
+-- the version of a trace file with this header
 abbrev pub header_says : ℕ → List ℕ → Result ℕ ReadCause
 header_says newest line = version_of format_name newest line
 

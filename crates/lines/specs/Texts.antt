@@ -27,7 +27,7 @@ use Rattle.lines.specs.RecordLines.{format_name}
 unfoldable pub with_member : List ℕ → Data → Members → Members
 with_member name d ms = put name d ms
 
--- the same with each of these
+-- the members of an object with each of these
 abbrev pub with_members : List (List ℕ × Data) → Members → Members
 with_members [] ms = ms
 with_members (m ∷ more) ms = with_members more (with_member m.0 m.1 ms)

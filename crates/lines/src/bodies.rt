@@ -26,14 +26,14 @@ pub struct Loose {
     pub fits: bool,
 }
 
-/// The same of a claim, if the record makes one.
+/// The claim of a callback, if it makes one, its numbers cut short where they are past their limits.
 #[derive(Debug, Drop)]
 pub(crate) struct LooseClaim {
     pub(crate) claim: Option<BoxedClaim>,
     pub(crate) fits: bool,
 }
 
-/// The same of turns, if the record has them.
+/// The turns of a callback, if it has them, cut short where they are past their limits.
 #[derive(Debug, Drop)]
 pub(crate) struct LooseTurns {
     pub(crate) turns: Option<Turns>,

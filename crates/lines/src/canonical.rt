@@ -77,7 +77,7 @@ macro_rules! take_line {
     }};
 }
 
-// The same of the last members of a line.
+// The last members of a line, its end, and then what they make.
 macro_rules! take_tail {
     (
         ($alloc:ident $rest:ident $made:tt)
@@ -102,7 +102,7 @@ pub(crate) fn canonical(alloc: Global, version: u32, line: &[u8]) -> Option<(Rec
     Some((event, behind))
 }
 
-/// Returns the same of a line whose first members the format does not know.
+/// Returns the record of such a line if the format does not know its first members, and what follows the line.
 pub(crate) fn behind_others(alloc: Global, version: u32, line: &[u8]) -> Option<(Record, &[u8])>
     ensures { IfSome result (λ taken. IsRecordInFront line.now taken.0 taken.1.now) }
 {
@@ -168,7 +168,7 @@ fn task_schedule(alloc: Global, version: u32, inside: &[u8]) -> Option<(Record, 
     }
 }
 
-/// Reads the same with turns: in version 2 alone.
+/// Reads a `task_schedule` with turns: in version 2 alone.
 fn in_turn(alloc: Global, version: u32, inside: &[u8]) -> Option<(Record, &[u8])>
     ensures { IfSome result (λ taken. IsRecordInside inside.now taken.0 taken.1.now) }
 {
@@ -181,7 +181,7 @@ fn in_turn(alloc: Global, version: u32, inside: &[u8]) -> Option<(Record, &[u8])
     }
 }
 
-/// Reads the same without turns.
+/// Reads a `task_schedule` without turns.
 fn without_turns(alloc: Global, inside: &[u8]) -> Option<(Record, &[u8])>
     ensures { IfSome result (λ taken. IsRecordInside inside.now taken.0 taken.1.now) }
 {

@@ -118,7 +118,7 @@ pub(crate) fn number(rest: &[u8]) -> Option<(u64, &[u8])>
 /// A number of fewer digits is read without a test of the length.
 const NEAR_DIGITS: usize = 8;
 
-/// Takes the same if the first digit is known, and is not 0.
+/// Takes a whole number whose first digit is known, and is not 0.
 #[inline(always)]
 fn digits(rest: &[u8], first: u64) -> Option<(u64, &[u8])>
     requires some { 0 < first }
@@ -137,7 +137,7 @@ fn digits(rest: &[u8], first: u64) -> Option<(u64, &[u8])>
     many_digits(rest, first)
 }
 
-/// Takes the same, however many digits there are.
+/// Takes a whole number whose first digit is known, and is not 0, however many digits there are.
 #[inline(never)]
 fn many_digits(rest: &[u8], first: u64) -> Option<(u64, &[u8])>
     requires some { 0 < first }

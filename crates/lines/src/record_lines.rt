@@ -182,7 +182,7 @@ fn in_any_form(
     }
 }
 
-/// Returns the same by a tape of the line's tokens.
+/// Returns the record of a line by a tape of its tokens.
 fn on_tape(
     alloc: Global,
     version: u32,

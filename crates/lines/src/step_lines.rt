@@ -88,7 +88,7 @@ pub fn step(alloc: Global, line: &[u8], scratch: &mut Scratch) -> Result<SaidSte
     }
 }
 
-/// Returns the same by a tape of the line's tokens.
+/// Returns what a line of a script says, by a tape of its tokens.
 fn on_tape(alloc: Global, line: &[u8], scratch: &mut Scratch) -> Result<SaidStep, ReadCause>
     ensures { IsSaid result (spec.step_said (value_of line.now)) }
 {

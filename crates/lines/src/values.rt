@@ -158,7 +158,7 @@ fn alone(number: u64, behind: &[u8]) -> Option<u64>
     }
 }
 
-/// Returns the same for any number.
+/// Returns the whole number that the text of any JSON number stands for, if it stands for one.
 #[inline(never)]
 fn other_number(text: &str) -> Option<u64>
     ensures { result ≡ as_u64 (number_or_odd (number_of text.now)) }

@@ -248,7 +248,7 @@ fn guess_callback(rest: &[u8]) -> &'static str
     }
 }
 
-/// Guesses the same among those that begin with `t`.
+/// Guesses the callback that is named, among those that begin with `t`.
 #[inline(always)]
 fn guess_of_task_or_thread(rest: &[u8]) -> &'static str
     ensures { is_plain_text result.now ≡ true }

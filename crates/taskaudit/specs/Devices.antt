@@ -41,7 +41,7 @@ pub record TellsDevices {X : Type 0} (result : Result X AuditFault) (source sour
   -- and with `TurnsSpent` exactly where it asks for its 10,001st turn
   pub sink_turns : AsksForTurns result sink.turns sink'.turns
 
--- the same of an audit that reads ahead of the lines that it judges
+-- what an audit that reads ahead of the lines that it judges says about its devices
 pub record TellsDevicesAhead {X : Type 0} (result : Result X AuditFault)
     (source source' sink sink' : Counters)
     : Type 0 where

@@ -16,7 +16,7 @@ packing_in bytes = if begin_with bytes (0x1f ∷ 0x8b ∷ []) then Some Gzip
     else (if begin_with bytes (0x28 ∷ 0xb5 ∷ 0x2f ∷ 0xfd ∷ []) then Some Zstandard
     else (if begin_with bytes (0xfd ∷ 0x37 ∷ 0x7a ∷ 0x58 ∷ 0x5a ∷ 0x00 ∷ []) then Some Xz else None))
 
--- the same of all bytes of a file: the first six decide it
+-- the packing of a file with these bytes: the first six decide it
 abbrev pub packing_of : List ℕ → Option Packing
 packing_of bytes = packing_in (take 6 bytes)
 

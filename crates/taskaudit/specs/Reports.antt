@@ -50,7 +50,7 @@ place_text line thread seq =
     ++ (codes ", thread " ++ (decimal thread
     ++ (codes ", seq " ++ decimal seq))))
 
--- the same of the record at the place i: line 1 of the file is the header
+-- where the record at the place i is: line 1 of the file is the header
 abbrev pub record_place : List Record → ℕ → List ℕ
 record_place rs i =
     place_text (i + 2) (option_map_or (λ r. r.thread) (slice_get rs i) 0)

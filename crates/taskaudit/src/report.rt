@@ -40,7 +40,8 @@ pub fn report_text(alloc: Global, verdict: &Verdict, trace: &Trace) -> Result<St
     report_by(alloc, verdict, trace, None)
 }
 
-/// Returns the same, from the counts if they are given. Else the records are counted here, only for a yes.
+/// Returns the report of the trace's verdict, from the counts if they are given. Else the records are counted
+/// here, only for a yes.
 pub(crate) fn report_by(
     alloc: Global,
     verdict: &Verdict,

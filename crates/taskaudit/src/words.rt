@@ -80,7 +80,7 @@ that finishes a task appends an entry: its seen is the entry's index, and the
 thread then knows index + 1. A task_schedule that does not finish a task, and an
 end or beginend of a sync_region, reads the ledger's length there and then. Any
 other event repeats what its thread last knew, 0 at first.
-The turn of a task is 0 at its start, and one more each time that it runs on.
+The turn of a task is 0 at its start, and one more each time that it resumes.
 docs/RECORDING.md says how to record, docs/FORMAT.md has the whole format."#;
 
 /// What stands below the options in the help of `order`.
