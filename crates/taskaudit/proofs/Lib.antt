@@ -4,7 +4,6 @@ mod LookLemmas
 mod VersionLemmas
 mod ServingLemmas
 mod CountLemmas
-mod PlaceLemmas
 mod HeadlineLemmas
 mod AuditLemmas
 mod OrderLemmas

@@ -1,7 +1,5 @@
 //! What is printed of a verdict or a fault, and the exit statuses.
-ghost use Rattle.std.specs.Prelude.{◌≡◌, ◌<◌, ◌≤◌, ◌^◌, IfOk, IfSome, IsOkUnless, Some, length, string_bytes};
-ghost use Rattle.ompt_events.specs.Limits.{max_records};
-ghost use Rattle.checker.specs.Verdicts.{IsVerdict};
+ghost use Rattle.std.specs.Prelude.{◌≡◌, IfOk, IfSome, IsOkUnless, Some, string_bytes};
 ghost use Rattle.clap.specs.Words.{kind_of};
 ghost use Rattle.taskaudit.specs.FileFaults.{file_fault_text_of};
 ghost use Rattle.taskaudit.specs.Reports.{AreCounts, report_of, fault_text_of, yes_text, no_text, late_text, dependent_at, malformed_text, place_text, record_place};
@@ -31,25 +29,24 @@ pub const WRONG_WORDS: u8 = 4;
 /// The exit status where memory ran out, or a thread could not be started.
 const NO_MEMORY: u8 = 5;
 
-/// Returns the report of the trace's verdict: one line, with its line feed.
+/// Returns the report of a verdict on the trace: one line, with its line feed. Where the verdict names a place
+/// past the end of the trace, thread and seq are 0.
 pub fn report_text(alloc: Global, verdict: &Verdict, trace: &Trace) -> Result<String, AuditFault>
-    requires { IsVerdict trace.now.records verdict.now }
     ensures text { IfOk result (λ text. string_bytes text ≡ report_of trace.now.records verdict.now) }
     ensures memory { IsOkUnless result AuditFault.Memory }
 {
     report_by(alloc, verdict, trace, None)
 }
 
-/// Returns the report of the trace's verdict, from the counts if they are given. Else the records are counted
-/// here, only for a yes.
+/// Returns the report of a verdict on the trace, from the counts if they are given. Else the records are
+/// counted here, only for a yes.
 pub(crate) fn report_by(
     alloc: Global,
     verdict: &Verdict,
     trace: &Trace,
     counts: Option<Counts>,
 ) -> Result<String, AuditFault>
-    requires verdict { IsVerdict trace.now.records verdict.now }
-    requires counts { IfSome counts (AreCounts trace.now.records) }
+    requires { IfSome counts (AreCounts trace.now.records) }
     ensures text { IfOk result (λ text. string_bytes text ≡ report_of trace.now.records verdict.now) }
     ensures memory { IsOkUnless result AuditFault.Memory }
 {
@@ -125,8 +122,6 @@ pub(crate) fn counts_of(records: &[Record]) -> Counts
 
 /// The report of a no: the task is unfinished at the record.
 fn no_text(alloc: Global, records: &[Record], at: usize, task: u64) -> Result<String, AllocError>
-    requires within { at < length records.now }
-    requires few { length records.now ≤ max_records }
     ensures { IfOk result (λ text. string_bytes text ≡ no_text records.now at task) }
 {
     let place = Place::of(records, at);
@@ -140,8 +135,6 @@ fn late_text(
     at: usize,
     predecessor: u64,
 ) -> Result<String, AllocError>
-    requires within { at < length records.now }
-    requires few { length records.now ≤ max_records }
     ensures { IfOk result (λ text. string_bytes text ≡ late_text records.now at predecessor) }
 {
     let place = Place::of(records, at);
@@ -151,13 +144,14 @@ fn late_text(
 
 /// The task that starts at the record, or the taskwait that is complete there; 0 where there is none.
 fn dependent_at(records: &[Record], at: usize) -> u64
-    requires { at < length records.now }
     ensures { result ≡ dependent_at records.now at }
 {
-    let body = &records[at].body;
-    match body.started() {
+    let Some(event) = records.get(at) else {
+        return 0;
+    };
+    match event.body.started() {
         Some(task) => task,
-        None => body.wait_completed().unwrap_or(0),
+        None => event.body.wait_completed().unwrap_or(0),
     }
 }
 
@@ -168,8 +162,6 @@ fn malformed_text(
     at: usize,
     cause: Cause,
 ) -> Result<String, AllocError>
-    requires within { at < length records.now }
-    requires few { length records.now ≤ max_records }
     ensures { IfOk result (λ text. string_bytes text ≡ malformed_text records.now at cause) }
 {
     let place = Place::of(records, at);
@@ -181,7 +173,8 @@ fn malformed_text(
 /// Where a record stands in the file and among those of its thread.
 #[derive(Clone, Copy)]
 struct Place {
-    line: usize,
+    /// Wide enough for two more than any place.
+    line: u128,
     thread: u8,
     seq: u32,
 }
@@ -189,15 +182,20 @@ struct Place {
 impl Place {
     /// The place of the record; the file's line 1 is the header.
     fn of(records: &[Record], at: usize) -> Place
-        requires within { at < length records.now }
-        requires few { length records.now ≤ max_records }
         ensures { place_text result.line result.thread result.seq ≡ record_place records.now at }
     {
-        let event = &records[at];
-        Place {
-            line: at + 2,
-            thread: event.thread,
-            seq: event.seq,
+        let line = at as u128 + 2;
+        match records.get(at) {
+            Some(event) => Place {
+                line,
+                thread: event.thread,
+                seq: event.seq,
+            },
+            None => Place {
+                line,
+                thread: 0,
+                seq: 0,
+            },
         }
     }
 }
