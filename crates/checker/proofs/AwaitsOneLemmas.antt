@@ -354,6 +354,20 @@ root_runs_on rs a b trace once current gap again root =
 
 -- ---- the facts of a trace of version 2
 
+-- a record at which a task runs next gives turns
+pub starts_told : (rs : List Record) (i task : ℕ) → IsTraceOf 2 rs → at started rs i ≡ Some task
+    → at told_turns rs i ≡ None → ⊥
+starts_told rs i task trace = told (slice_get rs i) refl
+  where
+    told : (o : Option Record) → slice_get rs i ≡ o
+        → option_and_then (λ (r : Record). started r.body) o ≡ Some task
+        → option_and_then (λ (r : Record). told_turns r.body) o ≡ None → ⊥
+    told None e starts none = none-some task starts
+    told (Some r) e starts none =
+        let turned : is_some (told_turns r.body) ≡ is_some (started r.body) =
+        all_get (λ (q : Record). HasItsTurns 2 q.body) rs i r trace.turns e in
+        false≢true (sym (ap is_some none) ∙ turned ∙ ap is_some starts)
+
 pub told_awaits_one : (rs : List Record) (family : FamilyView) → IsTraceOf 2 rs → IsFamilyOf rs family
     → IsFreeOf rs NotCurrent → IsFreeOf rs TurnGap → EachAwaitsOne rs
 told_awaits_one rs family trace are current gap = record {
@@ -372,17 +386,8 @@ told_awaits_one rs family trace are current gap = record {
       ];
   once = λ a b i again explicit suspends.
       suspended_once rs trace are.once current gap again.task again.turn a b explicit again.suspends suspends;
-  alike = λ i k task starts none. absurd (told i task (slice_get rs i) refl starts none);
+  alike = λ i k task starts none. absurd (starts_told rs i task trace starts none);
 }
-  where
-    told : (i task : ℕ) (o : Option Record) → slice_get rs i ≡ o
-        → option_and_then (λ (r : Record). started r.body) o ≡ Some task
-        → option_and_then (λ (r : Record). told_turns r.body) o ≡ None → ⊥
-    told i task None e starts none = none-some task starts
-    told i task (Some r) e starts none =
-        let turned : is_some (told_turns r.body) ≡ is_some (started r.body) =
-        all_get (λ (q : Record). HasItsTurns 2 q.body) rs i r trace.turns e in
-        false≢true (sym (ap is_some none) ∙ turned ∙ ap is_some starts)
 
 -- ---- the facts of a run
 

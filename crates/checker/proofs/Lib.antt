@@ -33,3 +33,4 @@ mod BeforeLemmas
 mod DecidingLemmas
 mod ShareLemmas
 mod UpgradeableLemmas
+mod OneVerdictLemmas

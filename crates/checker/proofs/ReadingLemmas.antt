@@ -259,6 +259,16 @@ of_tasks rs = record {
       at_cases rs i starts.0 ends.0 (own_region rs i ends.0 ends.1).1 starts.1;
 }
 
+-- and so is what is said by the order of the file
+pub of_file : (rs : List Record) → IsOfRecords (by_file rs)
+of_file rs = record {
+  within = λ i task covers. let ends = cover_ends rs i task covers in at_within region rs i ends.0 ends.1;
+  apart = λ i task other covers preceded.
+      let ends = cover_ends rs i task covers in
+      let starts = preceded_starts (by_file rs) i other preceded in
+      at_cases rs i starts.0 ends.0 ends.1 starts.1;
+}
+
 -- ---- what is required, by the definitions of waits and dependences
 
 pub task_required : (rs : List Record) (i task : ℕ)

@@ -1,6 +1,6 @@
-//! What an unfinished task shows about orders, and what turns change in a verdict. These are laws about the
-//! definitions alone, proved for all records. The functions do nothing.
-ghost use Rattle.std.specs.Prelude.{◌↔◌, ℕ, List, Option};
+//! A trace has one verdict; what an unfinished task shows about orders; and what turns change in a verdict.
+//! These are laws about the definitions alone, proved for all records. The functions do nothing.
+ghost use Rattle.std.specs.Prelude.{◌≡◌, ◌↔◌, ℕ, List, Option};
 ghost use Rattle.ompt_events.specs.declared.records.Record.{Record};
 ghost use Rattle.ompt_events.specs.Traces.{IsTraceOf};
 ghost use Rattle.ompt_events.specs.Linearization.{IsLinearization};
@@ -11,6 +11,15 @@ ghost use Rattle.checker.specs.declared.verdict.Verdict.{Verdict};
 ghost use Rattle.checker.specs.Readings.{by_task, by_file, IsRequiredBy};
 ghost use Rattle.checker.specs.Verdicts.{ShowsNone, IsUnfinished, IsMissed, IsVerdict, IsVerdictBy};
 ghost use Rattle.checker.specs.Counter.{IsCounterBy};
+
+/// A trace has one verdict: a yes one order, a no one record, task and reason, and malformed one record and
+/// cause. This holds by each task's own order, and by the order of the file alone.
+pub fn a_trace_has_one_verdict()
+    ensures by_task { (version : ℕ) (rs : List Record) (verdict other : Verdict) → IsTraceOf version rs
+        → IsVerdict rs verdict → IsVerdict rs other → verdict ≡ other }
+    ensures by_file { (version : ℕ) (rs : List Record) (verdict other : Verdict) → IsTraceOf version rs
+        → IsVerdictBy (by_file rs) verdict → IsVerdictBy (by_file rs) other → verdict ≡ other }
+{}
 
 /// Unfinished means missed. Let no cause occur and the records have an order. Then a task that must be
 /// complete at a record is unfinished by what the record has seen if and only if some order of all records,
