@@ -140,7 +140,8 @@ untold_awaits_one rs trace untold still = record {
 abbrev BeginsOnThread : List Record → ℕ → ℕ → Type 0
 BeginsOnThread rs thread task = (k : ℕ) × (thread_at rs k ≡ Some thread) × (at begun_root rs k ≡ Some task)
 
-after_current : (P : ℕ → Type 0) (walk : Walk) (b : Body) → ((task : ℕ) → begun_root b ≡ Some task → P task)
+pub after_current : (P : ℕ → Type 0) (walk : Walk) (b : Body)
+    → ((task : ℕ) → begun_root b ≡ Some task → P task)
     → ((task : ℕ) → started b ≡ Some task → P task)
     → Every P walk.roots → ((task : ℕ) → walk.current ≡ Some task → P task) → (task : ℕ)
     → (after_body walk b).current ≡ Some task → P task
@@ -223,7 +224,8 @@ begins_once rs task one other once (k, on, begins) (j, on', begins') =
 
 -- ---- along a thread no turn falls
 
-turn_greatest : (rs : List Record) (thread task : ℕ) → IsTraceOf 2 rs → IsFreeOf rs TurnGap → (n k turn : ℕ)
+pub turn_greatest : (rs : List Record) (thread task : ℕ) → IsTraceOf 2 rs → IsFreeOf rs TurnGap
+    → (n k turn : ℕ)
     → k < n → thread_at rs k ≡ Some thread → at begun_turn rs k ≡ Some (task, turn)
     → turn ≤ turn_in task (part_of rs thread n)
 turn_greatest rs thread task trace gap n =

@@ -34,3 +34,6 @@ mod DecidingLemmas
 mod ShareLemmas
 mod UpgradeableLemmas
 mod OneVerdictLemmas
+mod TurnEndLemmas
+mod OwnTurnLemmas
+mod KeptOrderLemmas

@@ -34,8 +34,8 @@ RanOnThread rs thread n task =
     (k : ℕ) × (k < n) × (at started rs k ≡ Some task) × (thread_at rs k ≡ Some thread)
 
 -- the open roots of the walk began so, and so did the task that runs, or it ran next
-record IsWalkFrom (rs : List Record) (thread n : ℕ) (walk : Walk) : Type 0 where
-  roots : Every (BeganOn rs thread n) walk.roots
+pub record IsWalkFrom (rs : List Record) (thread n : ℕ) (walk : Walk) : Type 0 where
+  pub roots : Every (BeganOn rs thread n) walk.roots
   current : (task : ℕ) → walk.current ≡ Some task → BeganOn rs thread n task ⊎ RanOnThread rs thread n task
 
 -- what the record at n adds
@@ -79,7 +79,7 @@ after_from rs thread n walk (TaskSchedule status turns prior next claimed) adds 
     by false = from
 after_from rs thread n walk _ adds from = from
 
-walk_from : (rs : List Record) (thread n : ℕ) → IsWalkFrom rs thread n (walk_of thread (take n rs))
+pub walk_from : (rs : List Record) (thread n : ℕ) → IsWalkFrom rs thread n (walk_of thread (take n rs))
 walk_from rs thread n =
     part_keeps rs thread P (record { roots = tt; current = λ task is. absurd (none-some task is) }) own
     (λ m apart from. from_more rs thread m (walk_of thread (take m rs)) from) n
@@ -161,7 +161,7 @@ begun_once rs task a b once one other =
 -- ---- one thread
 
 -- two options of numbers are the same or not
-same_or_not : (a b : Option ℕ) → (a ≡ b) ⊎ (a ≢ b)
+pub same_or_not : (a b : Option ℕ) → (a ≡ b) ⊎ (a ≢ b)
 same_or_not None None = inl refl
 same_or_not None (Some y) = inr (λ is. none-some y is)
 same_or_not (Some x) None = inr (λ is. none-some x (sym is))

@@ -1,9 +1,13 @@
 //! A trace has one verdict; what an unfinished task shows about orders; and what turns change in a verdict.
 //! These are laws about the definitions alone, proved for all records. The functions do nothing.
-ghost use Rattle.std.specs.Prelude.{◌≡◌, ◌↔◌, ℕ, List, Option};
+ghost use Rattle.std.specs.Prelude.{◌≡◌, ◌≢◌, ◌<◌, ◌↔◌, ℕ, true, List, Option, Some};
 ghost use Rattle.ompt_events.specs.declared.records.Record.{Record};
+ghost use Rattle.ompt_events.specs.Records.{begun_root, started};
+ghost use Rattle.ompt_events.specs.Places.{at, is_own};
 ghost use Rattle.ompt_events.specs.Traces.{IsTraceOf};
-ghost use Rattle.ompt_events.specs.Linearization.{IsLinearization};
+ghost use Rattle.ompt_events.specs.Turns.{own_place};
+ghost use Rattle.ompt_events.specs.HappensBefore.{IsStart};
+ghost use Rattle.ompt_events.specs.Linearization.{IsEarlier, IsLinearization};
 ghost use Rattle.ompt_events.specs.Upgrades.{IsUpgrade, MovesNowhere};
 ghost use Rattle.ompt_events.specs.Violations as violations;
 ghost use Rattle.task_tree.specs.Rising.{TurnsRise};
@@ -28,6 +32,25 @@ pub fn unfinished_is_missed()
     ensures { (rs : List Record) (order : List ℕ) (i task : ℕ)
         → ShowsNone (by_task rs) → IsLinearization rs order
         → IsUnfinished (by_task rs) i task ↔ IsMissed (by_task rs) i task }
+{}
+
+/// Each order that the records allow keeps each task's own order. Let a trace show no cause, and let the
+/// order be a linearization of its records.
+///
+/// - `own_order`: of two records of one task, the one that is earlier in the task's own order is earlier.
+/// - `starts`: the record that first starts a task is earlier than each record at which the task resumes.
+/// - `begins`: the record that begins an initial or implicit task is earlier than each at which it resumes.
+pub fn each_order_keeps_every_tasks_own_order()
+    ensures own_order { (version : ℕ) (rs : List Record) (order : List ℕ) → IsTraceOf version rs
+        → ShowsNone (by_task rs) → IsLinearization rs order
+        → (task i k : ℕ) → is_own rs task i ≡ true → is_own rs task k ≡ true
+        → own_place rs i < own_place rs k → IsEarlier order i k }
+    ensures starts { (version : ℕ) (rs : List Record) (order : List ℕ) → IsTraceOf version rs
+        → ShowsNone (by_task rs) → IsLinearization rs order
+        → (task i k : ℕ) → IsStart rs i task → at started rs k ≡ Some task → i ≢ k → IsEarlier order i k }
+    ensures begins { (rs : List Record) (order : List ℕ) → ShowsNone (by_task rs) → IsLinearization rs order
+        → (task i k : ℕ) → at begun_root rs i ≡ Some task → at started rs k ≡ Some task
+        → IsEarlier order i k }
 {}
 
 /// Where no task's turns fall along the file, the order of the file alone gives the same verdict as each

@@ -1,0 +1,325 @@
+-- On which thread the records of a task are, and in which order there: each of them comes after the record of
+-- its thread that began its turn, and none comes after the suspension that ends it.
+use Rattle.std.proofs.Common.{◌≡◌, ◌≢◌, ◌∙◌, ℕ, ◌<◌, ◌≤◌, ◌+◌, List, [], ◌∷◌, ◌++◌, Option, Some, None, Bool}
+use Rattle.std.proofs.Common.{true, false, cond, refl, sym, ap, subst, arith, inl, inr}
+use Rattle.std.proofs.lemmas.Bool.{cases_eq, cases_lt, eq-eqb, ne_eqb}
+use Rattle.std.proofs.lemmas.Option.{none-some, same_Some}
+use Rattle.std.proofs.lemmas.List.Sums.{fold-append}
+use Rattle.std.specs.Prelude.{◌==◌, slice_get, option_and_then, option_map, fold, take}
+use Rattle.std.specs.Option.{option_map_or}
+use Rattle.ompt_events.specs.declared.records.Record.{Record}
+use Rattle.ompt_events.specs.declared.records.Body.{Body}
+use Rattle.ompt_events.specs.declared.records.Body.TheVariants.{TaskSchedule}
+use Rattle.ompt_events.specs.declared.cause.Cause.TheVariants.{CreatedTwice, NotCurrent, TurnGap}
+use Rattle.ompt_events.specs.Names.{demands_next}
+use Rattle.ompt_events.specs.Records.{begun_root, running, started, stopped, next_turn, begun_turn}
+use Rattle.ompt_events.specs.Places.{at, thread_at}
+use Rattle.ompt_events.specs.Tree.{IsRoot}
+use Rattle.ompt_events.specs.Threads.{Walk, at_start, after_body, after_record, walk_of}
+use Rattle.ompt_events.specs.Turns.{turn_after, turn_in, turn_at}
+use Rattle.ompt_events.specs.Traces.{IsTraceOf}
+use Rattle.ompt_events.specs.Causes.{IsFreeOf}
+use Rattle.ompt_events.proofs.PlaceLemmas.{get_at}
+use Rattle.ompt_events.proofs.EveryLemmas.{every_weaker}
+use Rattle.task_tree.proofs.SuspendedLemmas.{runs_there, part_of, part_keeps, turn_here}
+use Rattle.checker.proofs.AwaitsOneLemmas.{after_current, turn_greatest}
+use Rattle.checker.proofs.UpgradeWalkLemmas.{BeganOn, running_from, root_from, walk_from, begun_once}
+
+-- ---- the last start on a thread
+
+-- of the records of the thread before n the last that starts the task; it begins this turn
+pub record LastBegun (rs : List Record) (thread n task turn : ℕ) : Type 0 where
+  pub place : ℕ
+  pub earlier : place < n
+  pub on : thread_at rs place ≡ Some thread
+  pub begins : at begun_turn rs place ≡ Some (task, turn)
+  pub last : (k : ℕ) → place < k → k < n → thread_at rs k ≡ Some thread → at started rs k ≢ Some task
+
+-- no record of the thread before n starts the task
+abbrev NoneBegun : List Record → ℕ → ℕ → ℕ → Type 0
+NoneBegun rs thread n task =
+    (k : ℕ) → k < n → thread_at rs k ≡ Some thread → at started rs k ≢ Some task
+
+-- what is known of the turn of the task on the thread
+data TurnKnown (rs : List Record) (thread n task turn : ℕ) : Type 0 where
+  not_begun : NoneBegun rs thread n task → turn ≡ 0 → TurnKnown rs thread n task turn
+  is_begun : LastBegun rs thread n task turn → TurnKnown rs thread n task turn
+
+none_more : (rs : List Record) (thread n task : ℕ) → NoneBegun rs thread n task
+    → (thread_at rs n ≡ Some thread → at started rs n ≢ Some task) → NoneBegun rs thread (n + 1) task
+none_more rs thread n task none here k below on = elim (cases_eq k n) [
+  | inl same ↦ λ starts. here (ap (thread_at rs) (sym same) ∙ on) (ap (at started rs) (sym same) ∙ starts)
+  | inr apart ↦ none k (omega (arith, below, apart)) on
+]
+
+last_more : (rs : List Record) (thread n task turn : ℕ) → LastBegun rs thread n task turn
+    → (thread_at rs n ≡ Some thread → at started rs n ≢ Some task)
+    → LastBegun rs thread (n + 1) task turn
+last_more rs thread n task turn known here = record {
+  place = known.place;
+  earlier = let e = known.earlier in omega arith;
+  on = known.on;
+  begins = known.begins;
+  last = λ k above below on. elim (cases_eq k n) [
+    | inl same ↦
+        λ starts. here (ap (thread_at rs) (sym same) ∙ on) (ap (at started rs) (sym same) ∙ starts)
+    | inr apart ↦ known.last k above (omega (arith, below, apart)) on
+  ];
+}
+
+known_more : (rs : List Record) (thread n task turn : ℕ) → TurnKnown rs thread n task turn
+    → (thread_at rs n ≡ Some thread → at started rs n ≢ Some task) → TurnKnown rs thread (n + 1) task turn
+known_more rs thread n task turn (not_begun none zero_turn) here =
+    not_begun (none_more rs thread n task none here) zero_turn
+known_more rs thread n task turn (is_begun known) here = is_begun (last_more rs thread n task turn known here)
+
+-- the turn that the thread knows is that of the last start there
+turn_known : (rs : List Record) (thread task n : ℕ)
+    → TurnKnown rs thread n task (turn_in task (part_of rs thread n))
+turn_known rs thread task n =
+    part_keeps rs thread (λ m l. TurnKnown rs thread m task (turn_in task l))
+    (not_begun (λ k below. absurd (omega (arith, below))) refl) own
+    (λ m apart before.
+    known_more rs thread m task (turn_in task (part_of rs thread m)) before (λ on. absurd (apart on))) n
+  where
+    own : (m : ℕ) (r : Record) → slice_get rs m ≡ Some r → r.thread ≡ thread
+        → TurnKnown rs thread m task (turn_in task (part_of rs thread m))
+        → TurnKnown rs thread (m + 1) task (turn_in task (part_of rs thread m ++ r ∷ []))
+    own m r stands same before =
+        subst (TurnKnown rs thread (m + 1) task)
+        (sym (fold-append (turn_after task) 0 (part_of rs thread m) (r ∷ []))) (by (started r.body) refl)
+      where
+        old : ℕ
+        old = turn_in task (part_of rs thread m)
+
+        says : at started rs m ≡ started r.body
+        says = ap (option_and_then (λ (q : Record). started q.body)) stands
+
+        new : Option ℕ → ℕ
+        new s =
+            option_map_or (λ (b : ℕ × ℕ). cond (b.0 == task) b.1 old)
+            (option_map {U = ℕ × ℕ} (λ t. (t, next_turn r.body)) s) old
+
+        by : (s : Option ℕ) → started r.body ≡ s → TurnKnown rs thread (m + 1) task (new s)
+        by None is =
+            known_more rs thread m task old before
+            (λ on starts. none-some task (sym (says ∙ is) ∙ starts))
+        by (Some t) is = elim (cases_eq t task) [
+          | inl own_task ↦
+              subst (λ b. TurnKnown rs thread (m + 1) task (cond b (next_turn r.body) old))
+              (sym (eq-eqb t task own_task))
+              (is_begun (record {
+                place = m;
+                earlier = omega arith;
+                on = ap (option_map (λ (q : Record). q.thread)) stands ∙ ap Some same;
+                begins =
+                    ap (option_and_then (λ (q : Record). begun_turn q.body)) stands
+                    ∙ ap (option_map {U = ℕ × ℕ} (λ u. (u, next_turn r.body))) (is ∙ ap Some own_task);
+                last = λ k above below on. absurd (omega (arith, above, below));
+              }))
+          | inr apart ↦
+              subst (λ b. TurnKnown rs thread (m + 1) task (cond b (next_turn r.body) old))
+              (sym (ne_eqb t task apart))
+              (known_more rs thread m task old before
+              (λ on starts. apart (same_Some t task (sym (says ∙ is) ∙ starts))))
+        ]
+
+-- along a thread no turn of a task falls
+turn_rises : (rs : List Record) (thread task m n : ℕ) → IsTraceOf 2 rs → IsFreeOf rs TurnGap → m ≤ n
+    → turn_in task (part_of rs thread m) ≤ turn_in task (part_of rs thread n)
+turn_rises rs thread task m n trace gap low = of (turn_known rs thread task m)
+  where
+    of : TurnKnown rs thread m task (turn_in task (part_of rs thread m))
+        → turn_in task (part_of rs thread m) ≤ turn_in task (part_of rs thread n)
+    of (not_begun none zero_turn) = omega (arith, zero_turn)
+    of (is_begun known) =
+        let e = known.earlier in
+        turn_greatest rs thread task trace gap n known.place (turn_in task (part_of rs thread m))
+        (omega (arith, e, low)) known.on known.begins
+
+-- of two records of a task on one thread the one in the later turn is later in the file
+pub later_turn_later : (rs : List Record) (task i k : ℕ) → IsTraceOf 2 rs → IsFreeOf rs TurnGap
+    → at running rs i ≡ Some task → at running rs k ≡ Some task → thread_at rs i ≡ thread_at rs k
+    → turn_at rs i < turn_at rs k → i < k
+later_turn_later rs task i k trace gap one other same less = elim (cases_lt i k) [
+  | inl before ↦ before
+  | inr after ↦
+      let (r, stands, runs) = get_at running rs i task one in
+      let (q, stands', runs') = get_at running rs k task other in
+      let threads : q.thread ≡ r.thread =
+      same_Some q.thread r.thread
+      (sym (ap (option_map (λ (x : Record). x.thread)) stands') ∙ sym same
+      ∙ ap (option_map (λ (x : Record). x.thread)) stands) in
+      let here : turn_at rs i ≡ turn_in task (part_of rs r.thread i) = turn_here rs i task r stands runs in
+      let there : turn_at rs k ≡ turn_in task (part_of rs r.thread k) =
+      turn_here rs k task q stands' runs' ∙ ap (λ t. turn_in task (part_of rs t k)) threads in
+      let rises = turn_rises rs r.thread task k i trace gap after in
+      absurd (omega (arith, here, there, rises, less))
+]
+
+-- ---- where a task's own records are
+
+-- what is known of a record of the task: its thread, and the start there of its turn
+pub record OwnTurn (rs : List Record) (i task : ℕ) : Type 0 where
+  pub thread : ℕ
+  pub on : thread_at rs i ≡ Some thread
+  pub known : LastBegun rs thread i task (turn_at rs i)
+
+pub own_turn : (rs : List Record) (i task : ℕ) → IsFreeOf rs NotCurrent → (IsRoot rs task → ⊥)
+    → at running rs i ≡ Some task → OwnTurn rs i task
+own_turn rs i task current not_root runs =
+    let (r, stands, is) = get_at running rs i task runs in
+    let from = running_from rs i task current runs in
+    let on : thread_at rs i ≡ Some r.thread = ap (option_map (λ (q : Record). q.thread)) stands in
+    let same : from.thread ≡ r.thread = same_Some from.thread r.thread (sym from.on ∙ on) in
+    elim from.is_known [
+      | inl (k, below, begins, there) ↦ absurd (not_root (k, begins))
+      | inr (k, below, starts, there) ↦ record {
+        thread = r.thread;
+        on = on;
+        known =
+            subst (LastBegun rs r.thread i task) (sym (turn_here rs i task r stands is))
+            (begun (turn_known rs r.thread task i) k below starts (there ∙ ap Some same));
+      }
+    ]
+  where
+    begun : {thread turn : ℕ} → TurnKnown rs thread i task turn → (k : ℕ) → k < i
+        → at started rs k ≡ Some task → thread_at rs k ≡ Some thread → LastBegun rs thread i task turn
+    begun (not_begun none zero_turn) k below starts there = absurd (none k below there starts)
+    begun (is_begun known) k below starts there = known
+
+-- a root runs next on the thread on which it began, and after that
+pub root_next : (rs : List Record) (i task s : ℕ) → IsFreeOf rs CreatedTwice → IsFreeOf rs NotCurrent
+    → at begun_root rs s ≡ Some task → at started rs i ≡ Some task
+    → (s < i) × (thread_at rs s ≡ thread_at rs i)
+root_next rs i task s once current begins starts =
+    let from = root_from rs i task current (s, begins) starts in
+    let (k, below, begins', there) = from.is_known in
+    let same = begun_once rs task s k once begins begins' in
+    (omega (arith, below, same), ap (thread_at rs) same ∙ there ∙ sym from.on)
+
+-- and so are its own records
+pub root_own : (rs : List Record) (i task s : ℕ) → IsFreeOf rs CreatedTwice → IsFreeOf rs NotCurrent
+    → at begun_root rs s ≡ Some task → at running rs i ≡ Some task → thread_at rs s ≡ thread_at rs i
+root_own rs i task s once current begins runs =
+    let from = running_from rs i task current runs in
+    elim from.is_known [
+      | inl (k, below, begins', there) ↦
+          ap (thread_at rs) (begun_once rs task s k once begins begins') ∙ there ∙ sym from.on
+      | inr (k, below, starts, there) ↦
+          (root_next rs k task s once current begins starts).1 ∙ there ∙ sym from.on
+    ]
+
+-- ---- after a suspension
+
+next_runs : (walk : Walk) (b : Body) (task : ℕ) → stopped b ≡ Some task
+    → (after_body walk b).current ≡ started b
+next_runs walk (TaskSchedule status turns prior next claimed) task stops = by (demands_next status) stops
+  where
+    by : (d : Bool) → cond d (Some prior) None ≡ Some task
+        → (cond d (record { roots = walk.roots; current = next }) walk).current ≡ next
+    by true is = refl
+    by false is = absurd (none-some task is)
+next_runs walk _ task stops = absurd (none-some task stops)
+
+-- a record of the thread from a on, before n, starts the task
+pub record StartsAgain (rs : List Record) (thread a n task : ℕ) : Type 0 where
+  pub place : ℕ
+  pub not_before : a ≤ place
+  pub earlier : place < n
+  pub on : thread_at rs place ≡ Some thread
+  pub starts : at started rs place ≡ Some task
+
+again_more : (rs : List Record) (thread a n task : ℕ) → StartsAgain rs thread a n task
+    → StartsAgain rs thread a (n + 1) task
+again_more rs thread a n task again = record {
+  place = again.place;
+  not_before = again.not_before;
+  earlier = let e = again.earlier in omega arith;
+  on = again.on;
+  starts = again.starts;
+}
+
+-- a thread that has stopped a task runs it only after another start of it
+runs_again : (rs : List Record) (thread a task : ℕ) → (IsRoot rs task → ⊥) → thread_at rs a ≡ Some thread
+    → at stopped rs a ≡ Some task → (n : ℕ) → a < n
+    → (walk_of thread (take n rs)).current ≡ Some task → StartsAgain rs thread a n task
+runs_again rs thread a task not_root on stops n =
+    part_keeps rs thread P (λ below. absurd (omega (arith, below))) own other n
+  where
+    P : ℕ → List Record → Type 0
+    P m l = a < m → (fold after_record at_start l).current ≡ Some task → StartsAgain rs thread a m task
+
+    other : (m : ℕ) → thread_at rs m ≢ Some thread → P m (part_of rs thread m)
+        → P (m + 1) (part_of rs thread m)
+    other m apart before below runs = elim (cases_eq a m) [
+      | inl same ↦ absurd (apart (ap (thread_at rs) (sym same) ∙ on))
+      | inr less ↦ again_more rs thread a m task (before (omega (arith, below, less)) runs)
+    ]
+
+    own : (m : ℕ) (r : Record) → slice_get rs m ≡ Some r → r.thread ≡ thread → P m (part_of rs thread m)
+        → P (m + 1) (part_of rs thread m ++ r ∷ [])
+    own m r stands same before below runs = elim (cases_eq a m) [
+      | inl here ↦
+          starts_here
+          (sym (next_runs walk r.body task (stops_here here)) ∙ now)
+      | inr less ↦
+          after_current (λ t. t ≡ task → StartsAgain rs thread a (m + 1) task) walk r.body
+          (λ t begins is.
+          absurd
+          (not_root
+          (m, ap (option_and_then (λ (q : Record). begun_root q.body)) stands ∙ begins ∙ ap Some is)))
+          (λ t starts is. starts_here (starts ∙ ap Some is))
+          (every_weaker (BeganOn rs thread m) (λ t. t ≡ task → StartsAgain rs thread a (m + 1) task)
+          (λ t began is. absurd (not_root (began.0, began.2 ∙ ap Some is))) walk.roots
+          (walk_from rs thread m).roots)
+          (λ t current is.
+          again_more rs thread a m task (before (omega (arith, below, less)) (current ∙ ap Some is)))
+          task now refl
+    ]
+      where
+        walk : Walk
+        walk = walk_of thread (take m rs)
+
+        now : (after_body walk r.body).current ≡ Some task
+        now =
+            sym
+            (ap (λ (w : Walk). w.current) (fold-append after_record at_start (part_of rs thread m) (r ∷ [])))
+            ∙ runs
+
+        stops_here : a ≡ m → stopped r.body ≡ Some task
+        stops_here here =
+            sym (ap (option_and_then (λ (q : Record). stopped q.body)) stands)
+            ∙ ap (at stopped rs) (sym here) ∙ stops
+
+        starts_here : started r.body ≡ Some task → StartsAgain rs thread a (m + 1) task
+        starts_here starts = record {
+          place = m;
+          not_before = omega (arith, below);
+          earlier = omega arith;
+          on = ap (option_map (λ (q : Record). q.thread)) stands ∙ ap Some same;
+          starts = ap (option_and_then (λ (q : Record). started q.body)) stands ∙ starts;
+        }
+
+-- no record of the task in the turn that a record of its thread stops comes after that
+pub none_after_stop : (rs : List Record) (task a i : ℕ) → IsFreeOf rs NotCurrent → (IsRoot rs task → ⊥)
+    → at stopped rs a ≡ Some task → (stop : OwnTurn rs a task) → at running rs i ≡ Some task
+    → (own : OwnTurn rs i task) → own.known.place ≡ stop.known.place → i ≤ a
+none_after_stop rs task a i current not_root stops stop runs own same = elim (cases_lt a i) [
+  | inr before ↦ before
+  | inl after ↦
+      let (r, stands, is) = get_at running rs i task runs in
+      let threads : stop.thread ≡ own.thread =
+      same_Some stop.thread own.thread
+      (sym stop.known.on ∙ ap (thread_at rs) (sym same) ∙ own.known.on) in
+      let r_thread : r.thread ≡ own.thread =
+      same_Some r.thread own.thread (sym (ap (option_map (λ (q : Record). q.thread)) stands) ∙ own.on) in
+      let again =
+      runs_again rs own.thread a task not_root (stop.on ∙ ap Some threads) stops i after
+      (subst (λ t. (walk_of t (take i rs)).current ≡ Some task) r_thread
+      (runs_there rs i task r current stands is)) in
+      let e = stop.known.earlier in
+      let low = again.not_before in
+      absurd
+      (own.known.last again.place (omega (arith, same, e, low)) again.earlier again.on again.starts)
+]
