@@ -3,7 +3,7 @@
 ghost use Rattle.std.specs.Prelude.{◌≡◌, ◌∷◌, IfSome};
 ghost use Rattle.lines.specs.InFront.{AreMembersInFront, IsRecordInFront, IsRecordInside, status_tail_members, task_tail_members};
 
-use crate::others::{after_both, after_others, past_first_others};
+use crate::others::{Between, Nothing, Others, after_both, past_first_others};
 use crate::parts::{
     after, byte, cancel_flags, deps, endpoint, id_or_null, number, path, short, status, sync_kind,
     task_flags, thread_kind, truth,
@@ -29,15 +29,15 @@ macro_rules! take_value {
     (deps $alloc:ident $rest:ident) => { deps($alloc, $rest) };
 }
 
-// A part of a line, behind members that are not known: a whole member where there is one, a text, and a value.
+// A part of a line: a whole member where there is one, a text, and a value. What may stand before it is named.
 macro_rules! take_part {
-    ($alloc:ident $rest:ident $text:literal $kind:ident $value:ident) => {
-        let Some($rest) = after_others($rest, $text) else { return None; };
+    ($before:ident $alloc:ident $rest:ident $text:literal $kind:ident $value:ident) => {
+        let Some($rest) = $before::after($rest, $text) else { return None; };
         let Some(($value, $rest)) = take_value!($kind $alloc $rest) else { return None; };
     };
-    ($alloc:ident $rest:ident $whole:literal $text:literal $kind:ident $value:ident) => {
-        let Some($rest) = after_others($rest, $whole) else { return None; };
-        take_part!($alloc $rest $text $kind $value);
+    ($before:ident $alloc:ident $rest:ident $whole:literal $text:literal $kind:ident $value:ident) => {
+        let Some($rest) = $before::after($rest, $whole) else { return None; };
+        take_part!($before $alloc $rest $text $kind $value);
     };
 }
 
@@ -57,22 +57,29 @@ macro_rules! take_first {
 
 // What follows the parts of a line.
 macro_rules! take_rest {
-    (end $rest:ident) => { let Some($rest) = after_others($rest, "}") else { return None; }; };
-    ($tail:ident $rest:ident $first:ident $second:ident $third:ident $fourth:ident) => {
-        let Some((($first, $second, $third, $fourth), $rest)) = $tail($rest) else { return None; };
+    ($between:ident end $rest:ident) => {
+        let Some($rest) = Others::after($rest, "}") else { return None; };
+    };
+    ($between:ident $tail:ident $rest:ident $first:ident $second:ident $third:ident $fourth:ident) => {
+        let Some((($first, $second, $third, $fourth), $rest)) = $tail::<$between>($rest) else {
+            return None;
+        };
     };
 }
 
-// The parts of a line, what follows them, and then what they make.
+// The parts of a line, what follows them, and then what they make. A recorder's own members mostly stand
+// before the second part, or at the end: there they are always looked for.
 macro_rules! take_line {
     (
-        ($alloc:ident $rest:ident $made:tt)
+        ($between:ident $alloc:ident $rest:ident $made:tt)
         $($first:literal)+ $first_kind:ident $first_value:ident
-        $(, $($text:literal)+ $kind:ident $value:ident)*; $tail:ident $($last:ident)*
+        $(, $($second:literal)+ $second_kind:ident $second_value:ident
+            $(, $($text:literal)+ $kind:ident $value:ident)*)?; $tail:ident $($last:ident)*
     ) => {{
         take_first!($alloc $rest $($first)+ $first_kind $first_value);
-        $(take_part!($alloc $rest $($text)+ $kind $value);)*
-        take_rest!($tail $rest $($last)*);
+        $(take_part!(Others $alloc $rest $($second)+ $second_kind $second_value);
+            $(take_part!($between $alloc $rest $($text)+ $kind $value);)*)?
+        take_rest!($between $tail $rest $($last)*);
         Some(($made, $rest))
     }};
 }
@@ -80,151 +87,150 @@ macro_rules! take_line {
 // The last members of a line, its end, and then what they make.
 macro_rules! take_tail {
     (
-        ($alloc:ident $rest:ident $made:tt)
+        ($between:ident $alloc:ident $rest:ident $made:tt)
         $($text:literal $kind:ident $value:ident),*; $tail:ident $($last:ident)*
     ) => {{
-        $(take_part!($alloc $rest $text $kind $value);)*
-        take_rest!($tail $rest $($last)*);
+        $(take_part!($between $alloc $rest $text $kind $value);)*
+        take_rest!($between $tail $rest $($last)*);
         Some(($made, $rest))
     }};
 }
 
 /// Returns the record of a line in written form that a text begins with, and what follows the line; none
 /// where the text begins with no such line, or out of memory. Looks for turns in version 2 alone. Such a line
-/// has no spaces, and its members stand in the order of their names. Those that the format does not know
-/// change nothing, but none stands first.
+/// has no spaces, and its members stand in the order of their names. Members that the format does not know
+/// are passed where recorders write them, and elsewhere by [`among_others`].
 #[inline(always)]
 pub(crate) fn canonical(alloc: Global, version: u32, line: &[u8]) -> Option<(Record, &[u8])>
     ensures { IfSome result (λ taken. IsRecordInFront line.now taken.0 taken.1.now) }
 {
     let inside = after(line, "{")?;
-    let (event, behind) = members(alloc, version, inside)?;
-    Some((event, behind))
+    members::<Nothing>(alloc, version, inside)
 }
 
-/// Returns the record of such a line if the format does not know its first members, and what follows the line.
-pub(crate) fn behind_others(alloc: Global, version: u32, line: &[u8]) -> Option<(Record, &[u8])>
+/// Returns the record of such a line, and what follows the line. Members that the format does not know may
+/// stand anywhere in it.
+pub(crate) fn among_others(alloc: Global, version: u32, line: &[u8]) -> Option<(Record, &[u8])>
     ensures { IfSome result (λ taken. IsRecordInFront line.now taken.0 taken.1.now) }
 {
     let first = after(line, "{")?;
-    let inside = past_first_others(first)?;
-    let (event, behind) = members(alloc, version, inside)?;
-    Some((event, behind))
+    let inside = past_first_others(first);
+    members::<Others>(alloc, version, inside)
 }
 
 /// Reads the members of a line, and its end.
 #[inline(always)]
-fn members(alloc: Global, version: u32, inside: &[u8]) -> Option<(Record, &[u8])>
+fn members<B: Between>(alloc: Global, version: u32, inside: &[u8]) -> Option<(Record, &[u8])>
     ensures { IfSome result (λ taken. IsRecordInside inside.now taken.0 taken.1.now) }
 {
     match inside.get(6) {
-        Some(b'p') => parallel(inside),
-        Some(b's') => sync_region(inside),
-        Some(b'd') => dependences(alloc, inside),
-        Some(b'c') => cancel(alloc, inside),
-        Some(b't') => task_or_thread(alloc, version, inside),
-        _ => implicit_task(inside),
+        Some(b'p') => parallel::<B>(inside),
+        Some(b's') => sync_region::<B>(inside),
+        Some(b'd') => dependences::<B>(alloc, inside),
+        Some(b'c') => cancel::<B>(alloc, inside),
+        Some(b't') => task_or_thread::<B>(alloc, version, inside),
+        _ => implicit_task::<B>(inside),
     }
 }
 
 /// Reads the line of a parallel region.
-fn parallel(inside: &[u8]) -> Option<(Record, &[u8])>
+fn parallel<B: Between>(inside: &[u8]) -> Option<(Record, &[u8])>
     ensures { IfSome result (λ taken. IsRecordInside inside.now taken.0 taken.1.now) }
 {
     match inside.get(15) {
-        Some(b'b') => parallel_begin(inside),
-        _ => parallel_end(inside),
+        Some(b'b') => parallel_begin::<B>(inside),
+        _ => parallel_end::<B>(inside),
     }
 }
 
 /// Reads a `cancel`.
-fn cancel(alloc: Global, inside: &[u8]) -> Option<(Record, &[u8])>
+fn cancel<B: Between>(alloc: Global, inside: &[u8]) -> Option<(Record, &[u8])>
     ensures { IfSome result (λ taken. IsRecordInside inside.now taken.0 taken.1.now) }
 {
-    match discarding(alloc, inside) {
+    match discarding::<B>(alloc, inside) {
         Some(taken) => Some(taken),
-        None => cancelling(inside),
+        None => cancelling::<B>(inside),
     }
 }
 
 /// Reads the line of a task that is created or scheduled, or of a thread.
-fn task_or_thread(alloc: Global, version: u32, inside: &[u8]) -> Option<(Record, &[u8])>
+fn task_or_thread<B: Between>(alloc: Global, version: u32, inside: &[u8]) -> Option<(Record, &[u8])>
     ensures { IfSome result (λ taken. IsRecordInside inside.now taken.0 taken.1.now) }
 {
     match inside.get(11) {
-        Some(b'c') => task_create(inside),
-        Some(b's') => task_schedule(alloc, version, inside),
-        _ => thread(inside),
+        Some(b'c') => task_create::<B>(inside),
+        Some(b's') => task_schedule::<B>(alloc, version, inside),
+        _ => thread::<B>(inside),
     }
 }
 
 /// Reads a `task_schedule`.
-fn task_schedule(alloc: Global, version: u32, inside: &[u8]) -> Option<(Record, &[u8])>
+fn task_schedule<B: Between>(alloc: Global, version: u32, inside: &[u8]) -> Option<(Record, &[u8])>
     ensures { IfSome result (λ taken. IsRecordInside inside.now taken.0 taken.1.now) }
 {
-    match in_turn(alloc, version, inside) {
+    match in_turn::<B>(alloc, version, inside) {
         Some(taken) => Some(taken),
-        None => without_turns(alloc, inside),
+        None => without_turns::<B>(alloc, inside),
     }
 }
 
 /// Reads a `task_schedule` with turns: in version 2 alone.
-fn in_turn(alloc: Global, version: u32, inside: &[u8]) -> Option<(Record, &[u8])>
+fn in_turn<B: Between>(alloc: Global, version: u32, inside: &[u8]) -> Option<(Record, &[u8])>
     ensures { IfSome result (λ taken. IsRecordInside inside.now taken.0 taken.1.now) }
 {
     if version != 2 {
         return None;
     }
     match inside.get(22) {
-        Some(b'k') => finishing_in_turn(alloc, inside),
-        _ => switching_in_turn(inside),
+        Some(b'k') => finishing_in_turn::<B>(alloc, inside),
+        _ => switching_in_turn::<B>(inside),
     }
 }
 
 /// Reads a `task_schedule` without turns.
-fn without_turns(alloc: Global, inside: &[u8]) -> Option<(Record, &[u8])>
+fn without_turns<B: Between>(alloc: Global, inside: &[u8]) -> Option<(Record, &[u8])>
     ensures { IfSome result (λ taken. IsRecordInside inside.now taken.0 taken.1.now) }
 {
     match inside.get(22) {
-        Some(b'k') => finishing(alloc, inside),
-        _ => switching(inside),
+        Some(b'k') => finishing::<B>(alloc, inside),
+        _ => switching::<B>(inside),
     }
 }
 
 /// Reads the line of a thread.
-fn thread(inside: &[u8]) -> Option<(Record, &[u8])>
+fn thread<B: Between>(inside: &[u8]) -> Option<(Record, &[u8])>
     ensures { IfSome result (λ taken. IsRecordInside inside.now taken.0 taken.1.now) }
 {
     match inside.get(13) {
-        Some(b'b') => thread_begin(inside),
-        _ => thread_end(inside),
+        Some(b'b') => thread_begin::<B>(inside),
+        _ => thread_end::<B>(inside),
     }
 }
 
 /// Reads `thread_begin`.
-fn thread_begin(inside: &[u8]) -> Option<(Record, &[u8])>
+fn thread_begin<B: Between>(inside: &[u8]) -> Option<(Record, &[u8])>
     ensures { IfSome result (λ taken. IsRecordInside inside.now taken.0 taken.1.now) }
 {
     line_parts!(thread_begin take_line
-        (_alloc inside (Record { thread, seq, seen, body: Body::ThreadBegin { kind } }))
+        (B _alloc inside (Record { thread, seq, seen, body: Body::ThreadBegin { kind } }))
         kind seen seq thread)
 }
 
 /// Reads `thread_end`.
-fn thread_end(inside: &[u8]) -> Option<(Record, &[u8])>
+fn thread_end<B: Between>(inside: &[u8]) -> Option<(Record, &[u8])>
     ensures { IfSome result (λ taken. IsRecordInside inside.now taken.0 taken.1.now) }
 {
     line_parts!(thread_end take_line
-        (_alloc inside (Record { thread, seq, seen, body: Body::ThreadEnd }))
+        (B _alloc inside (Record { thread, seq, seen, body: Body::ThreadEnd }))
         seen seq thread)
 }
 
 /// Reads `parallel_begin`.
-fn parallel_begin(inside: &[u8]) -> Option<(Record, &[u8])>
+fn parallel_begin<B: Between>(inside: &[u8]) -> Option<(Record, &[u8])>
     ensures { IfSome result (λ taken. IsRecordInside inside.now taken.0 taken.1.now) }
 {
     line_parts!(parallel_begin take_line
-        (_alloc inside (Record {
+        (B _alloc inside (Record {
             thread, seq, seen,
             body: Body::ParallelBegin { requested, task, parallel },
         }))
@@ -232,20 +238,20 @@ fn parallel_begin(inside: &[u8]) -> Option<(Record, &[u8])>
 }
 
 /// Reads `parallel_end`.
-fn parallel_end(inside: &[u8]) -> Option<(Record, &[u8])>
+fn parallel_end<B: Between>(inside: &[u8]) -> Option<(Record, &[u8])>
     ensures { IfSome result (λ taken. IsRecordInside inside.now taken.0 taken.1.now) }
 {
     line_parts!(parallel_end take_line
-        (_alloc inside (Record { thread, seq, seen, body: Body::ParallelEnd { task, parallel } }))
+        (B _alloc inside (Record { thread, seq, seen, body: Body::ParallelEnd { task, parallel } }))
         parallel seen seq task thread)
 }
 
 /// Reads `implicit_task`.
-fn implicit_task(inside: &[u8]) -> Option<(Record, &[u8])>
+fn implicit_task<B: Between>(inside: &[u8]) -> Option<(Record, &[u8])>
     ensures { IfSome result (λ taken. IsRecordInside inside.now taken.0 taken.1.now) }
 {
     line_parts!(implicit_task take_line
-        (_alloc inside (Record {
+        (B _alloc inside (Record {
             thread, seq, seen,
             body: Body::ImplicitTask { endpoint, actual, index, flags, parallel, task },
         }))
@@ -253,29 +259,29 @@ fn implicit_task(inside: &[u8]) -> Option<(Record, &[u8])>
 }
 
 /// Reads `task_create`.
-fn task_create(inside: &[u8]) -> Option<(Record, &[u8])>
+fn task_create<B: Between>(inside: &[u8]) -> Option<(Record, &[u8])>
     ensures { IfSome result (λ taken. IsRecordInside inside.now taken.0 taken.1.now) }
 {
     line_parts!(task_create take_line
-        (_alloc inside (Record { thread, seq, seen, body: Body::TaskCreate { deps, flags, task, child } }))
+        (B _alloc inside (Record { thread, seq, seen, body: Body::TaskCreate { deps, flags, task, child } }))
         child deps flags seen seq task thread)
 }
 
 /// Reads `dependences`.
-fn dependences(alloc: Global, inside: &[u8]) -> Option<(Record, &[u8])>
+fn dependences<B: Between>(alloc: Global, inside: &[u8]) -> Option<(Record, &[u8])>
     ensures { IfSome result (λ taken. IsRecordInside inside.now taken.0 taken.1.now) }
 {
     line_parts!(dependences take_line
-        (alloc inside (Record { thread, seq, seen, body: Body::Dependences { task, list } }))
+        (B alloc inside (Record { thread, seq, seen, body: Body::Dependences { task, list } }))
         list seen seq task thread)
 }
 
 /// Reads a `task_schedule` that finishes nothing.
-fn switching(inside: &[u8]) -> Option<(Record, &[u8])>
+fn switching<B: Between>(inside: &[u8]) -> Option<(Record, &[u8])>
     ensures { IfSome result (λ taken. IsRecordInside inside.now taken.0 taken.1.now) }
 {
     line_parts!(switching take_line
-        (_alloc inside (Record {
+        (B _alloc inside (Record {
             thread, seq, seen,
             body: Body::TaskSchedule { status, turns: None, prior, next, claim: None },
         }))
@@ -283,11 +289,11 @@ fn switching(inside: &[u8]) -> Option<(Record, &[u8])>
 }
 
 /// Reads a `task_schedule` that finishes a task, its body or its event.
-fn finishing(alloc: Global, inside: &[u8]) -> Option<(Record, &[u8])>
+fn finishing<B: Between>(alloc: Global, inside: &[u8]) -> Option<(Record, &[u8])>
     ensures { IfSome result (λ taken. IsRecordInside inside.now taken.0 taken.1.now) }
 {
     line_parts!(finishing take_line
-        (alloc inside {
+        (B alloc inside {
             let Some(claim) = claim_of(alloc, kept, root, path) else {
                 return None;
             };
@@ -300,11 +306,11 @@ fn finishing(alloc: Global, inside: &[u8]) -> Option<(Record, &[u8])>
 }
 
 /// Reads a `task_schedule` that finishes nothing, with turns.
-fn switching_in_turn(inside: &[u8]) -> Option<(Record, &[u8])>
+fn switching_in_turn<B: Between>(inside: &[u8]) -> Option<(Record, &[u8])>
     ensures { IfSome result (λ taken. IsRecordInside inside.now taken.0 taken.1.now) }
 {
     line_parts!(switching_in_turn take_line
-        (_alloc inside (Record {
+        (B _alloc inside (Record {
             thread, seq, seen,
             body: Body::TaskSchedule {
                 status,
@@ -316,11 +322,11 @@ fn switching_in_turn(inside: &[u8]) -> Option<(Record, &[u8])>
 }
 
 /// Reads a `task_schedule` that finishes a task, its body or its event, with turns.
-fn finishing_in_turn(alloc: Global, inside: &[u8]) -> Option<(Record, &[u8])>
+fn finishing_in_turn<B: Between>(alloc: Global, inside: &[u8]) -> Option<(Record, &[u8])>
     ensures { IfSome result (λ taken. IsRecordInside inside.now taken.0 taken.1.now) }
 {
     line_parts!(finishing_in_turn take_line
-        (alloc inside {
+        (B alloc inside {
             let Some(claim) = claim_of(alloc, kept, root, path) else {
                 return None;
             };
@@ -337,11 +343,11 @@ fn finishing_in_turn(alloc: Global, inside: &[u8]) -> Option<(Record, &[u8])>
 }
 
 /// Reads `sync_region`.
-fn sync_region(inside: &[u8]) -> Option<(Record, &[u8])>
+fn sync_region<B: Between>(inside: &[u8]) -> Option<(Record, &[u8])>
     ensures { IfSome result (λ taken. IsRecordInside inside.now taken.0 taken.1.now) }
 {
     line_parts!(sync_region take_line
-        (_alloc inside (Record {
+        (B _alloc inside (Record {
             thread, seq, seen,
             body: Body::SyncRegion { kind, endpoint, parallel, task },
         }))
@@ -349,20 +355,20 @@ fn sync_region(inside: &[u8]) -> Option<(Record, &[u8])>
 }
 
 /// Reads a `cancel` that discards no task.
-fn cancelling(inside: &[u8]) -> Option<(Record, &[u8])>
+fn cancelling<B: Between>(inside: &[u8]) -> Option<(Record, &[u8])>
     ensures { IfSome result (λ taken. IsRecordInside inside.now taken.0 taken.1.now) }
 {
     line_parts!(cancelling take_line
-        (_alloc inside (Record { thread, seq, seen, body: Body::Cancel { flags, task, claim: None } }))
+        (B _alloc inside (Record { thread, seq, seen, body: Body::Cancel { flags, task, claim: None } }))
         flags seen seq task thread)
 }
 
 /// Reads a `cancel` that discards its task.
-fn discarding(alloc: Global, inside: &[u8]) -> Option<(Record, &[u8])>
+fn discarding<B: Between>(alloc: Global, inside: &[u8]) -> Option<(Record, &[u8])>
     ensures { IfSome result (λ taken. IsRecordInside inside.now taken.0 taken.1.now) }
 {
     line_parts!(discarding take_line
-        (alloc inside {
+        (B alloc inside {
             let Some(claim) = claim_of(alloc, kept, root, path) else {
                 return None;
             };
@@ -382,17 +388,17 @@ fn claim_of(alloc: Global, kept: u32, root: u64, path: ClaimPath) -> Option<Boxe
 }
 
 /// Reads the last members of a line that names a task.
-fn task_tail(rest: &[u8]) -> Option<((u32, u32, u64, u8), &[u8])>
+fn task_tail<B: Between>(rest: &[u8]) -> Option<((u32, u32, u64, u8), &[u8])>
     ensures { IfSome result (λ taken. AreMembersInFront rest.now
         (task_tail_members taken.0.0 taken.0.1 taken.0.2 taken.0.3) (125 ∷ taken.1.now)) }
 {
-    line_parts!(task_tail take_tail (_alloc rest (seen, seq, task, thread)) seen seq task thread)
+    line_parts!(task_tail take_tail (B _alloc rest (seen, seq, task, thread)) seen seq task thread)
 }
 
 /// Reads the last members of a line that has a status.
-fn status_tail(rest: &[u8]) -> Option<((u32, u32, Status, u8), &[u8])>
+fn status_tail<B: Between>(rest: &[u8]) -> Option<((u32, u32, Status, u8), &[u8])>
     ensures { IfSome result (λ taken. AreMembersInFront rest.now
         (status_tail_members taken.0.0 taken.0.1 taken.0.2 taken.0.3) (125 ∷ taken.1.now)) }
 {
-    line_parts!(status_tail take_tail (_alloc rest (seen, seq, status, thread)) seen seq status thread)
+    line_parts!(status_tail take_tail (B _alloc rest (seen, seq, status, thread)) seen seq status thread)
 }

@@ -5,19 +5,42 @@ ghost use Rattle.lines.specs.InFront.{AreMembersInFront, IsDataInFront, IsOtherN
 
 use crate::members::member_names;
 use crate::parts::after;
-use crate::written::{plain_len, take_item, take_plain_text};
+use crate::written::{names_guessed, plain_len, take_item, take_plain_text};
 
 /// The most members that are passed in one place.
 const MAX_OTHERS: usize = 8;
 
-/// Returns what follows the text, which may stand behind members that are not known.
-#[inline(always)]
-pub(crate) fn after_others<'l>(rest: &'l [u8], text: &str) -> Option<&'l [u8]>
-    ensures { IfSome result (λ behind. TakesPast rest.now text.now behind.now) }
-{
-    match after(rest, text) {
-        Some(behind) => Some(behind),
-        None => after_some_others(rest, text),
+/// What may stand between the parts of a line. Few lines have other members, and a place where none may stand
+/// costs less to read.
+pub(crate) trait Between {
+    /// Returns what follows the text, which may stand behind members that are not known.
+    fn after<'l>(rest: &'l [u8], text: &str) -> Option<&'l [u8]>
+        ensures { IfSome result (λ behind. TakesPast rest.now text.now behind.now) };
+}
+
+/// No member stands between the parts.
+#[derive(Clone, Copy, Debug)]
+pub(crate) struct Nothing;
+
+/// Members that are not known may stand between the parts.
+#[derive(Clone, Copy, Debug)]
+pub(crate) struct Others;
+
+impl Between for Nothing {
+    #[inline(always)]
+    fn after<'l>(rest: &'l [u8], text: &str) -> Option<&'l [u8]> {
+        let behind = after(rest, text)?;
+        Some(behind)
+    }
+}
+
+impl Between for Others {
+    #[inline(always)]
+    fn after<'l>(rest: &'l [u8], text: &str) -> Option<&'l [u8]> {
+        match after(rest, text) {
+            Some(behind) => Some(behind),
+            None => after_some_others(rest, text),
+        }
     }
 }
 
@@ -60,22 +83,22 @@ fn after_each<'l>(line: &'l [u8], first: &str, second: &str) -> Option<&'l [u8]>
     ensures { IfSome result (λ behind. TakesApart line.now first.now second.now behind.now) }
 {
     let between = after(line, first)?;
-    let behind = after_others(between, second)?;
+    let behind = Others::after(between, second)?;
     Some(behind)
 }
 
-/// Returns what follows the first members of a line, which are not known, and a comma.
-pub(crate) fn past_first_others(inside: &[u8]) -> Option<&[u8]>
-    ensures { IfSome result (λ behind. AreMembersInFront (44 ∷ inside.now) [] (44 ∷ behind.now)) }
+/// Returns what follows the first members of a line that are not known, each with its comma.
+pub(crate) fn past_first_others(inside: &[u8]) -> &[u8]
+    ensures { AreMembersInFront (44 ∷ inside.now) [] (44 ∷ result.now) }
 {
-    let mut between = past_first_other(inside)?;
+    let mut between = inside;
     'others: for _ in 0..MAX_OTHERS {
         let Some(behind) = past_first_other(between) else {
             break;
         };
         between = behind;
     }
-    Some(between)
+    between
 }
 
 /// Returns what follows a member that is not known, and a comma.
@@ -92,6 +115,9 @@ fn past_first_other(inside: &[u8]) -> Option<&[u8]>
 fn past_first_name(inside: &[u8]) -> Option<&[u8]>
     ensures { IfSome result (λ behind. IsOtherNameInFront (44 ∷ inside.now) behind.now) }
 {
+    if names_guessed(inside) {
+        return None;
+    }
     let (name, rest) = take_plain_text(inside)?;
     if knows(name) {
         return None;

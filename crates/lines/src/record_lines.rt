@@ -14,7 +14,7 @@ use crate::bodies::{
     Loose, both, claim_if, dependences, found, implicit_task, parallel_begin, parallel_end,
     sync_region, task_create, thread_begin, thread_end, turns_if,
 };
-use crate::canonical::{behind_others, canonical};
+use crate::canonical::{among_others, canonical};
 use crate::cause::ReadCause;
 use crate::members::Member;
 use crate::objects::{Object, flags, id, next, status, text};
@@ -152,18 +152,18 @@ pub fn record(
 ) -> Result<Record, ReadCause>
     ensures { IsSaid result (spec.line_says version line.now) }
 {
-    match record_behind_others(alloc, version, line) {
+    match record_among_others(alloc, version, line) {
         Some(event) => Ok(event),
         None => in_any_form(alloc, version, line, scratch),
     }
 }
 
-/// Returns the record of a line in written form whose first members the format does not know.
+/// Returns the record of a line in written form, with members anywhere that the format does not know.
 #[inline(always)]
-fn record_behind_others(alloc: Global, version: u32, line: &[u8]) -> Option<Record>
+fn record_among_others(alloc: Global, version: u32, line: &[u8]) -> Option<Record>
     ensures { IfSome result (λ event. spec.line_says version line.now ≡ Ok event) }
 {
-    let (event, behind) = behind_others(alloc, version, line)?;
+    let (event, behind) = among_others(alloc, version, line)?;
     alone(version, line, event, behind)
 }
 

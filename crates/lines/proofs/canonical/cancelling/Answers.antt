@@ -10,7 +10,7 @@ use Rattle.lines.proofs.canonical.cancelling.Goals as goal
 
 pub returns : goal.returns
 unfolding escape_byte with_member
-returns c =
+returns g c =
     line-from-two variant.Callback variant.Flags (string callback.cancel) (names (flag_names
     flag.cancel_flags c.in-Some-cancel_flags.flags.0))
     _ _ _ _ _ _ c.in-Some.ensures c.in-Some-cancel_flags.ensures

@@ -10,7 +10,7 @@ use Rattle.lines.proofs.canonical.dependences.Goals as goal
 
 pub returns : goal.returns
 unfolding escape_byte with_member
-returns c =
+returns g c =
     line-from-two variant.Callback variant.List (string callback.dependences) (array (items_of (map
     dep_data c.in-Some-deps.list)))
     _ _ _ _ _ _ c.in-Some.ensures c.in-Some-deps.ensures

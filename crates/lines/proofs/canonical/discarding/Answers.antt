@@ -11,16 +11,16 @@ use Rattle.lines.proofs.canonical.discarding.Goals as goal
 
 pub returns : goal.returns
 unfolding escape_byte with_member
-returns c =
+returns g c =
     rw c.in-Some-claim_of.ensures
     (line-from-two variant.Callback variant.Flags (string callback.cancel) (names (flag_names
     flag.cancel_flags c.in-Some-cancel_flags.flags.0))
     _ _ _ _ _ _ c.in-Some.ensures c.in-Some-cancel_flags.ensures
     (then variant.Kept (whole_number c.in-Some-short.kept)
-    _ _ _ _ _ c.in-Some-after_others.ensures c.in-Some-short.ensures
+    _ _ _ _ _ c.in-Some-after.ensures c.in-Some-short.ensures
     (then variant.Path (array (items_of (map whole_number c.in-Some-path.path)))
-    _ _ _ _ _ c.in-Some-after_others-2.ensures c.in-Some-path.ensures
+    _ _ _ _ _ c.in-Some-after-2.ensures c.in-Some-path.ensures
     (then variant.Root (whole_number c.in-Some-number.root)
-    _ _ _ _ _ c.in-Some-after_others-3.ensures c.in-Some-number.ensures
+    _ _ _ _ _ c.in-Some-after-3.ensures c.in-Some-number.ensures
     c.in-Some-task_tail.ensures)))
     refl)

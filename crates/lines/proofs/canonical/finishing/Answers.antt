@@ -10,18 +10,18 @@ use Rattle.lines.proofs.canonical.finishing.Goals as goal
 
 pub returns : goal.returns
 unfolding escape_byte with_member
-returns c =
+returns g c =
     rw c.in-Some-claim_of.ensures
     (line-from-two variant.Callback variant.Kept (string callback.task_schedule) (whole_number
     c.in-Some-short.kept)
     _ _ _ _ _ _ c.in-Some.ensures c.in-Some-short.ensures
     (then variant.Next (number_or_null c.in-Some-id_or_null.next)
-    _ _ _ _ _ c.in-Some-after_others.ensures c.in-Some-id_or_null.ensures
+    _ _ _ _ _ c.in-Some-after.ensures c.in-Some-id_or_null.ensures
     (then variant.Path (array (items_of (map whole_number c.in-Some-path.path)))
-    _ _ _ _ _ c.in-Some-after_others-2.ensures c.in-Some-path.ensures
+    _ _ _ _ _ c.in-Some-after-2.ensures c.in-Some-path.ensures
     (then variant.Prior (whole_number c.in-Some-number.prior)
-    _ _ _ _ _ c.in-Some-after_others-3.ensures c.in-Some-number.ensures
+    _ _ _ _ _ c.in-Some-after-3.ensures c.in-Some-number.ensures
     (then variant.Root (whole_number c.in-Some-number-2.root)
-    _ _ _ _ _ c.in-Some-after_others-4.ensures c.in-Some-number-2.ensures
+    _ _ _ _ _ c.in-Some-after-4.ensures c.in-Some-number-2.ensures
     c.in-Some-status_tail.ensures))))
     refl)

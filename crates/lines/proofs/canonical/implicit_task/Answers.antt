@@ -11,17 +11,17 @@ use Rattle.lines.proofs.canonical.implicit_task.Goals as goal
 
 pub returns : goal.returns
 unfolding escape_byte with_member
-returns c =
+returns g c =
     line-from-one variant.Actual (whole_number c.in-Some-short.actual)
     _ _ _ _ _ _ c.in-Some.ensures c.in-Some-short.ensures
-    (then-whole variant.Callback (string callback.implicit_task) _ _ _ _ c.in-Some-after_others.ensures
+    (then-whole variant.Callback (string callback.implicit_task) _ _ _ _ c.in-Some-after.ensures
     (then variant.Endpoint (string (endpoint_name c.in-Some-endpoint.endpoint))
-    _ _ _ _ _ c.in-Some-after_others-2.ensures c.in-Some-endpoint.ensures
+    _ _ _ _ _ c.in-Some-after-2.ensures c.in-Some-endpoint.ensures
     (then variant.Flags (names (flag_names flag.task_flags c.in-Some-task_flags.flags.0))
-    _ _ _ _ _ c.in-Some-after_others-3.ensures c.in-Some-task_flags.ensures
+    _ _ _ _ _ c.in-Some-after-3.ensures c.in-Some-task_flags.ensures
     (then variant.Index (whole_number c.in-Some-short-2.index)
-    _ _ _ _ _ c.in-Some-after_others-4.ensures c.in-Some-short-2.ensures
+    _ _ _ _ _ c.in-Some-after-4.ensures c.in-Some-short-2.ensures
     (then variant.Parallel (whole_number c.in-Some-number.parallel)
-    _ _ _ _ _ c.in-Some-after_others-5.ensures c.in-Some-number.ensures
+    _ _ _ _ _ c.in-Some-after-5.ensures c.in-Some-number.ensures
     c.in-Some-task_tail.ensures)))))
     refl

@@ -9,11 +9,11 @@ use Rattle.lines.proofs.canonical.parallel_begin.Goals as goal
 
 pub returns : goal.returns
 unfolding escape_byte with_member
-returns c =
+returns g c =
     line-from-two variant.Callback variant.Parallel (string callback.parallel_begin) (whole_number
     c.in-Some-number.parallel)
     _ _ _ _ _ _ c.in-Some.ensures c.in-Some-number.ensures
     (then variant.Requested (whole_number c.in-Some-short.requested)
-    _ _ _ _ _ c.in-Some-after_others.ensures c.in-Some-short.ensures
+    _ _ _ _ _ c.in-Some-after.ensures c.in-Some-short.ensures
     c.in-Some-task_tail.ensures)
     refl

@@ -9,7 +9,7 @@ use Rattle.lines.proofs.canonical.parallel_end.Goals as goal
 
 pub returns : goal.returns
 unfolding escape_byte with_member
-returns c =
+returns g c =
     line-from-two variant.Callback variant.Parallel (string callback.parallel_end) (whole_number
     c.in-Some-number.parallel)
     _ _ _ _ _ _ c.in-Some.ensures c.in-Some-number.ensures

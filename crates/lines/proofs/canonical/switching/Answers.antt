@@ -9,11 +9,11 @@ use Rattle.lines.proofs.canonical.switching.Goals as goal
 
 pub returns : goal.returns
 unfolding escape_byte with_member
-returns c =
+returns g c =
     line-from-two variant.Callback variant.Next (string callback.task_schedule) (number_or_null
     c.in-Some-id_or_null.next)
     _ _ _ _ _ _ c.in-Some.ensures c.in-Some-id_or_null.ensures
     (then variant.Prior (whole_number c.in-Some-number.prior)
-    _ _ _ _ _ c.in-Some-after_others.ensures c.in-Some-number.ensures
+    _ _ _ _ _ c.in-Some-after.ensures c.in-Some-number.ensures
     c.in-Some-status_tail.ensures)
     refl

@@ -9,15 +9,15 @@ use Rattle.lines.proofs.canonical.switching_in_turn.Goals as goal
 
 pub returns : goal.returns
 unfolding escape_byte with_member
-returns c =
+returns g c =
     line-from-two variant.Callback variant.Next (string callback.task_schedule) (number_or_null
     c.in-Some-id_or_null.next)
     _ _ _ _ _ _ c.in-Some.ensures c.in-Some-id_or_null.ensures
     (then variant.NextTurn (whole_number c.in-Some-short.next_turn)
-    _ _ _ _ _ c.in-Some-after_others.ensures c.in-Some-short.ensures
+    _ _ _ _ _ c.in-Some-after.ensures c.in-Some-short.ensures
     (then variant.Prior (whole_number c.in-Some-number.prior)
-    _ _ _ _ _ c.in-Some-after_others-2.ensures c.in-Some-number.ensures
+    _ _ _ _ _ c.in-Some-after-2.ensures c.in-Some-number.ensures
     (then variant.PriorTurn (whole_number c.in-Some-short-2.prior_turn)
-    _ _ _ _ _ c.in-Some-after_others-3.ensures c.in-Some-short-2.ensures
+    _ _ _ _ _ c.in-Some-after-3.ensures c.in-Some-short-2.ensures
     c.in-Some-status_tail.ensures)))
     refl

@@ -9,13 +9,13 @@ use Rattle.lines.proofs.canonical.thread_end.Goals as goal
 
 pub returns : goal.returns
 unfolding escape_byte with_member
-returns c =
+returns g c =
     line-from-two variant.Callback variant.Seen (string callback.thread_end) (whole_number
     c.in-Some-short.seen)
     _ _ _ _ _ _ c.in-Some.ensures c.in-Some-short.ensures
     (then variant.Seq (whole_number c.in-Some-short-2.seq)
-    _ _ _ _ _ c.in-Some-after_others.ensures c.in-Some-short-2.ensures
+    _ _ _ _ _ c.in-Some-after.ensures c.in-Some-short-2.ensures
     (then variant.Thread (whole_number c.in-Some-byte.thread)
-    _ _ _ _ _ c.in-Some-after_others-2.ensures c.in-Some-byte.ensures
-    (then-end _ _ c.in-Some-after_others-3.ensures)))
+    _ _ _ _ _ c.in-Some-after-2.ensures c.in-Some-byte.ensures
+    (then-end _ _ c.in-Some-after-3.ensures)))
     refl
