@@ -340,7 +340,7 @@ clear_entries view clear =
     (none EntryTwice (12, omega arith, refl)) (none LengthAhead (13, omega arith, refl))
     (claims_right rs view.own clear.one.of_file clear.one.is_own (none ShareWrong (11, omega arith, refl)))
 
--- what the phases give is a trace without a cause, and the lengths from which on its tasks' credit is held
+-- what the phases give is a trace without a cause, and the least lengths at which its tasks' credit is held
 pub clear_and_known : (view : SoundView) (order : List ℕ) (known : KnownView) → IsSoundView view
     → IsClear view.run.records all_causes → IsLinearization view.run.records order
     → IsGreedy view.run.records order → IsKnownOf view.own known

@@ -53,8 +53,8 @@ pub record AreEdgesOf (run : RunView) (own : OwnView) (edges : EdgesView) : Type
   pub of_run : edges.run ≡ own.run
   pub clear : IsClear run.records edge_causes
 
--- the lengths from which on the run's tasks are finished; if the entries are right, also those from which
--- on their credit is held
+-- the least lengths at which the run's tasks are finished; if the entries are right, also the least at which
+-- their credit is held
 pub record IsKnownOf (own : OwnView) (known : KnownView) : Type 0 where
   pub of_own : own_of known.done.teams ≡ own
   pub done : AreDone known.done

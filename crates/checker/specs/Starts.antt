@@ -128,7 +128,7 @@ pub data IsEarlierOf (other late : Late) : Option Late → Type 0 where
 -- ---- the tables that decide it
 
 -- the view of the tables: the run of the file, and that in the tasks' own order; by index of the task in
--- its own order the length from which on it is finished, and the greatest of the lengths of its
+-- its own order the least length at which it is finished, and the greatest of the lengths of its
 -- predecessors; and by index in the file where it starts, unless no task has a predecessor that an entry
 -- finishes
 pub record PrecedenceView : Type 0 where

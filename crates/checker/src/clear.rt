@@ -10,8 +10,8 @@ use crate::verdict::Order;
 use std::marker::Model;
 use wait_coverage::Known;
 
-/// A trace in which no cause occurs, with the greedy order of its records, and the ledger lengths from
-/// which on its tasks are finished.
+/// A trace in which no cause occurs, with the greedy order of its records, and the least ledger lengths at
+/// which its tasks are finished.
 #[derive(Drop)]
 pub(crate) struct Clear<'a> {
     pub(crate) sound: &'a Sound<'a>,
@@ -53,8 +53,8 @@ impl<'a> Clear<'a> {
         self.sound
     }
 
-    /// Returns the ledger lengths from which on its tasks are finished. They are exactly those from which
-    /// on the trace's ledger holds their credit.
+    /// Returns the least ledger lengths at which its tasks are finished. They are exactly the least at which
+    /// the trace's ledger holds their credit.
     pub(crate) fn known(&self) -> &Known<'a>
         ensures own { own_of result.now.done.teams ≡ self.now.own }
         ensures done { AreDone result.now.done }

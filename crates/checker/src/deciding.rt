@@ -12,7 +12,7 @@ use std::alloc::Global;
 use std::marker::Model;
 use wait_coverage::find_unfinished;
 
-/// A trace without a cause, with the ledger lengths from which on its tasks are finished, and which tasks
+/// A trace without a cause, with the least ledger lengths at which its tasks are finished, and which tasks
 /// precede which.
 #[derive(Drop)]
 pub(crate) struct Deciding<'a, 'r> {

@@ -161,7 +161,7 @@ pub(crate) fn edges_of<'a>(alloc: Global, runs: &Runs<'a>) -> Result<Edges<'a>, 
     Ok(edges)
 }
 
-/// Returns the ledger lengths from which on the run's tasks are finished. Fails only when out of memory.
+/// Returns the least ledger lengths at which the run's tasks are finished. Fails only when out of memory.
 pub(crate) fn known_of<'a>(alloc: Global, sound: &Sound<'a>) -> Result<Known<'a>, Fault>
     ensures known { IfOk result (IsKnownOf sound.now.own) }
     ensures memory_alone { IfErr result (λ fault. fault ≡ Memory) }

@@ -25,8 +25,8 @@ use teams::Teams;
 use wait_coverage::Known;
 
 /// Returns what `ask` returns. With two workers or more the states of tasks are made beside the edges
-/// between them, and the lengths from which on tasks are finished beside the order of the records. The
-/// fault is still that of the least cause. With one worker no thread is started.
+/// between them, and the least ledger lengths at which tasks are finished beside the order of the records.
+/// The fault is still that of the least cause. With one worker no thread is started.
 pub(crate) fn ask_on<R: Threads, A: Drop, F: Fn(Clear) -> Result<A, Fault>>(
     rt: &R,
     alloc: Global,

@@ -26,7 +26,7 @@ pub(crate) struct Precedence<'a, 'r> {
     /// The run in the tasks' own order: what precedes what.
     own: &'a Own<'r>,
     edges: &'a Edges<'r>,
-    /// By index of the task in its own order the ledger length from which on it is finished.
+    /// By index of the task in its own order the least ledger length at which it is finished.
     lengths: &'a [u64],
     /// The greatest of the lengths of its predecessors.
     latest: Vec<u64>,
@@ -75,7 +75,7 @@ struct Late {
 }
 
 impl<'a, 'r> Precedence<'a, 'r> {
-    /// Returns the tables, from the edges of the run and the ledger length from which on each task is
+    /// Returns the tables, from the edges of the run and the least ledger length at which each task is
     /// finished, by its index in its own order. Takes a few steps for each record, n log n in the
     /// dependences, and memory linear in the tasks. Fails only when out of memory.
     pub(crate) fn of(

@@ -25,7 +25,7 @@ pub const MAX_WORKERS: u32 = 256;
 /// [`MAX_WORKERS`], side by side, a range for each. Each worker passes the gate once, before it decides; for
 /// a malformed trace no worker starts. With two workers or more some phases before run side by side too, two
 /// at a time: the numbers of the threads' records beside the families of tasks; the states of tasks beside
-/// nesting, dependences and claims; and the order of the records beside the ledger lengths from which on
+/// nesting, dependences and claims; and the order of the records beside the least ledger lengths at which
 /// tasks are finished. Such a thread is no worker, and passes no gate. A worker or a phase for which no
 /// thread can be made runs on the caller's. Fails for another number of workers, which is checked first; when
 /// out of memory; and if the gate refuses a worker. It names the refused worker with the least number, unless

@@ -96,7 +96,7 @@ abbrev pub HasNoShorter : List (List Half) → List Half → Type 0
 HasNoShorter shares s =
     (i : ℕ) (t : List Half) → slice_get shares i ≡ Some t → begins_with s t ≡ true → length s ≤ length t
 
--- the share is held by the first ones from `since` on
+-- `since` is the least count of shares at which the first ones hold the share, if they ever do
 abbrev pub IsHeldFrom : List (List Half) → Option ℕ → List Half → Type 0
 IsHeldFrom shares since s = (upto : ℕ) → (is_by since upto ≡ true) ↔ Hold (take upto shares) s
 
@@ -138,12 +138,12 @@ both_of None second = None
 both_of (Some first) None = None
 both_of (Some first) (Some second) = Some (max first second)
 
--- from when so many children are held that follow on the first ones, and no earlier than from `start`
+-- the least count of shares, at least `start`, at which so many children from number `first` on are held
 abbrev pub since_all : (ℕ → Option ℕ) → ℕ → ℕ → ℕ → Option ℕ
 since_all since start first zero = Some start
 since_all since start first (suc count) = both_of (since_all since start first count) (since (first + count))
 
--- from when a child is held
+-- the least count of shares at which a child is held
 abbrev pub child_since : Tree → ℕ → ℕ → Option ℕ
 child_since tree index number =
     option_and_then (λ k. (node_at tree k).progress.since) (child tree index number)
@@ -163,7 +163,7 @@ pub record IsGrown (old new : Tree) : Type 0 where
 abbrev pub with_reach : Node → ℕ → Node
 with_reach node number = record node { reach = max node.reach (number + 1) }
 
--- the node with its run, with the time from which it is held, and with one more held child
+-- the node with its run, with the count of shares at which it is held, and with one more held child
 abbrev pub with_run : Node → Run → Node
 with_run node run = record node { progress = record node.progress { run = Some run } }
 

@@ -141,8 +141,8 @@ fn since_at(tree: &Tree, shares: &[Share], share: &Share, index: usize) -> Optio
     }
 }
 
-/// Returns the place from which on nodes of the share are missing, or `None` if the share overlaps an
-/// entered one.
+/// Returns where the nodes of the share begin to be missing: behind the last one if none is. Returns `None`
+/// if the share overlaps an entered one.
 fn start_of(tree: &Tree, shares: &[Share], share: &Share) -> Option<Start>
     requires linked { IsTreeLinked tree.now }
     requires known { IsTreeKnown shares.now (progress_at tree.now) }

@@ -161,7 +161,8 @@ impl Tree {
         Walk::Found(index)
     }
 
-    /// Returns from how many entered shares on a child of a node is held, or `None` if it is not held.
+    /// Returns the least n such that the first n entered shares hold a child of a node, or `None` if it is
+    /// not held.
     fn child_since(&self, index: usize, number: u64) -> Option<usize>
         ensures { result ≡ child_since self.now index number }
     {
@@ -316,7 +317,7 @@ impl Tree {
         self.nodes[index] = Node { progress, ..node };
     }
 
-    /// Records from how many entered shares on a node is held.
+    /// Records the least n such that the first n entered shares hold a node.
     pub fn mark(&mut self, index: usize, time: usize)
         requires { index < length self.old.nodes.items }
         ensures nodes { self.new.nodes.items ≡ slice_set self.old.nodes.items index (with_since

@@ -21,8 +21,8 @@ const MOST_ENTRIES: usize = 1 << 22;
 /// The entries of finished tasks, in the order in which they were entered.
 ///
 /// One purse keeps two shares of each entry, those of each root and each pool apart from all others
-/// (`specs/Codes.antt`). So the count of shares from which on the purse holds a share gives the ledger
-/// length from which on it is held.
+/// (`specs/Codes.antt`). So the least count of shares at which the purse holds a share gives the least ledger
+/// length at which it is held.
 #[derive(Debug, Drop)]
 pub struct Ledger {
     entries: Vec<Entry>,
@@ -114,8 +114,8 @@ impl Ledger {
         Ok(true)
     }
 
-    /// Returns from which ledger length on a child of a task is held, in the tree for `Descendants` and in
-    /// its parent's pool for `Children`, or `None` if the entries do not hold it. Requires that the
+    /// Returns the least ledger length at which a child of a task is held, in the tree for `Descendants` and
+    /// in its parent's pool for `Children`, or `None` if the entries do not hold it. Requires that the
     /// parent's path has at most 1,024 numbers. Fails only with `Memory`.
     pub fn held_from(
         &self,
@@ -140,7 +140,7 @@ impl Ledger {
     }
 }
 
-/// Returns whether what is held from a length on is held at another length.
+/// Returns whether what is held at the least length `from`, if at any, is held at `upto`.
 fn is_held_by(from: Option<u32>, upto: u32) -> bool
     ensures { result ≡ is_by from upto }
 {

@@ -105,7 +105,7 @@ impl ClaimPath {
         }
     }
 
-    /// Returns the same path as a list. Fails only when out of memory.
+    /// Returns the path as a list. Fails only when out of memory.
     pub fn to_path(&self, alloc: Global) -> Result<Path, AllocError>
         ensures { IfOk result (λ path. path ≡ self.now) }
     {

@@ -71,7 +71,7 @@ fn held(rt: &HostRuntime, ledger: &Ledger, upto: &str, span: &Span, cover: &str)
     Ok(())
 }
 
-/// Prints from which length on the child's share is held.
+/// Prints the least ledger length at which the child's share is held.
 fn held_from(rt: &HostRuntime, ledger: &Ledger, words: [&str; 4]) -> Result<()> {
     let [root, path, number, cover] = words;
     let path = path_of(rt.alloc(), path)?;

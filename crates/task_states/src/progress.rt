@@ -102,8 +102,8 @@ impl Progress {
         false
     }
 
-    /// Does the same for the task that runs next after the record, if one does. Where none does, returns
-    /// true: nothing is left to read.
+    /// Starts the task that runs next after the record, as `note` applies a move. Returns whether this pass
+    /// reads the record for that task: true where none runs next, since nothing is left to read.
     #[inline(always)]
     fn note_next(&mut self, origins: &Origins, pass: Pass, at: usize, next: Option<usize>) -> bool
         requires all { length self.old.states ≡ length origins.now.family.tasks }

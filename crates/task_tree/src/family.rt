@@ -164,7 +164,7 @@ impl Family {
         slot_at(self.objects.as_slice(), at)
     }
 
-    /// Returns the same as `subject`. Requires a record at the place, and doesn't check how many there are.
+    /// Returns what `subject` does. Requires a record at the place, and doesn't check how many there are.
     pub(crate) fn subject_of(&self, at: usize) -> Option<usize>
         requires { at < length self.now.subjects }
         ensures { (records : List Record) → IsFamilyOf records self.now
@@ -173,7 +173,7 @@ impl Family {
         slot_of(self.subjects.as_slice(), at)
     }
 
-    /// Returns the same as `object`. Requires a record at the place, and doesn't check how many there are.
+    /// Returns what `object` does. Requires a record at the place, and doesn't check how many there are.
     pub(crate) fn object_of(&self, at: usize) -> Option<usize>
         requires { at < length self.now.objects }
         ensures { (records : List Record) → IsFamilyOf records self.now
@@ -312,7 +312,7 @@ fn slot_at(slots: &[Slot], at: usize) -> Option<usize>
     }
 }
 
-/// Returns the same. Requires a slot at the place.
+/// Returns the index that the slot at a place holds, if it holds one. Requires a slot at the place.
 fn slot_of(slots: &[Slot], at: usize) -> Option<usize>
     requires { at < length slots.now }
     ensures { result ≡ slice_index_or slots.now at None }

@@ -77,7 +77,8 @@ fn tell_rightly(records: &[Record], family: &Family, rows: &TurnRows, turns: &[u
     true
 }
 
-/// Returns the same of the record at a place, which is in this turn of its task.
+/// Returns true only if the record at the place, which is in this turn of its task, gives the turn of its
+/// prior task, and a turn of the next one that may begin there.
 fn tells_rightly(records: &[Record], family: &Family, rows: &TurnRows, turn: u32, at: usize) -> bool
     requires within { at < length records.now }
     requires family { IsFamilyOf records.now family.now }

@@ -50,7 +50,7 @@ pub(crate) fn find_roots(
     }
 }
 
-/// Returns the same, down from the roots.
+/// Returns the standings of the tasks as `find_roots` does, down from the roots.
 fn find_downward(
     alloc: Global,
     records: &[Record],

@@ -513,7 +513,7 @@ impl Run<'_> {
         self.event(at).act
     }
 
-    /// Returns the same as `subject`. A run has an entry for each record, so none is missed.
+    /// Returns what `subject` of the family does. A run has an entry for each record, so none is missed.
     fn subject_of(&self, at: usize) -> Option<usize>
         requires { at < length self.now.records }
         ensures { IsIndexOf self.now subject at result }
@@ -521,7 +521,7 @@ impl Run<'_> {
         self.family.subject_of(at)
     }
 
-    /// Returns the same as `object`.
+    /// Returns what `object` of the family does.
     fn object_of(&self, at: usize) -> Option<usize>
         requires { at < length self.now.records }
         ensures { IsIndexOf self.now object at result }

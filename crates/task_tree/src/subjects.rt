@@ -178,7 +178,8 @@ fn slot_near(tasks: &Numbering, task: u64, near: usize, known: &mut bool) -> Slo
     checked(tasks.index_near(task, near), known)
 }
 
-/// Returns the same for a task that the thread runs from here on.
+/// Returns the index of a task that the thread runs from here on, and notes that it runs it. Looks at the
+/// index `near` first.
 fn run(
     tasks: &Numbering,
     task: u64,

@@ -1,4 +1,4 @@
--- The ledger that the records make holds each task's credit from the task's length on, and not before.
+-- The task's length is the least at which the ledger that the records make holds the task's credit.
 use Rattle.std.proofs.Common.{◌≡◌, ℕ, ◌<◌, ◌^◌, List, length, Some, arith, inl, inr, sym, ap, ◌∙◌}
 use Rattle.std.proofs.lemmas.Option.{slice_get_within, slice_get-get_or}
 use Rattle.std.specs.Prelude.{◌↔◌, slice_get, slice_index}

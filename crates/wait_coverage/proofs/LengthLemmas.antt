@@ -1,4 +1,4 @@
--- From which ledger length on a task is finished.
+-- The least ledger length at which a task is finished.
 use Rattle.std.proofs.Common.{◌≡◌, ◌∙◌, ℕ, ◌<◌, ◌≤◌, ◌+◌, ◌^◌, List, length, get_or, Some, None, refl, sym}
 use Rattle.std.proofs.Common.{ap, subst, arith, inl, inr, ◌⊎◌}
 use Rattle.std.proofs.lemmas.Bool.{cases_eq, cases_lt}

@@ -1,4 +1,4 @@
--- From which ledger length on what the end of a barrier covers is finished.
+-- The least ledger length at which what the end of a barrier covers is finished.
 use Rattle.std.proofs.Common.{◌≡◌, ◌∙◌, ℕ, ◌<◌, ◌≤◌, ◌+◌, List, length, get_or, Some, None, refl, sym, ap}
 use Rattle.std.proofs.Common.{subst, arith, inl, inr}
 use Rattle.std.proofs.lemmas.Bool.{cases_eq}

@@ -1,4 +1,4 @@
--- From which ledger length on a task is finished, and from which one on its descendants are too.
+-- The least ledger length at which a task is finished, and the least at which its descendants are too.
 use Rattle.std.specs.Prelude.{ℕ, ◌≡◌, ◌<◌, ◌≤◌, ◌^◌, ◌↔◌, List, length, Some, Contains, max, slice_get}
 use Rattle.std.specs.Prelude.{slice_set, slice_index}
 use Rattle.std.specs.Option.{option_map_or}
@@ -46,17 +46,17 @@ pub record IsDoneView (done : DoneView) : Type 0 where
 
 -- ---- the lengths that the records name
 
--- the task is finished from this ledger length on, and at no lesser one
+-- this is the least ledger length at which the task is finished
 abbrev pub IsDoneFrom : List Record → ℕ → ℕ → Type 0
 IsDoneFrom rs task limit = (m : ℕ) → m < 2 ^ 32 → (limit ≤ m) ↔ IsDone rs m task
 
--- by index of each task the ledger length from which on it is finished
+-- by index of each task the least ledger length at which it is finished
 pub record AreOwnLengths (rs : List Record) (tasks own : List ℕ) : Type 0 where
   pub all : length own ≡ length tasks
   pub each : (index task limit : ℕ) → slice_get tasks index ≡ Some task → slice_get own index ≡ Some limit
       → IsDoneFrom rs task limit
 
--- the tasks' own lengths are those from which on they are finished
+-- the tasks' own lengths are the least at which they are finished
 abbrev pub AreDone : DoneView → Type 0
 AreDone done = AreOwnLengths (records_of done) (tasks_of done) done.own
 

@@ -1,4 +1,4 @@
--- From which ledger length on each task is finished.
+-- The least ledger length at which each task is finished.
 use Rattle.std.specs.Prelude.{ℕ, ◌≡◌, ◌<◌, ◌≤◌, ◌+◌, ◌⊎◌, List, length, Some, min, max, slice_get}
 use Rattle.ompt_events.specs.declared.records.Record.{Record}
 use Rattle.ompt_events.specs.declared.records.Part.{Part}
@@ -15,19 +15,19 @@ never = 0xFFFF_FFFF_FFFF_FFFF
 abbrev pub no_lengths : Lengths
 no_lengths = record { whole = never; body = never; event = never }
 
--- the length from which on the part is finished
+-- the least length at which the part is finished
 abbrev pub length_of : Lengths → Part → ℕ
 length_of lengths Whole = lengths.whole
 length_of lengths Body = lengths.body
 length_of lengths Event = lengths.event
 
--- the lengths with the part finished from this one on, if not earlier
+-- the lengths with the part finished at this one, if not at a lesser one
 abbrev pub with_length : Lengths → Part → ℕ → Lengths
 with_length l Whole n = record { whole = min l.whole n; body = l.body; event = l.event }
 with_length l Body n = record { whole = l.whole; body = min l.body n; event = l.event }
 with_length l Event n = record { whole = l.whole; body = l.body; event = min l.event n }
 
--- the length from which on the task is finished: whole, or both its body and its event
+-- the least length at which the task is finished: whole, or both its body and its event
 abbrev pub done_length : Lengths → ℕ
 done_length l = min l.whole (max l.body l.event)
 

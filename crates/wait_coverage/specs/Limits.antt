@@ -1,4 +1,4 @@
--- From which ledger length on what the end of a region covers is finished.
+-- The least ledger length at which what the end of a region covers is finished.
 use Rattle.std.specs.Prelude.{ℕ, ◌≡◌, ◌<◌, ◌≤◌, ◌^◌, List, length, Option, Some, slice_get}
 use Rattle.ompt_events.specs.declared.records.Record.{Record}
 use Rattle.ompt_events.specs.declared.names.Endpoint.TheVariants.{Begin}

@@ -1,4 +1,4 @@
--- From which ledger length on what the members of a team created before one barrier is finished.
+-- The least ledger length at which what the members of a team created before one barrier is finished.
 use Rattle.std.specs.Prelude.{ℕ, ◌≡◌, ◌<◌, ◌≤◌, List, length, Some, slice_get}
 use Rattle.std.specs.Global.{Vec}
 use Rattle.ompt_events.specs.Regions.{IsBarrierBegin}

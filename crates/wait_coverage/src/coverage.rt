@@ -147,8 +147,9 @@ impl<'a> Coverage<'a> {
         Ok(unfinished_at(alloc, &known, self.end(index))?)
     }
 
-    /// Returns the same for several ends. Goes over the ledger's entries once for all of them. Takes a few
-    /// steps for each end in time, and a few for each record for an end with an unfinished task.
+    /// Returns for each of several ends what `first_unfinished` returns for it. Goes over the ledger's
+    /// entries once for all of them. Takes a few steps for each end in time, and a few for each record for an
+    /// end with an unfinished task.
     pub fn first_unfinished_all(
         &self,
         of: &[usize],
@@ -271,7 +272,8 @@ impl<'a> Coverage<'a> {
         }
     }
 
-    /// Returns the same for the tasks at the indices of a roster.
+    /// Returns, for each task at the indices of a roster, the span of the children that it created before its
+    /// barrier with this number began.
     fn roster_spans(&self, roster: &[Slot], number: usize) -> Result<Vec<Span>, AllocError>
         requires { HaveBegun self.now.teams.begins number roster.now }
         ensures { IfOk result (λ spans. AreRosterSpans self.now.teams.run.records

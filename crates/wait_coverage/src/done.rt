@@ -1,4 +1,4 @@
-//! From which ledger length on each task is finished, and from which one on its descendants are too.
+//! The least ledger length at which each task is finished, and the least at which its descendants are too.
 ghost use Rattle.std.specs.Prelude.{ℕ, ◌≡◌, ◌<◌, List, Option, Some, IfOk, MatchOption, length, map, slice_get};
 ghost use Rattle.ompt_events.specs.declared.names.SyncKind.{SyncKind};
 ghost use Rattle.ompt_events.specs.Regions.{IsRegion};
@@ -21,9 +21,9 @@ use teams::{BarrierEnd, Teams};
 #[derive(Debug, Drop)]
 pub(crate) struct Done<'a> {
     teams: &'a Teams<'a>,
-    /// From this length on the task is finished.
+    /// The least length at which the task is finished.
     own: Vec<u64>,
-    /// From this length on the task and all its descendants are finished.
+    /// The least length at which the task and all its descendants are finished.
     families: Vec<u64>,
 }
 
@@ -46,7 +46,7 @@ impl<'a> Model for Done<'a> {
 }
 
 impl<'a> Done<'a> {
-    /// Returns the ledger lengths from which on the tasks are finished, by the records.
+    /// Returns the least ledger lengths at which the tasks are finished, by the records.
     pub(crate) fn of_run(alloc: Global, teams: &'a Teams<'a>) -> Result<Done<'a>, AllocError>
         ensures teams { IfOk result (λ done. done.teams ≡ teams.now) }
         ensures done { IfOk result AreDone }
@@ -55,7 +55,7 @@ impl<'a> Done<'a> {
         Done::by_lengths(alloc, teams, lengths.as_slice())
     }
 
-    /// Returns the ledger lengths from which on the tasks are finished, by the entries of the ledger. The
+    /// Returns the least ledger lengths at which the tasks are finished, by the entries of the ledger. The
     /// contract guarantees this only if the ledger is that of the trace.
     pub(crate) fn of_ledger(
         alloc: Global,
@@ -90,7 +90,7 @@ impl<'a> Done<'a> {
         })
     }
 
-    /// Returns by index of the task the ledger length from which on it is finished.
+    /// Returns by index of the task the least ledger length at which it is finished.
     pub(crate) fn own(&self) -> &[u64]
         ensures value { result.now ≡ self.now.own }
         ensures is_done { IsDoneView self.now }
@@ -98,7 +98,7 @@ impl<'a> Done<'a> {
         self.own.as_slice()
     }
 
-    /// Returns by index of the task the ledger length from which on it and all its descendants are
+    /// Returns by index of the task the least ledger length at which it and all its descendants are
     /// finished.
     pub(crate) fn families(&self) -> &[u64]
         ensures value { result.now ≡ self.now.families }
@@ -162,7 +162,7 @@ impl<'a> Done<'a> {
     }
 }
 
-/// Returns by index of the task the ledger length from which on it is finished.
+/// Returns by index of the task the least ledger length at which it is finished.
 fn find_own(alloc: Global, lengths: &[Lengths]) -> Result<Vec<u64>, AllocError>
     ensures { IfOk result (λ own. own.items ≡ map done_length lengths.now) }
 {
@@ -193,7 +193,7 @@ fn find_families(
     Ok(families)
 }
 
-/// Returns the same lengths.
+/// Returns a copy of the lengths.
 fn copy_of(alloc: Global, lengths: &[u64]) -> Result<Vec<u64>, AllocError>
     ensures { IfOk result (λ copy. copy.items ≡ lengths.now) }
 {

@@ -15,11 +15,12 @@ ghost use Rattle.wait_coverage.specs.Spans.{AreSpans, AreHeldAt, IsCoverComplete
 ghost use Rattle.wait_coverage.specs.Waits.{IsFirstCoveredUnfinished};
 ghost use Rattle.wait_coverage.specs.Shown.{IsCompleteShown, IsFirstUnfinishedShown};
 
-/// The entries below the ledger length that an end names finish each task that it covers if and only if
-/// they hold the start share of each child of its spans: in its parent's pool for a taskwait, in the tree
-/// for the others (F. Mattern, 1989: work is over exactly where all of its credit has come back). Requires
-/// that the trace has right entries, and that each team and barrier has all its members. A trace without
-/// the causes 1 to 13 is such a one (`trace_ledger::laws::entries_are_right`).
+/// The entries below the ledger length that an end names finish each task that it covers
+/// (`IsCoverComplete`) if and only if they hold the start share of each child of its spans (`AreHeldAt`): in
+/// its parent's pool for a taskwait, in the tree for the others (F. Mattern, 1989: work is over exactly where
+/// all of its credit has come back). Requires that the trace has right entries, and that each team and
+/// barrier has all its members. A trace without the causes 1 to 13 is such a one
+/// (`trace_ledger::laws::entries_are_right`).
 pub fn held_is_complete()
     ensures { (rs : List Record) (entries : List Entry) (i : ℕ) (cover : Cover) (spans : List Span)
         → IsTrace rs → HasRightEntries rs → IsFreeOf rs TeamShort → IsLedgerOf rs entries
@@ -27,9 +28,11 @@ pub fn held_is_complete()
         → IsCoverComplete rs i ↔ AreHeldAt rs entries i cover spans }
 {}
 
-/// The unfinished task at a wait by the records in the tasks' own order is also the one that the trace
-/// shows. `find_unfinished` searches the run in that order (`IsFirstOpen`); its result is also right by the trace
-/// alone (`IsFirstOpenShown`).
+/// What is unfinished at a wait by the records in the tasks' own order (`IsFirstCoveredUnfinished` of
+/// specs/Waits) is also unfinished there by the trace alone (`IsFirstUnfinishedShown` of specs/Shown). Where
+/// nothing is unfinished by the one (`IsCoverComplete` of specs/Spans), nothing is by the other
+/// (`IsCompleteShown` of specs/Shown). So what `find_unfinished` returns, which searches the run in the
+/// tasks' own order, is right by the trace alone.
 pub fn unfinished_is_shown()
     ensures { (rs : List Record) (own : OwnView) (number place : ℕ) (found : Option ℕ) → IsOwnOf rs own
         → IsOwn own → slice_get own.places number ≡ Some place

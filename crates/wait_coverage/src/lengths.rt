@@ -1,5 +1,5 @@
-//! From which ledger length on each part of each task is finished: by the records, or by the entries of a
-//! ledger.
+//! The least ledger length at which each part of each task is finished: by the records, or by the entries of
+//! a ledger.
 ghost use Rattle.std.specs.Prelude.{◌≡◌, ◌<◌, ◌+◌, List, Some, IfOk, length, replicate, slice_get};
 ghost use Rattle.credit_ledger.specs.declared.entry.Entry.{Entry};
 ghost use Rattle.trace_ledger.specs.Entries.{IsLedgerOf};
@@ -13,7 +13,7 @@ use task_tree::Run;
 /// Above all ledger lengths.
 const NEVER: u64 = u64::MAX;
 
-/// The ledger lengths from which on the parts of a task are finished.
+/// The least ledger lengths at which the parts of a task are finished.
 #[derive(Clone, Copy)]
 pub(crate) struct Lengths {
     whole: u64,
@@ -33,7 +33,7 @@ impl Lengths {
         }
     }
 
-    /// Returns these lengths, with the part finished from this length on if not earlier.
+    /// Returns these lengths, with the part finished at this length if not at a lesser one.
     fn with(self, part: Part, length: u64) -> Lengths
         ensures { result ≡ with_length self part length }
     {
@@ -57,7 +57,7 @@ impl Lengths {
         }
     }
 
-    /// Returns the length from which on the task is finished: whole, or both its body and its event.
+    /// Returns the least length at which the task is finished: whole, or both its body and its event.
     pub(crate) fn done(self) -> u64
         ensures { result ≡ done_length self }
     {
@@ -65,7 +65,7 @@ impl Lengths {
     }
 }
 
-/// Returns by index of the task the ledger lengths from which on its parts are finished, by the records.
+/// Returns by index of the task the least ledger lengths at which its parts are finished, by the records.
 pub(crate) fn find_lengths(alloc: Global, run: &Run) -> Result<Vec<Lengths>, AllocError>
     ensures { IfOk result (λ table. AreLengths run.now.records
         (length run.now.records) run.now.family.tasks table.items) }
@@ -77,7 +77,7 @@ pub(crate) fn find_lengths(alloc: Global, run: &Run) -> Result<Vec<Lengths>, All
     Ok(table)
 }
 
-/// Returns by index of the task the ledger lengths from which on its parts are finished, by the entries of
+/// Returns by index of the task the least ledger lengths at which its parts are finished, by the entries of
 /// the ledger. Looks up the task of each entry.
 pub(crate) fn find_entered(
     alloc: Global,

@@ -1,4 +1,4 @@
-//! From which ledger length on each task is finished, and its credit is held; which tasks the end of a
+//! The least ledger length at which each task is finished, and its credit is held; which tasks the end of a
 //! region waits for, and whether they are finished there.
 //!
 //! `Known` has the lengths, from the records (`find_known`) or from a ledger's entries. `find_unfinished` returns

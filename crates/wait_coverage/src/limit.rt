@@ -3,8 +3,8 @@ ghost use Rattle.std.specs.Prelude.{ℕ, ◌≡◌, ◌<◌, ◌≤◌, ◌^◌,
 
 use std::marker::Model;
 
-/// A ledger length from which on something is finished, in 32 bits: that length, or a greater one. No
-/// record can name a length of 2^32, so 2^32 means all greater ones too, and never.
+/// The least ledger length at which something is finished, or a greater one, in 32 bits. No record can name
+/// a length of 2^32, so 2^32 means all greater ones too, and never.
 #[derive(Clone, Copy, Debug, PartialEq, Eq)]
 pub(crate) struct Limit {
     code: u32,

@@ -1,4 +1,4 @@
-//! From which ledger length on what the end of a region covers is finished.
+//! The least ledger length at which what the end of a region covers is finished.
 ghost use Rattle.std.specs.Prelude.{ℕ, ◌≡◌, ◌<◌, ◌+◌, ◌↔◌, ◌++◌, ◌∷◌, [], Some, None, IfOk, IsTrue, length, replicate};
 ghost use Rattle.ompt_events.specs.declared.names.SyncKind.{SyncKind};
 ghost use Rattle.ompt_events.specs.Records.{region};
@@ -18,7 +18,7 @@ use task_tree::{Creation, WaitEvent};
 /// What is noted at one record.
 #[derive(Clone, Copy, Debug, PartialEq, Eq)]
 pub(crate) struct Node {
-    /// The ledger length from which on tasks are finished. For a creation: the child and its descendants.
+    /// The least ledger length at which tasks are finished. For a creation: the child and its descendants.
     /// For the begin of a taskwait: the children so far. For the begin of a barrier: these and their
     /// descendants. For the end of a region: what it covers.
     pub(crate) limit: Limit,
@@ -32,7 +32,7 @@ pub(crate) struct Node {
 struct Progress {
     /// The last node of the task that the end of a taskgroup may have to visit.
     heads: Vec<Slot>,
-    /// The ledger length from which on the children so far are finished.
+    /// The least ledger length at which the children so far are finished.
     latest: Vec<Limit>,
     /// The same for the children so far and their descendants.
     families: Vec<Limit>,
@@ -52,7 +52,7 @@ impl Node {
 }
 
 /// What is noted at each record, except the ends of barriers; and, by number of the team and number of the
-/// barrier, the ledger length from which on the children that each member created before its barrier began
+/// barrier, the least ledger length at which the children that each member created before its barrier began
 /// are finished, with their descendants.
 pub(crate) struct Noted {
     pub(crate) nodes: Vec<Node>,

@@ -1,5 +1,5 @@
-//! From which ledger length on what the end of a barrier covers is finished, by the begins of all members
-//! of the team.
+//! The least ledger length at which what the end of a barrier covers is finished, by the begins of all
+//! members of the team.
 ghost use Rattle.std.specs.Prelude.{ℕ, ◌≡◌, ◌<◌, ◌+◌, IfOk, Some, length};
 ghost use Rattle.ompt_events.specs.Records.{region};
 ghost use Rattle.ompt_events.specs.Places.{at as says_at};

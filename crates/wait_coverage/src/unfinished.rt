@@ -22,12 +22,12 @@ use std::alloc::{AllocError, Global};
 use std::marker::Model;
 use teams::Teams;
 
-/// The lengths that are computed once, before an end is looked at: from which ledger lengths on the tasks
-/// of a run are finished, and what each end covers.
+/// The lengths that are computed once, before an end is looked at: the least ledger lengths at which the
+/// tasks of a run are finished, and at which what each end covers is.
 #[derive(Debug, Drop)]
 pub struct Known<'a> {
     done: Done<'a>,
-    /// By record that ends a region, the ledger length from which on what it covers is finished.
+    /// By record that ends a region, the least ledger length at which what it covers is finished.
     nodes: Vec<Node>,
 }
 
@@ -84,7 +84,7 @@ impl<'a> Known<'a> {
         &self.done
     }
 
-    /// Returns the ledger length from which on all that the end with this number covers is finished.
+    /// Returns the least ledger length at which all that the end with this number covers is finished.
     fn limit(&self, number: usize) -> Limit
         requires { number < length self.now.done.teams.run.records }
         ensures { IsEndLimit self.now.done number result }
@@ -92,14 +92,14 @@ impl<'a> Known<'a> {
         self.nodes[number].limit
     }
 
-    /// Returns by index of the task the ledger length from which on it is finished.
+    /// Returns by index of the task the least ledger length at which it is finished.
     pub fn own(&self) -> &[u64]
         ensures { result.now ≡ self.now.done.own }
     {
         self.done.own()
     }
 
-    /// Returns by index of the task the ledger length from which on it and all its descendants are
+    /// Returns by index of the task the least ledger length at which it and all its descendants are
     /// finished.
     pub fn families(&self) -> &[u64]
         ensures { result.now ≡ self.now.done.families }
@@ -109,7 +109,7 @@ impl<'a> Known<'a> {
 }
 
 /// Returns the lengths that the records give. If the records have right entries, as those without the
-/// causes 1 to 13 have, these are exactly the lengths from which on the trace's ledger holds the tasks'
+/// causes 1 to 13 have, these are exactly the least lengths at which the trace's ledger holds the tasks'
 /// credit. Takes a few steps for each record, and memory linear in the records. Fails only when out of
 /// memory.
 pub fn find_known<'a>(alloc: Global, teams: &'a Teams<'a>) -> Result<Known<'a>, Fault>
@@ -127,10 +127,10 @@ pub fn find_known<'a>(alloc: Global, teams: &'a Teams<'a>) -> Result<Known<'a>, 
 
 /// Returns, of the tasks that the end with this number in the tasks' own order covers, and that are
 /// unfinished there, the one created first in the file (OpenMP 5.2, 15.3 to 15.5). Returns none if all are
-/// finished, or if the record ends no wait. The contract guarantees this if the lengths are those from
-/// which on the tasks are finished, or, with right entries, those from which on their credit is held (F.
-/// Mattern, 1989). Takes a few steps, and where a task is unfinished a few for each record and memory
-/// linear in the records. Fails only when out of memory.
+/// finished, or if the record ends no wait. The contract guarantees this if the lengths are the least at
+/// which the tasks are finished, or, with right entries, the least at which their credit is held (F. Mattern,
+/// 1989). Takes a few steps, and where a task is unfinished a few for each record and memory linear in the
+/// records. Fails only when out of memory.
 pub fn find_unfinished(alloc: Global, known: &Known, number: usize) -> Result<Option<u64>, Fault>
     requires { number < length known.now.done.teams.run.records }
     ensures first { AreDone known.now.done → IfOk result (λ found.
@@ -169,9 +169,9 @@ pub(crate) fn unfinished_at(
 }
 
 /// Returns whether the end with this number in the tasks' own order covers the task, and the task is
-/// unfinished there (OpenMP 5.2, 15.3 to 15.5). The contract guarantees this if the lengths are those from
-/// which on the tasks are finished. Takes a few steps for each record, and memory linear in the records.
-/// Fails only when out of memory.
+/// unfinished there (OpenMP 5.2, 15.3 to 15.5). The contract guarantees this if the lengths are the least at
+/// which the tasks are finished. Takes a few steps for each record, and memory linear in the records. Fails
+/// only when out of memory.
 pub fn covers_unfinished(
     alloc: Global,
     known: &Known,

@@ -279,7 +279,7 @@ pub(crate) fn is_late_task(done: &Done, marks: &[bool], task: u64, seen: u32) ->
     }
 }
 
-/// Returns the same for the task at the index.
+/// Returns whether the task at the index is marked, and its length is above the one seen.
 fn is_late_index(done: &Done, marks: &[bool], index: usize, seen: u32) -> bool
     requires within { index < length done.now.teams.run.family.tasks }
     requires all { length marks.now ≡ length done.now.teams.run.family.tasks }
