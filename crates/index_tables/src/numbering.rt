@@ -2,14 +2,16 @@
 ghost use Rattle.std.specs.Prelude.{◌≡◌, ◌↔◌, Some, ℕ, slice_get, Contains, IsTrue, IfOk, IfErr};
 ghost use Rattle.index_tables.specs.Numbering.{AreApart, AreConsecutive, IsFirstAgain, IsSeededBy};
 
+use crate::dense::{DenseIds, close_span, place};
 use crate::seeded::Seeded;
 use indexmap::IndexSet;
 use std::alloc::{AllocError, Global};
 use std::marker::Model;
 
-/// Ids in their order, each once. An id's index is its place in the list. A look-up takes a few steps, and
-/// more where ids collide in the table. The seed of the table is made from all ids, so to change an id
-/// changes which ids collide: see `seeded`.
+/// Ids in their order, each once. An id's index is its place in the list. A look-up takes one step where each
+/// id is greater by 1 than the one before it, and where the ids lie close together. Other ids are hashed: a
+/// look-up takes a few steps, and more where ids collide in the table. The seed of that table is made from
+/// all ids, so to change an id changes which ids collide: see `seeded`.
 #[derive(Debug, Drop)]
 pub struct Numbering {
     table: Table,
@@ -18,9 +20,12 @@ pub struct Numbering {
 /// Where the indices are.
 #[derive(Debug, Drop)]
 enum Table {
-    /// Ids without gaps: the index of an id is its distance from the first.
+    /// Ids that rise by 1 each: the index of an id is its distance from the first.
     Consecutive(Vec<u64>),
-    /// Any ids, in a table that has the seed of these ids.
+    /// Ids that lie close together, as `dense` says: the index of an id is in the slot at its distance from the
+    /// least.
+    Dense(DenseIds),
+    /// Any other ids, in a table that has the seed of these ids.
     Hashed(IndexSet<u64, Seeded>),
 }
 
@@ -48,6 +53,18 @@ impl Numbering {
                 table: Table::Consecutive(ids),
             }));
         }
+        if let Some(span) = close_span(ids.as_slice()) {
+            return match place(alloc, ids.as_slice(), span)? {
+                Ok(slots) => Ok(Ok(Numbering {
+                    table: Table::Dense(DenseIds {
+                        ids,
+                        least: span.least,
+                        slots,
+                    }),
+                })),
+                Err(again) => Ok(Err(again)),
+            };
+        }
         match hash(alloc, ids.as_slice())? {
             Ok(known) => Ok(Ok(Numbering {
                 table: Table::Hashed(known),
@@ -71,6 +88,7 @@ impl Numbering {
     {
         match &self.table {
             Table::Consecutive(ids) => ids.as_slice(),
+            Table::Dense(dense) => dense.ids.as_slice(),
             Table::Hashed(ids) => ids.as_slice(),
         }
     }
@@ -88,6 +106,7 @@ impl Numbering {
     {
         match &self.table {
             Table::Consecutive(ids) => consecutive_index(ids.as_slice(), id),
+            Table::Dense(dense) => dense.index_of(id),
             Table::Hashed(ids) => ids.get_index_of(&id),
         }
     }

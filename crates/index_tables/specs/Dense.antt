@@ -1,0 +1,23 @@
+-- Slots for ids that lie close together, by the distance of each id from the least.
+use Rattle.std.specs.Prelude.{ℕ, ◌≡◌, ◌<◌, ◌≤◌, ◌+◌, ◌*◌, ◌^◌, List, Option, Some, length, slice_get}
+use Rattle.std.specs.Prelude.{slice_index}
+
+-- each id is at one of so many places from the least on
+abbrev pub AreBetween : List ℕ → ℕ → ℕ → Type 0
+AreBetween ids least places = (index : ℕ) → index < length ids
+    → (least ≤ slice_index ids index) × (slice_index ids index < least + places)
+
+-- at most 4 places for each id, and few of both
+pub record AreClose (ids : List ℕ) (least places : ℕ) : Type 0 where
+  pub between : AreBetween ids least places
+  pub dense : places ≤ 4 * length ids
+  pub few_places : places < 2 ^ 31
+  pub few_ids : length ids < 2 ^ 31
+
+-- no id is below the least; the slot at each distance has the index of the id there, if there is one
+pub record ArePlaced (ids : List ℕ) (least : ℕ) (slots : List (Option ℕ)) : Type 0 where
+  pub low : (index id : ℕ) → slice_get ids index ≡ Some id → least ≤ id
+  pub found : (distance index : ℕ) → slice_get slots distance ≡ Some (Some index)
+      → slice_get ids index ≡ Some (least + distance)
+  pub placed : (distance index : ℕ) → slice_get ids index ≡ Some (least + distance)
+      → slice_get slots distance ≡ Some (Some index)
