@@ -9,5 +9,7 @@ returns c =
     (λ taken is. record {
       inside = c.in_ok-first.first.now;
       opens = c.in_ok-first.ensures;
-      is = line-from-others c.in_ok-first.first.now _ taken.0 taken.1.now c.past_first_others-inside.ensures is;
+      is =
+          line-from-others c.in_ok-first.first.now _ taken.0 taken.1.now c.past_first_others-inside.ensures
+          is;
     })
