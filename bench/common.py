@@ -73,13 +73,13 @@ def write_long_trace(path, size, order):
 # Seconds and memory
 
 
-def timed(command, path=os.devnull, output=None):
+def timed(command, path=os.devnull, output=None, environment=None):
     """Seconds, peak memory in MB of 2^20 bytes, and what the command prints for the file; no seconds where
-    the run was cut. Where `output` is a path, it is written there instead. Ends where the status is none of a
-    verdict."""
+    the run was cut. Where `output` is a path, it is written there instead. Where `environment` is None, the
+    command has that of this process. Ends where the status is none of a verdict."""
     with open(path, "rb") as source, (open(output, "wb") if output else tempfile.TemporaryFile()) as sink:
         start = time.perf_counter()
-        process = subprocess.Popen(command, stdin=source, stdout=sink)
+        process = subprocess.Popen(command, stdin=source, stdout=sink, env=environment)
         timer = threading.Timer(LIMIT, process.kill)
         timer.start()
         _, status, usage = os.wait4(process.pid, 0)

@@ -1,7 +1,7 @@
 """Makes the Debian package byte by byte: the same bytes for the same program, commit and compiler, in any folder.
 
 Below usr/lib/taskaudit the scripts and what they need have the places that they have in the repository, without
-ompt/build, so that nothing is compiled there."""
+ompt/build, so that nothing is compiled there. The program is in its folder bin; usr/bin/taskaudit starts it."""
 import gzip
 import hashlib
 import io
@@ -27,6 +27,16 @@ COMPLETIONS = {'bash': 'usr/share/bash-completion/completions/{}', 'zsh': 'usr/s
                'fish': 'usr/share/fish/vendor_completions.d/{}.fish'}
 PRIVATE, OVERRIDES = 'usr/lib/taskaudit', 'usr/share/lintian/overrides/taskaudit'
 DOC = 'usr/share/doc/taskaudit'
+PROGRAM = f'{PRIVATE}/bin/taskaudit'
+# usr/bin/taskaudit. It finds the program by its own place, so a package works in any folder where it is unpacked.
+STARTER = b"""#!/bin/sh
+# Starts the program. glibc then asks for pages of 2 MB for large blocks, so large files take less time. The last
+# setting of a name counts: the user's, where there is one.
+case $0 in */*) script=$0 ;; *) script=./$0 ;; esac
+[ ! -L "$script" ] || script=$(readlink -f -- "$script")
+export GLIBC_TUNABLES="glibc.malloc.hugetlb=1${GLIBC_TUNABLES:+:$GLIBC_TUNABLES}"
+exec "${script%/*}/../lib/taskaudit/bin/taskaudit" "$@"
+"""
 # The scripts, by the names of the links to them in usr/bin.
 SCRIPTS = {'taskaudit-run': 'ompt/taskaudit-run', 'taskaudit-explain': 'tools/explain'}
 # What the scripts import and read.
@@ -38,14 +48,14 @@ LIBRARIES = ('libtaskaudit_ompt.so', 'libtaskaudit_beside.so')
 OLDEST_PYTHON = (3, 10)
 ANY_PYTHON, PYTHON = b'#!/usr/bin/env python3\n', b'#!/usr/bin/python3\n'
 RECOMMENDED = 'libomp5 | libomp-dev, llvm | binutils'
-OVERRIDDEN = """# taskaudit itself needs no shared library, so it runs on any Linux on x86-64.
-taskaudit: statically-linked-binary [usr/bin/taskaudit]
+OVERRIDDEN = f"""# The program needs no shared library, so it runs on any Linux on x86-64.
+taskaudit: statically-linked-binary [{PROGRAM}]
 """
 COPYRIGHT = """Format: https://www.debian.org/doc/packaging-manuals/copyright-format/1.0/
 Upstream-Name: taskaudit
 Comment:
- usr/bin/taskaudit is linked with the GNU C library, which is under the LGPL, version 2.1 or later (its text is in
- /usr/share/common-licenses/LGPL-2.1). A release has the object file taskaudit.o, to link it again.
+ usr/lib/taskaudit/bin/taskaudit is linked with the GNU C library, which is under the LGPL, version 2.1 or later (its
+ text is in /usr/share/common-licenses/LGPL-2.1). A release has the object file taskaudit.o, to link it again.
 
 Files: *
 Copyright: {year} the authors of taskaudit
@@ -147,7 +157,7 @@ def words_files():
 def installed_files(program, recorders, about):
     """Returns the files of the package, a mode and bytes by each name. `about` is its version, who keeps it, and the
     time of the commit in seconds."""
-    files = {'usr/bin/taskaudit': program, OVERRIDES: OVERRIDDEN.encode(), **words_files(),
+    files = {PROGRAM: program, 'usr/bin/taskaudit': STARTER, OVERRIDES: OVERRIDDEN.encode(), **words_files(),
              f'{DOC}/copyright': copyright_of(about[2]), f'{DOC}/changelog.gz': compressed(changes_of(*about)),
              f'{DOC}/CHANGELOG.md': read(os.path.join(TOP, 'CHANGELOG.md'))}
     files |= {f'{DOC}/{name}': read(os.path.join(TOP, 'docs', name)) for name in DOCUMENTS}
