@@ -61,8 +61,8 @@ pub struct Crew<'a, R, G> {
 
 /// Reads, checks and writes as [`audit`] does with the report alone, by the workers of the crew, which read
 /// and check side by side. The source is read ahead of the lines that are judged. Fails as [`audit`] does,
-/// and if there are no workers or more than [`MAX_WORKERS`], which is tried before anything is read, or if the
-/// gate refuses a worker.
+/// and if there are no workers or more than [`MAX_WORKERS`], which is tried before anything is read, or if
+/// the gate refuses a worker.
 pub fn audit_on<R: Threads + Sync, G: Gate + Sync, I: Source, O: Sink>(
     alloc: Global,
     crew: Crew<R, G>,
