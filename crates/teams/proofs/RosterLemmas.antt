@@ -5,8 +5,9 @@ use Rattle.std.proofs.lemmas.Bool.{cases_eq, cases_lt, cases_order}
 use Rattle.std.proofs.lemmas.Option.{none-some, same_Some, slice_get_within, slice_get-get_or}
 use Rattle.std.proofs.lemmas.List.{length_push, length-set, length-replicate, get_or-replicate}
 use Rattle.std.proofs.Math.ListN.{set}
+use Rattle.std.proofs.Math.Nat.{le-max_left, le-max_right}
 use Rattle.std.specs.Global.{Vec}
-use Rattle.std.specs.Prelude.{is_some, slice_get, replicate, Contains}
+use Rattle.std.specs.Prelude.{is_some, max, slice_get, replicate, Contains}
 use Rattle.ompt_events.specs.declared.records.Record.{Record}
 use Rattle.ompt_events.specs.declared.records.Membership.{Membership}
 use Rattle.ompt_events.specs.declared.cause.Cause.TheVariants.{CreatedTwice}
@@ -20,12 +21,13 @@ use Rattle.task_tree.specs.Makers.{AreNoted}
 use Rattle.index_tables.specs.Numbering.{AreApart}
 use Rattle.task_tree.proofs.LinkLemmas.{get_set_same, get_set_other}
 use Rattle.task_tree.proofs.OnceLemmas.{made_once}
-use Rattle.teams.specs.Members.{IsLead, IsLeadAt, AreSizes}
+use Rattle.teams.specs.Members.{IsLead, IsLeadAt, IsInTeam, in_own, in_joined, AreInTeams, AreSizes}
 use Rattle.teams.specs.Rosters.{empty_slots, IsSlotOf, AreSlots, AreEnrolled, AreFirstSlots, own_slot, empty}
-use Rattle.teams.specs.Rosters.{AreFirstRosters, FitsTeam, HasSlot, LacksNothing, IsWholeBefore}
+use Rattle.teams.specs.Rosters.{AreFirstRosters, AreTeamsBelow, FitsTeam, HasSlot, LacksNothing}
+use Rattle.teams.specs.Rosters.{IsWholeBefore}
 use Rattle.teams.proofs.MemberLemmas.{never_of, joined_at_made, initial_at_made, joined_once, own_lead}
 use Rattle.teams.proofs.MemberLemmas.{members_pushed, members_same, member_place, place_member, lead_one}
-use Rattle.teams.proofs.MemberLemmas.{lead_other}
+use Rattle.teams.proofs.MemberLemmas.{lead_other, lead_there, lead_within, initial_once}
 
 -- ---- empty slots
 
@@ -145,7 +147,8 @@ slots_more rs n tasks m own slots apart joins is_own free are = record {
 pub enrolled_same : (rs : List Record) (n : ℕ) (tasks : List ℕ) (rosters : List (Vec (Option ℕ)))
     → AreEnrolled rs n tasks rosters → at joined rs n ≡ None → AreEnrolled rs (n + 1) tasks rosters
 enrolled_same rs n tasks rosters are none = record {
-  all = are.all;
+  leads = are.leads;
+  initials = are.initials;
   each =
       λ parallel lead roster leads stands.
       slots_same rs n tasks parallel roster.items (λ m joins same. never_of (at joined rs n) m none joins)
@@ -163,7 +166,12 @@ pub enrolled_more : (rs : List Record) (n : ℕ) (tasks : List ℕ) (rosters : L
 enrolled_more rs n tasks rosters m lead own old new free apart are joins leads is_own stands_old
     is_free is_new =
     record {
-      all = length-set rosters lead new ∙ are.all;
+      leads = λ parallel index leads'.
+          let inside = are.leads parallel index leads' in
+          let long = length-set rosters lead new in omega (arith, inside, long);
+      initials = λ index task is_task initial.
+          let inside = are.initials index task is_task initial in
+          let long = length-set rosters lead new in omega (arith, inside, long);
       each = λ parallel index roster leads' stands. elim (cases_eq index lead) [
         | inl same ↦
             let P : ℕ → Type 0 = IsLead rs tasks parallel in
@@ -380,11 +388,104 @@ rosters_more rs tasks sizes n rosters last are here = record {
   ];
 }
 
-pub rosters_enrolled : (rs : List Record) (tasks sizes : List ℕ) (n : ℕ) (rosters : List (Vec (Option ℕ)))
-    → IsFreeOf rs CreatedTwice → AreSizes rs (length rs) tasks sizes → n ≡ length sizes
+pub lead_of_member : (rs : List Record) (tasks : List ℕ) (i lead : ℕ) (m : Membership)
+    → IsLeadAt rs tasks i lead → at joined rs i ≡ Some m → IsLead rs tasks m.parallel lead
+lead_of_member rs tasks i lead m is joins =
+    let P : Membership → Type 0 = λ x. IsLead rs tasks x.parallel lead in
+    subst P (same_Some is.member m (sym is.joins ∙ joins)) is.leads
+
+-- one task more, which is in a team or in none
+pub below_more : (teams : List (Option ℕ)) (n count team : ℕ) → AreTeamsBelow teams n count
+    → slice_get teams n ≡ Some (Some team) → AreTeamsBelow teams (n + 1) (max count (team + 1))
+below_more teams n count team below is = λ index other before stands. elim (cases_eq index n) [
+  | inl last ↦
+      let same : team ≡ other =
+      same_Some team other
+      (same_Some (Some team) (Some other) (sym is ∙ ap (slice_get teams) (sym last) ∙ stands)) in
+      let less = le-max_right count (team + 1) in omega (arith, same, less)
+  | inr earlier ↦
+      let less = below index other (omega (arith, before, earlier)) stands in
+      let more = le-max_left count (team + 1) in omega (arith, less, more)
+]
+
+pub below_same : (teams : List (Option ℕ)) (n count : ℕ) → AreTeamsBelow teams n count
+    → slice_get teams n ≡ Some None → AreTeamsBelow teams (n + 1) count
+below_same teams n count below is = λ index other before stands. elim (cases_eq index n) [
+  | inl last ↦
+      absurd
+      (none-some other
+      (same_Some None (Some other) (sym is ∙ ap (slice_get teams) (sym last) ∙ stands)))
+  | inr earlier ↦ below index other (omega (arith, before, earlier)) stands
+]
+
+-- the lead of each team is below the count, if the numbers of all teams are
+lead_below : (rs : List Record) (tasks : List ℕ) (teams : List (Option ℕ)) (parallel lead count : ℕ)
+    → IsFreeOf rs CreatedTwice → AreApart tasks → AreInTeams rs (length rs) tasks teams
+    → AreTeamsBelow teams (length teams) count → IsLead rs tasks parallel lead → lead < count
+lead_below rs tasks teams parallel lead count free apart are below leads =
+    of (get_or teams lead None) (slice_get-get_or teams lead None within)
+  where
+    within : lead < length teams
+    within = lead_within rs tasks teams parallel lead leads are.all
+
+    of : (slot : Option ℕ) → slice_get teams lead ≡ Some slot → lead < count
+    of None stands =
+        let none =
+        lead_there rs tasks teams leads.place lead leads.first None free are leads.joins leads.here stands in
+        absurd (never_of (at joined rs leads.place) leads.first none leads.joins)
+    of (Some team) stands =
+        let there =
+        lead_there rs tasks teams leads.place lead leads.first (Some team) free are leads.joins leads.here
+        stands in
+        let P : ℕ → Type 0 = λ p. IsLead rs tasks p team in
+        let same =
+        lead_one rs tasks parallel lead team apart leads
+        (subst P leads.same (lead_of_member rs tasks leads.place team leads.first there leads.joins)) in
+        let less = below lead team within stands in
+        omega (arith, same, less)
+
+-- an initial task is the lead of its own team
+initial_below : (rs : List Record) (tasks : List ℕ) (teams : List (Option ℕ)) (index task count : ℕ)
+    → IsFreeOf rs CreatedTwice → AreInTeams rs (length rs) tasks teams
+    → AreTeamsBelow teams (length teams) count → slice_get tasks index ≡ Some task → IsInitial rs task
+    → index < count
+initial_below rs tasks teams index task count free are below is_task initial =
+    of (get_or teams index None) (slice_get-get_or teams index None within)
+  where
+    within : index < length teams
+    within =
+        let inside = slice_get_within tasks index task is_task in
+        let all = are.all in omega (arith, inside, all)
+
+    of_team : (team : ℕ) → IsInTeam rs (length rs) tasks index task team → team < count → index < count
+    of_team team (in_own i before is same) less = omega (arith, same, less)
+    of_team team (in_joined i m before joins is leads) less =
+        absurd (initial_once rs initial.0 i task m free initial.1 joins is)
+
+    of : (slot : Option ℕ) → slice_get teams index ≡ Some slot → index < count
+    of None stands =
+        absurd
+        ((are.none index task is_task stands).not_initial initial.0
+        (at_within begun_initial rs initial.0 task initial.1) initial.1)
+    of (Some team) stands =
+        of_team team (are.known index task team is_task stands) (below index team within stands)
+
+pub rosters_enrolled : (rs : List Record) (tasks sizes : List ℕ) (teams : List (Option ℕ)) (n : ℕ)
+    (rosters : List (Vec (Option ℕ)))
+    → IsFreeOf rs CreatedTwice → AreApart tasks → AreSizes rs (length rs) tasks sizes
+    → AreInTeams rs (length rs) tasks teams → AreTeamsBelow teams (length teams) n
     → AreFirstRosters rs tasks sizes n rosters → AreEnrolled rs 0 tasks rosters
-rosters_enrolled rs tasks sizes n rosters free sizes_are all are = record {
-  all = are.all ∙ all ∙ sizes_are.all;
+rosters_enrolled rs tasks sizes teams n rosters free apart sizes_are teams_are below are = record {
+  leads =
+      λ parallel lead leads.
+      let all = are.all in
+      let less = lead_below rs tasks teams parallel lead n free apart teams_are below leads in
+      omega (arith, all, less);
+  initials =
+      λ index task is_task initial.
+      let all = are.all in
+      let less = initial_below rs tasks teams index task n free teams_are below is_task initial in
+      omega (arith, all, less);
   each =
       λ parallel lead roster leads stands.
       first_slots rs tasks sizes parallel lead roster.items free sizes_are leads
@@ -410,12 +511,6 @@ pub initial_there : (rs : List Record) (place task other : ℕ) → at made rs p
 initial_there rs place task other is_made is = (place, is ∙ sym (initial_at_made rs place other is) ∙ is_made)
 
 -- ---- the member that begins there
-
-pub lead_of_member : (rs : List Record) (tasks : List ℕ) (i lead : ℕ) (m : Membership)
-    → IsLeadAt rs tasks i lead → at joined rs i ≡ Some m → IsLead rs tasks m.parallel lead
-lead_of_member rs tasks i lead m is joins =
-    let P : Membership → Type 0 = λ x. IsLead rs tasks x.parallel lead in
-    subst P (same_Some is.member m (sym is.joins ∙ joins)) is.leads
 
 pub same_first : (rs : List Record) (tasks : List ℕ) (lead place there : ℕ) (first found : Membership)
     → IsFreeOf rs CreatedTwice → at made rs there ≡ slice_get tasks lead → at joined rs there ≡ Some found

@@ -378,15 +378,33 @@ full_roster rs tasks rosters team number roster are stands within = elim (are.ot
       )
 ]
 
+-- each team has a roster
+team_enrolled : (rs : List Record) (tasks : List ℕ) (teams : List (Option ℕ))
+    (rosters : List (Vec (Option ℕ))) (index team : ℕ)
+    → AreInTeams rs (length rs) tasks teams → AreEnrolled rs (length rs) tasks rosters
+    → slice_get teams index ≡ Some (Some team) → team < length rosters
+team_enrolled rs tasks teams rosters index team are enrolled stands =
+    of (are.known index task team is_task stands)
+  where
+    task : ℕ
+    task = get_or tasks index 0
+
+    is_task : slice_get tasks index ≡ Some task
+    is_task =
+        let inside = slice_get_within teams index (Some team) stands in
+        let all = are.all in slice_get-get_or tasks index 0 (omega (arith, inside, all))
+
+    of : IsInTeam rs (length rs) tasks index task team → team < length rosters
+    of (in_own i below is same) =
+        let inside = enrolled.initials index task is_task (i, is) in omega (arith, same, inside)
+    of (in_joined i m below joins is leads) = enrolled.leads m.parallel team leads
+
 pub rosters_are : (rs : List Record) (tasks : List ℕ) (teams : List (Option ℕ))
     (rosters : List (Vec (Option ℕ)))
     → IsFreeOf rs CreatedTwice → AreApart tasks → AreInTeams rs (length rs) tasks teams
     → AreEnrolled rs (length rs) tasks rosters → AreRosters rs tasks teams rosters
 rosters_are rs tasks teams rosters free apart are enrolled = record {
-  within =
-      λ index team stands.
-      let inside = teams_within rs (length rs) tasks teams are index team stands in
-      let all = are.all in let all_rosters = enrolled.all in omega (arith, inside, all, all_rosters);
+  within = λ index team stands. team_enrolled rs tasks teams rosters index team are enrolled stands;
   each =
       λ index task team number other mate roster is_task is_team is_roster is_mate.
       numbered_in rs tasks rosters index task team other mate number roster free apart enrolled is_task

@@ -36,11 +36,18 @@ pub record AreSlots (rs : List Record) (n : ℕ) (tasks : List ℕ) (parallel : 
   pub only : (number index : ℕ) → slice_get slots number ≡ Some (Some index)
       → IsSlotOf rs n tasks parallel number index
 
+-- the teams of the first n tasks have numbers below the count
+abbrev pub AreTeamsBelow : List (Option ℕ) → ℕ → ℕ → Type 0
+AreTeamsBelow teams n count =
+    (index team : ℕ) → index < n → slice_get teams index ≡ Some (Some team) → team < count
+
 -- at the number of each team, the slots of its members; an initial task has its own, and any other number
 -- has none
 pub record AreEnrolled (rs : List Record) (n : ℕ) (tasks : List ℕ)
     (rosters : List (Vec (Option ℕ))) : Type 0 where
-  pub all : length rosters ≡ length tasks
+  pub leads : (parallel lead : ℕ) → IsLead rs tasks parallel lead → lead < length rosters
+  pub initials : (index task : ℕ) → slice_get tasks index ≡ Some task → IsInitial rs task
+      → index < length rosters
   pub each : (parallel lead : ℕ) (roster : Vec (Option ℕ)) → IsLead rs tasks parallel lead
       → slice_get rosters lead ≡ Some roster → AreSlots rs n tasks parallel roster.items
   pub own : (index task : ℕ) (roster : Vec (Option ℕ)) → slice_get tasks index ≡ Some task

@@ -1,10 +1,11 @@
 //! The slots of the members of each team, by their numbers, and the first member for which there is none.
-ghost use Rattle.std.specs.Prelude.{ℕ, ◌≡◌, ◌<◌, ◌↔◌, IfOk, IsTrue, Some, length, replicate, slice_get};
+ghost use Rattle.std.specs.Prelude.{ℕ, ◌≡◌, ◌<◌, ◌≤◌, ◌↔◌, IfOk, IsTrue, Some, length, max, replicate, slice_get};
 ghost use Rattle.ompt_events.specs.declared.records.Membership.{Membership};
 ghost use Rattle.ompt_events.specs.Records.{joined};
 ghost use Rattle.ompt_events.specs.Places.{at as says_at};
 ghost use Rattle.teams.specs.Members.{IsJoining};
-ghost use Rattle.teams.specs.Rosters.{AreFirstSlots, AreEnrolled, IsFitting, IsWholeBefore, TakesSlot, IsEnrolling};
+ghost use Rattle.teams.specs.Fewest.{AreTeamsWithin};
+ghost use Rattle.teams.specs.Rosters.{AreTeamsBelow, AreFirstSlots, AreEnrolled, IsFitting, IsWholeBefore, TakesSlot, IsEnrolling};
 
 use crate::tables::Tables;
 use index_tables::Slot;
@@ -13,16 +14,39 @@ use std::alloc::{AllocError, Global};
 use task_tree::Run;
 
 /// Returns by number of the team an empty slot for each of its members. An initial task is in its own slot.
+/// There is no roster after that of the last team.
 pub(crate) fn empty_rosters(alloc: Global, tables: &Tables) -> Result<Vec<Vec<Slot>>, AllocError>
     ensures { IfOk result (λ rosters. AreEnrolled tables.now.run.records 0
         tables.now.run.family.tasks rosters.items) }
 {
-    let tasks = tables.run().task_count();
-    let mut rosters = Vec::with_capacity(alloc, tasks)?;
-    for index in 0..tasks {
+    let count = roster_count(tables.teams());
+    let mut rosters = Vec::with_capacity(alloc, count)?;
+    for index in 0..count {
         rosters.push(empty_roster(alloc, tables, index)?)?;
     }
     Ok(rosters)
+}
+
+/// Returns one more than the greatest number of a team, or 0 if there is no team.
+fn roster_count(teams: &[Slot]) -> usize
+    requires { AreTeamsWithin teams.now }
+    ensures few { result ≤ length teams.now }
+    ensures all { AreTeamsBelow teams.now (length teams.now) result }
+{
+    let mut count = 0;
+    for index in 0..teams.len() {
+        if let Some(team) = teams[index].get() {
+            count = greater(count, team + 1);
+        }
+    }
+    count
+}
+
+/// Returns the greater of two counts.
+fn greater(count: usize, other: usize) -> usize
+    ensures { result ≡ max count other }
+{
+    count.max(other)
 }
 
 /// Returns the slots of the team whose number is this index.

@@ -91,6 +91,15 @@ impl<'a> Tables<'a> {
         self.regions.own()
     }
 
+    /// Returns by index of the task the number of its team; none for an explicit task.
+    pub(crate) fn teams(&self) -> &[Slot]
+        ensures value { result.now ≡ self.now.teams }
+        ensures are_tables { AreTables self.now }
+    {
+        let _run = self.regions.own();
+        self.teams.as_slice()
+    }
+
     /// Returns the number of the team of the task at this index.
     pub(crate) fn team(&self, index: usize) -> Option<usize>
         requires { index < length self.now.teams }

@@ -27,7 +27,8 @@ pub struct Teams<'a> {
     regions: &'a Regions<'a>,
     /// By index of the task the number of its team; none for an explicit task.
     teams: Vec<Slot>,
-    /// By number of the team the indices of its members, by their own numbers.
+    /// By number of the team the indices of its members, by their own numbers. There is no roster after that
+    /// of the last team.
     rosters: Vec<Vec<Slot>>,
     /// By index of the task the numbers of the records at which it begins barriers. There is no row after
     /// that of the last task that begins one.

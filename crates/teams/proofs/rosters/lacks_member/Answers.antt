@@ -5,7 +5,7 @@ use Rattle.ompt_events.specs.Places.{at}
 use Rattle.task_tree.specs.Runs.{RunView}
 use Rattle.task_tree.specs.Subjects.{Calls}
 use Rattle.teams.proofs.CallLemmas.{call_same, read_at}
-use Rattle.teams.proofs.MemberLemmas.{joined_at_root, never_of, lead_there, lead_within}
+use Rattle.teams.proofs.MemberLemmas.{joined_at_root, never_of, lead_there}
 use Rattle.teams.proofs.RosterLemmas.{lacks_none, enrolled_same, enrolled_more, slot_within}
 use Rattle.teams.proofs.RosterLemmas.{slot_taken, slot_free}
 use Rattle.teams.proofs.RosterLemmas.{lead_of_member}
@@ -111,8 +111,7 @@ index_mut-requires c =
     lead_there rs tasks tables.teams c.args.at index m (Some lead) are.run.family.once are.teams joins is
     (c.team.ensures ∙ ap Some c.in-Some-team.is) in
     let leads = lead_of_member rs tasks c.args.at lead m there joins in
-    let within : lead < length c.args.rosters.now.items =
-    lead_within rs tasks c.args.rosters.now.items m.parallel lead leads c.requires.enrolled.all in
+    let within : lead < length c.args.rosters.now.items = c.requires.enrolled.leads m.parallel lead leads in
     search rules
 
 pub take_slot-requires-clause-inside : goal.take_slot-requires-clause-inside
@@ -138,8 +137,7 @@ take_slot-requires-clause-inside c =
     (c.team.ensures ∙ ap Some c.in-Some-team.is) in
     let leads = lead_of_member rs tasks c.args.at lead m there joins in
     let old = c.index_mut.result.now in
-    let within =
-    lead_within rs tasks c.args.rosters.now.items m.parallel lead leads c.requires.enrolled.all in
+    let within = c.requires.enrolled.leads m.parallel lead leads in
     let stands = read_at c.args.rosters.now.items lead old within c.index_mut.ensures.value in
     let slots = c.requires.enrolled.each m.parallel lead old leads stands in
     slot_within rs c.args.at tasks m old.items c.if-not-fits.ensures slots
@@ -189,8 +187,7 @@ returns-then-take_slot c =
     (c.team.ensures ∙ ap Some c.in-Some-team.is) in
     let leads = lead_of_member rs tasks c.args.at lead m there joins in
     let old = c.index_mut.result.now in
-    let within =
-    lead_within rs tasks c.args.rosters.now.items m.parallel lead leads c.requires.enrolled.all in
+    let within = c.requires.enrolled.leads m.parallel lead leads in
     let stands = read_at c.args.rosters.now.items lead old within c.index_mut.ensures.value in
     let slots = c.requires.enrolled.each m.parallel lead old leads stands in (
       slot_free rs c.args.at tasks m old.items are.run.family.noted joins c.if-not-fits.ensures slots
@@ -230,8 +227,7 @@ returns c =
     (c.team.ensures ∙ ap Some c.in-Some-team.is) in
     let leads = lead_of_member rs tasks c.args.at lead m there joins in
     let old = c.index_mut.result.now in
-    let within =
-    lead_within rs tasks c.args.rosters.now.items m.parallel lead leads c.requires.enrolled.all in
+    let within = c.requires.enrolled.leads m.parallel lead leads in
     let stands = read_at c.args.rosters.now.items lead old within c.index_mut.ensures.value in
     let slots = c.requires.enrolled.each m.parallel lead old leads stands in (
       ap is_some joins,
