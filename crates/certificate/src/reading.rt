@@ -14,7 +14,7 @@ use crate::faults::ReadFault;
 use crate::kept::Kept;
 use crate::window::Window;
 use json::Scratch;
-use lines::{MAX_LINE, ReadCause, TRACES, header, record, record_as_written, record_in_front};
+use lines::{MAX_LINE, ReadCause, TRACES, header, record, record_in_front};
 use ompt_events::{MAX_RECORDS, Trace};
 use std::alloc::Global;
 
@@ -198,11 +198,9 @@ fn take_text(
         (text_adds newest line kept.old text.now) }
 {
     if line == 1 {
-        return take_header(alloc, newest, text, kept, scratch);
-    }
-    match record_as_written(alloc, kept.version(), text) {
-        Some(event) => kept.keep(event),
-        None => take_other(alloc, text, kept, scratch),
+        take_header(alloc, newest, text, kept, scratch)
+    } else {
+        take_other(alloc, text, kept, scratch)
     }
 }
 

@@ -58,7 +58,7 @@ macro_rules! take_first {
 // What follows the parts of a line.
 macro_rules! take_rest {
     ($between:ident end $rest:ident) => {
-        let Some($rest) = Others::after($rest, "}") else { return None; };
+        let Some($rest) = $between::after($rest, "}") else { return None; };
     };
     ($between:ident $tail:ident $rest:ident $first:ident $second:ident $third:ident $fourth:ident) => {
         let Some((($first, $second, $third, $fourth), $rest)) = $tail::<$between>($rest) else {
@@ -67,17 +67,17 @@ macro_rules! take_rest {
     };
 }
 
-// The parts of a line, what follows them, and then what they make. A recorder's own members mostly stand
-// before the second part, or at the end: there they are always looked for.
+// The parts of a line, what follows them, and then what they make. What may stand before the second part is
+// named, and then what may stand before a later one.
 macro_rules! take_line {
     (
-        ($between:ident $alloc:ident $rest:ident $made:tt)
+        ($second:ident $between:ident $alloc:ident $rest:ident $made:tt)
         $($first:literal)+ $first_kind:ident $first_value:ident
-        $(, $($second:literal)+ $second_kind:ident $second_value:ident
+        $(, $($next:literal)+ $next_kind:ident $next_value:ident
             $(, $($text:literal)+ $kind:ident $value:ident)*)?; $tail:ident $($last:ident)*
     ) => {{
         take_first!($alloc $rest $($first)+ $first_kind $first_value);
-        $(take_part!(Others $alloc $rest $($second)+ $second_kind $second_value);
+        $(take_part!($second $alloc $rest $($next)+ $next_kind $next_value);
             $(take_part!($between $alloc $rest $($text)+ $kind $value);)*)?
         take_rest!($between $tail $rest $($last)*);
         Some(($made, $rest))
@@ -118,7 +118,8 @@ pub(crate) fn among_others(alloc: Global, version: u32, line: &[u8]) -> Option<(
     members::<Others>(alloc, version, inside)
 }
 
-/// Reads the members of a line, and its end.
+/// Reads the members of a line, and its end. Lines that are rare are not inlined: with them beside it, any
+/// other line takes longer.
 #[inline(always)]
 fn members<B: Between>(alloc: Global, version: u32, inside: &[u8]) -> Option<(Record, &[u8])>
     ensures { IfSome result (λ taken. IsRecordInside inside.now taken.0 taken.1.now) }
@@ -134,6 +135,7 @@ fn members<B: Between>(alloc: Global, version: u32, inside: &[u8]) -> Option<(Re
 }
 
 /// Reads the line of a parallel region.
+#[inline(never)]
 fn parallel<B: Between>(inside: &[u8]) -> Option<(Record, &[u8])>
     ensures { IfSome result (λ taken. IsRecordInside inside.now taken.0 taken.1.now) }
 {
@@ -144,6 +146,7 @@ fn parallel<B: Between>(inside: &[u8]) -> Option<(Record, &[u8])>
 }
 
 /// Reads a `cancel`.
+#[inline(never)]
 fn cancel<B: Between>(alloc: Global, inside: &[u8]) -> Option<(Record, &[u8])>
     ensures { IfSome result (λ taken. IsRecordInside inside.now taken.0 taken.1.now) }
 {
@@ -212,7 +215,7 @@ fn thread_begin<B: Between>(inside: &[u8]) -> Option<(Record, &[u8])>
     ensures { IfSome result (λ taken. IsRecordInside inside.now taken.0 taken.1.now) }
 {
     line_parts!(thread_begin take_line
-        (B _alloc inside (Record { thread, seq, seen, body: Body::ThreadBegin { kind } }))
+        (B B _alloc inside (Record { thread, seq, seen, body: Body::ThreadBegin { kind } }))
         kind seen seq thread)
 }
 
@@ -221,7 +224,7 @@ fn thread_end<B: Between>(inside: &[u8]) -> Option<(Record, &[u8])>
     ensures { IfSome result (λ taken. IsRecordInside inside.now taken.0 taken.1.now) }
 {
     line_parts!(thread_end take_line
-        (B _alloc inside (Record { thread, seq, seen, body: Body::ThreadEnd }))
+        (B B _alloc inside (Record { thread, seq, seen, body: Body::ThreadEnd }))
         seen seq thread)
 }
 
@@ -230,7 +233,7 @@ fn parallel_begin<B: Between>(inside: &[u8]) -> Option<(Record, &[u8])>
     ensures { IfSome result (λ taken. IsRecordInside inside.now taken.0 taken.1.now) }
 {
     line_parts!(parallel_begin take_line
-        (B _alloc inside (Record {
+        (B B _alloc inside (Record {
             thread, seq, seen,
             body: Body::ParallelBegin { requested, task, parallel },
         }))
@@ -242,16 +245,17 @@ fn parallel_end<B: Between>(inside: &[u8]) -> Option<(Record, &[u8])>
     ensures { IfSome result (λ taken. IsRecordInside inside.now taken.0 taken.1.now) }
 {
     line_parts!(parallel_end take_line
-        (B _alloc inside (Record { thread, seq, seen, body: Body::ParallelEnd { task, parallel } }))
+        (B B _alloc inside (Record { thread, seq, seen, body: Body::ParallelEnd { task, parallel } }))
         parallel seen seq task thread)
 }
 
 /// Reads `implicit_task`.
+#[inline(never)]
 fn implicit_task<B: Between>(inside: &[u8]) -> Option<(Record, &[u8])>
     ensures { IfSome result (λ taken. IsRecordInside inside.now taken.0 taken.1.now) }
 {
     line_parts!(implicit_task take_line
-        (B _alloc inside (Record {
+        (B B _alloc inside (Record {
             thread, seq, seen,
             body: Body::ImplicitTask { endpoint, actual, index, flags, parallel, task },
         }))
@@ -263,16 +267,17 @@ fn task_create<B: Between>(inside: &[u8]) -> Option<(Record, &[u8])>
     ensures { IfSome result (λ taken. IsRecordInside inside.now taken.0 taken.1.now) }
 {
     line_parts!(task_create take_line
-        (B _alloc inside (Record { thread, seq, seen, body: Body::TaskCreate { deps, flags, task, child } }))
+        (Others B _alloc inside (Record { thread, seq, seen, body: Body::TaskCreate { deps, flags, task, child } }))
         child deps flags seen seq task thread)
 }
 
 /// Reads `dependences`.
+#[inline(never)]
 fn dependences<B: Between>(alloc: Global, inside: &[u8]) -> Option<(Record, &[u8])>
     ensures { IfSome result (λ taken. IsRecordInside inside.now taken.0 taken.1.now) }
 {
     line_parts!(dependences take_line
-        (B alloc inside (Record { thread, seq, seen, body: Body::Dependences { task, list } }))
+        (B B alloc inside (Record { thread, seq, seen, body: Body::Dependences { task, list } }))
         list seen seq task thread)
 }
 
@@ -281,7 +286,7 @@ fn switching<B: Between>(inside: &[u8]) -> Option<(Record, &[u8])>
     ensures { IfSome result (λ taken. IsRecordInside inside.now taken.0 taken.1.now) }
 {
     line_parts!(switching take_line
-        (B _alloc inside (Record {
+        (B B _alloc inside (Record {
             thread, seq, seen,
             body: Body::TaskSchedule { status, turns: None, prior, next, claim: None },
         }))
@@ -293,7 +298,7 @@ fn finishing<B: Between>(alloc: Global, inside: &[u8]) -> Option<(Record, &[u8])
     ensures { IfSome result (λ taken. IsRecordInside inside.now taken.0 taken.1.now) }
 {
     line_parts!(finishing take_line
-        (B alloc inside {
+        (B B alloc inside {
             let Some(claim) = claim_of(alloc, kept, root, path) else {
                 return None;
             };
@@ -310,7 +315,7 @@ fn switching_in_turn<B: Between>(inside: &[u8]) -> Option<(Record, &[u8])>
     ensures { IfSome result (λ taken. IsRecordInside inside.now taken.0 taken.1.now) }
 {
     line_parts!(switching_in_turn take_line
-        (B _alloc inside (Record {
+        (B B _alloc inside (Record {
             thread, seq, seen,
             body: Body::TaskSchedule {
                 status,
@@ -326,7 +331,7 @@ fn finishing_in_turn<B: Between>(alloc: Global, inside: &[u8]) -> Option<(Record
     ensures { IfSome result (λ taken. IsRecordInside inside.now taken.0 taken.1.now) }
 {
     line_parts!(finishing_in_turn take_line
-        (B alloc inside {
+        (B B alloc inside {
             let Some(claim) = claim_of(alloc, kept, root, path) else {
                 return None;
             };
@@ -347,7 +352,7 @@ fn sync_region<B: Between>(inside: &[u8]) -> Option<(Record, &[u8])>
     ensures { IfSome result (λ taken. IsRecordInside inside.now taken.0 taken.1.now) }
 {
     line_parts!(sync_region take_line
-        (B _alloc inside (Record {
+        (B B _alloc inside (Record {
             thread, seq, seen,
             body: Body::SyncRegion { kind, endpoint, parallel, task },
         }))
@@ -359,7 +364,7 @@ fn cancelling<B: Between>(inside: &[u8]) -> Option<(Record, &[u8])>
     ensures { IfSome result (λ taken. IsRecordInside inside.now taken.0 taken.1.now) }
 {
     line_parts!(cancelling take_line
-        (B _alloc inside (Record { thread, seq, seen, body: Body::Cancel { flags, task, claim: None } }))
+        (B B _alloc inside (Record { thread, seq, seen, body: Body::Cancel { flags, task, claim: None } }))
         flags seen seq task thread)
 }
 
@@ -368,7 +373,7 @@ fn discarding<B: Between>(alloc: Global, inside: &[u8]) -> Option<(Record, &[u8]
     ensures { IfSome result (λ taken. IsRecordInside inside.now taken.0 taken.1.now) }
 {
     line_parts!(discarding take_line
-        (B alloc inside {
+        (B B alloc inside {
             let Some(claim) = claim_of(alloc, kept, root, path) else {
                 return None;
             };

@@ -24,6 +24,6 @@ mod written;
 
 pub use bodies::Loose;
 pub use cause::ReadCause;
-pub use record_lines::{MAX_LINE, TRACES, header, record, record_as_written, record_in_front};
+pub use record_lines::{MAX_LINE, TRACES, header, record, record_in_front};
 pub use step_lines::{SaidStep, step};
 pub use texts::{put_header, put_record};

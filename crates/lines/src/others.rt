@@ -5,7 +5,7 @@ ghost use Rattle.lines.specs.InFront.{AreMembersInFront, IsDataInFront, IsOtherN
 
 use crate::members::member_names;
 use crate::parts::after;
-use crate::written::{names_guessed, plain_len, take_item, take_plain_text};
+use crate::written::{plain_len, take_item, take_plain_text};
 
 /// The most members that are passed in one place.
 const MAX_OTHERS: usize = 8;
@@ -115,9 +115,6 @@ fn past_first_other(inside: &[u8]) -> Option<&[u8]>
 fn past_first_name(inside: &[u8]) -> Option<&[u8]>
     ensures { IfSome result (λ behind. IsOtherNameInFront (44 ∷ inside.now) behind.now) }
 {
-    if names_guessed(inside) {
-        return None;
-    }
     let (name, rest) = take_plain_text(inside)?;
     if knows(name) {
         return None;

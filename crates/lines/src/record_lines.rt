@@ -152,9 +152,24 @@ pub fn record(
 ) -> Result<Record, ReadCause>
     ensures { IsSaid result (spec.line_says version line.now) }
 {
+    match written::take_members(alloc, line) {
+        Some(members) => record_in(alloc, version, &Object::Written(members)),
+        None => with_other_members(alloc, version, line, scratch),
+    }
+}
+
+/// Returns the record of a line, which may have members that the format does not know.
+fn with_other_members(
+    alloc: Global,
+    version: u32,
+    line: &[u8],
+    scratch: &mut Scratch,
+) -> Result<Record, ReadCause>
+    ensures { IsSaid result (spec.line_says version line.now) }
+{
     match record_among_others(alloc, version, line) {
         Some(event) => Ok(event),
-        None => in_any_form(alloc, version, line, scratch),
+        None => on_tape(alloc, version, line, scratch),
     }
 }
 
@@ -165,21 +180,6 @@ fn record_among_others(alloc: Global, version: u32, line: &[u8]) -> Option<Recor
 {
     let (event, behind) = among_others(alloc, version, line)?;
     alone(version, line, event, behind)
-}
-
-/// Returns the record of a line, whatever form it has.
-fn in_any_form(
-    alloc: Global,
-    version: u32,
-    line: &[u8],
-    scratch: &mut Scratch,
-) -> Result<Record, ReadCause>
-    ensures { IsSaid result (spec.line_says version line.now) }
-{
-    match written::take_members(alloc, line) {
-        Some(members) => record_in(alloc, version, &Object::Written(members)),
-        None => on_tape(alloc, version, line, scratch),
-    }
 }
 
 /// Returns the record of a line by a tape of its tokens.
@@ -193,17 +193,6 @@ fn on_tape(
 {
     let tape = tape_of(alloc, line, scratch)?;
     record_in(alloc, version, &Object::Tape(tape.root()))
-}
-
-/// Returns the record that a line in written form stands for in a file of this version, if it may be there.
-/// This is a quick try: none may be returned for any line, and is where memory runs out. What such a line
-/// stands for is up to [`record`].
-#[inline(always)]
-pub fn record_as_written(alloc: Global, version: u32, line: &[u8]) -> Option<Record>
-    ensures { IfSome result (λ event. spec.line_says version line.now ≡ Ok event) }
-{
-    let (event, behind) = canonical(alloc, version, line)?;
-    alone(version, line, event, behind)
 }
 
 /// Returns the record that a line has in front, if nothing follows it and it may be in a file of this version.
