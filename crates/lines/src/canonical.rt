@@ -99,7 +99,7 @@ macro_rules! take_tail {
 /// Returns the record of a line in written form that a text begins with, and what follows the line; none
 /// where the text begins with no such line, or out of memory. Looks for turns in version 2 alone. Such a line
 /// has no spaces, and its members stand in the order of their names. Members that the format does not know
-/// are passed where recorders write them, and elsewhere by [`among_others`].
+/// are passed where recorders write them, and elsewhere by [`among_others`] and [`behind_others`].
 #[inline(always)]
 pub(crate) fn canonical(alloc: Global, version: u32, line: &[u8]) -> Option<(Record, &[u8])>
     ensures { IfSome result (λ taken. IsRecordInFront line.now taken.0 taken.1.now) }
@@ -108,13 +108,21 @@ pub(crate) fn canonical(alloc: Global, version: u32, line: &[u8]) -> Option<(Rec
     members::<Nothing>(alloc, version, inside)
 }
 
-/// Returns the record of such a line, and what follows the line. Members that the format does not know may
-/// stand anywhere in it.
+/// Returns the record of such a line, and what follows the line. Behind the first member of the line, members
+/// that the format does not know may stand anywhere.
 pub(crate) fn among_others(alloc: Global, version: u32, line: &[u8]) -> Option<(Record, &[u8])>
     ensures { IfSome result (λ taken. IsRecordInFront line.now taken.0 taken.1.now) }
 {
+    let inside = after(line, "{")?;
+    members::<Others>(alloc, version, inside)
+}
+
+/// Returns the record of such a line if the format does not know its first members, and what follows the line.
+pub(crate) fn behind_others(alloc: Global, version: u32, line: &[u8]) -> Option<(Record, &[u8])>
+    ensures { IfSome result (λ taken. IsRecordInFront line.now taken.0 taken.1.now) }
+{
     let first = after(line, "{")?;
-    let inside = past_first_others(first);
+    let inside = past_first_others(first)?;
     members::<Others>(alloc, version, inside)
 }
 
@@ -262,7 +270,7 @@ fn implicit_task<B: Between>(inside: &[u8]) -> Option<(Record, &[u8])>
         actual endpoint flags index parallel seen seq task thread)
 }
 
-/// Reads `task_create`.
+/// Reads `task_create`. A recorder's `codeptr` stands before `deps`.
 fn task_create<B: Between>(inside: &[u8]) -> Option<(Record, &[u8])>
     ensures { IfSome result (λ taken. IsRecordInside inside.now taken.0 taken.1.now) }
 {

@@ -5,7 +5,7 @@ ghost use Rattle.lines.specs.InFront.{AreMembersInFront, IsDataInFront, IsOtherN
 
 use crate::members::member_names;
 use crate::parts::after;
-use crate::written::{plain_len, take_item, take_plain_text};
+use crate::written::{names_guessed, plain_len, take_item, take_plain_text};
 
 /// The most members that are passed in one place.
 const MAX_OTHERS: usize = 8;
@@ -87,18 +87,18 @@ fn after_each<'l>(line: &'l [u8], first: &str, second: &str) -> Option<&'l [u8]>
     Some(behind)
 }
 
-/// Returns what follows the first members of a line that are not known, each with its comma.
-pub(crate) fn past_first_others(inside: &[u8]) -> &[u8]
-    ensures { AreMembersInFront (44 ∷ inside.now) [] (44 ∷ result.now) }
+/// Returns what follows the first members of a line, which are not known, and a comma.
+pub(crate) fn past_first_others(inside: &[u8]) -> Option<&[u8]>
+    ensures { IfSome result (λ behind. AreMembersInFront (44 ∷ inside.now) [] (44 ∷ behind.now)) }
 {
-    let mut between = inside;
+    let mut between = past_first_other(inside)?;
     'others: for _ in 0..MAX_OTHERS {
         let Some(behind) = past_first_other(between) else {
             break;
         };
         between = behind;
     }
-    between
+    Some(between)
 }
 
 /// Returns what follows a member that is not known, and a comma.
@@ -115,6 +115,9 @@ fn past_first_other(inside: &[u8]) -> Option<&[u8]>
 fn past_first_name(inside: &[u8]) -> Option<&[u8]>
     ensures { IfSome result (λ behind. IsOtherNameInFront (44 ∷ inside.now) behind.now) }
 {
+    if names_guessed(inside) {
+        return None;
+    }
     let (name, rest) = take_plain_text(inside)?;
     if knows(name) {
         return None;

@@ -14,10 +14,11 @@ use crate::bodies::{
     Loose, both, claim_if, dependences, found, implicit_task, parallel_begin, parallel_end,
     sync_region, task_create, thread_begin, thread_end, turns_if,
 };
-use crate::canonical::{among_others, canonical};
+use crate::canonical::{among_others, behind_others, canonical};
 use crate::cause::ReadCause;
 use crate::members::Member;
 use crate::objects::{Object, flags, id, next, status, text};
+use crate::parts::after;
 use crate::tables::{each_callback, members};
 use crate::values::tape_of;
 use crate::written;
@@ -152,13 +153,47 @@ pub fn record(
 ) -> Result<Record, ReadCause>
     ensures { IsSaid result (spec.line_says version line.now) }
 {
+    match record_in_order(alloc, version, line) {
+        Some(event) => Ok(event),
+        None => record_in_any_order(alloc, version, line, scratch),
+    }
+}
+
+/// Returns the record of a line in written form whose first member the format knows, with members behind it
+/// that it does not know.
+#[inline(always)]
+fn record_in_order(alloc: Global, version: u32, line: &[u8]) -> Option<Record>
+    ensures { IfSome result (λ event. spec.line_says version line.now ≡ Ok event) }
+{
+    if !begins_in_order(line) {
+        return None;
+    }
+    let (event, behind) = among_others(alloc, version, line)?;
+    alone(version, line, event, behind)
+}
+
+/// Returns whether the first member is one with which a line in written form begins.
+#[inline(always)]
+fn begins_in_order(line: &[u8]) -> bool {
+    after(line, "{\"cb\":\"").is_some() || after(line, "{\"actual\":").is_some()
+}
+
+/// Returns the record of a line whose members stand in any order.
+fn record_in_any_order(
+    alloc: Global,
+    version: u32,
+    line: &[u8],
+    scratch: &mut Scratch,
+) -> Result<Record, ReadCause>
+    ensures { IsSaid result (spec.line_says version line.now) }
+{
     match written::take_members(alloc, line) {
         Some(members) => record_in(alloc, version, &Object::Written(members)),
         None => with_other_members(alloc, version, line, scratch),
     }
 }
 
-/// Returns the record of a line, which may have members that the format does not know.
+/// Returns the record of a line, whose first members the format may not know.
 fn with_other_members(
     alloc: Global,
     version: u32,
@@ -167,18 +202,17 @@ fn with_other_members(
 ) -> Result<Record, ReadCause>
     ensures { IsSaid result (spec.line_says version line.now) }
 {
-    match record_among_others(alloc, version, line) {
+    match record_behind_others(alloc, version, line) {
         Some(event) => Ok(event),
         None => on_tape(alloc, version, line, scratch),
     }
 }
 
-/// Returns the record of a line in written form, with members anywhere that the format does not know.
-#[inline(always)]
-fn record_among_others(alloc: Global, version: u32, line: &[u8]) -> Option<Record>
+/// Returns the record of a line in written form whose first members the format does not know.
+fn record_behind_others(alloc: Global, version: u32, line: &[u8]) -> Option<Record>
     ensures { IfSome result (λ event. spec.line_says version line.now ≡ Ok event) }
 {
-    let (event, behind) = among_others(alloc, version, line)?;
+    let (event, behind) = behind_others(alloc, version, line)?;
     alone(version, line, event, behind)
 }
 

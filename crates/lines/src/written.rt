@@ -117,6 +117,12 @@ fn take_member(alloc: Global, rest: &[u8]) -> Option<(Member, Value<'_>, &[u8])>
     Some((member, value, behind))
 }
 
+/// Returns true only if the text begins with the name of a member that is known. The name is guessed, so false
+/// may be returned for any text.
+pub(crate) fn names_guessed(rest: &[u8]) -> bool {
+    name(rest, guess_member(rest).name()).is_some()
+}
+
 // What follows the name in the table.
 macro_rules! after_name_of {
     (($rest:ident $member:ident) $($variant:ident = $name:literal),*) => {
