@@ -8,7 +8,9 @@ use Rattle.std.proofs.lemmas.List.{length-set, get_or-set_same, get_or-set_other
 use Rattle.std.proofs.Math.ListN.{set}
 use Rattle.std.specs.Prelude.{slice_get, slice_index, ◌↔◌}
 use Rattle.index_tables.specs.Numbering.{AreApart, IsAgain, IsFirstAgain}
-use Rattle.index_tables.specs.Dense.{AreBetween, ArePlaced}
+use Rattle.index_tables.specs.declared.dense.Indices.{Indices}
+use Rattle.index_tables.specs.declared.dense.Indices.TheVariants.{Distances, Slots}
+use Rattle.index_tables.specs.Dense.{AreBetween, AreIndexed, ArePlaced}
 
 -- the slots are those of the first n ids
 pub record ArePlacedBelow (ids : List ℕ) (least n : ℕ) (slots : List (Option ℕ)) : Type 0 where
@@ -160,3 +162,14 @@ index_past ids least id slots are low past index = (
       let within = slice_get_within slots (id - least) (Some index) slot in
       absurd (omega (arith, within, past)),
 )
+
+-- ids that have indices are apart
+pub apart_indexed : (ids : List ℕ) (indices : Indices) → AreIndexed ids indices → AreApart ids
+apart_indexed ids Distances are a b id at_a at_b =
+    let of_a = are a (slice_get_within ids a id at_a) in
+    let of_b = are b (slice_get_within ids b id at_b) in
+    let is_a = get_or_from_slice_get ids a id 0 at_a in
+    let is_b = get_or_from_slice_get ids b id 0 at_b in
+    omega (arith, of_a, of_b, is_a, is_b)
+apart_indexed ids (Slots placed) are a b id at_a at_b =
+    apart_placed ids placed.least placed.slots.items are a b id at_a at_b

@@ -1,6 +1,12 @@
--- Slots for ids that lie close together, by the distance of each id from the least.
+-- Ids that lie close together: the index of each is found by its distance from the least.
 use Rattle.std.specs.Prelude.{ℕ, ◌≡◌, ◌<◌, ◌≤◌, ◌+◌, ◌*◌, ◌^◌, List, Option, Some, length, slice_get}
 use Rattle.std.specs.Prelude.{slice_index}
+use Rattle.index_tables.specs.declared.dense.Indices.{Indices}
+use Rattle.index_tables.specs.declared.dense.Indices.TheVariants.{Distances, Slots}
+
+-- each id is greater by 1 than the one before it
+abbrev pub AreConsecutive : List ℕ → Type 0
+AreConsecutive ids = (index : ℕ) → index < length ids → slice_index ids index ≡ slice_index ids 0 + index
 
 -- each id is at one of so many places from the least on
 abbrev pub AreBetween : List ℕ → ℕ → ℕ → Type 0
@@ -21,3 +27,8 @@ pub record ArePlaced (ids : List ℕ) (least : ℕ) (slots : List (Option ℕ)) 
       → slice_get ids index ≡ Some (least + distance)
   pub placed : (distance index : ℕ) → slice_get ids index ≡ Some (least + distance)
       → slice_get slots distance ≡ Some (Some index)
+
+-- the index of each id is its distance from the first, or is in the slot at its distance from the least
+abbrev pub AreIndexed : List ℕ → Indices → Type 0
+AreIndexed ids Distances = AreConsecutive ids
+AreIndexed ids (Slots placed) = ArePlaced ids placed.least placed.slots.items
