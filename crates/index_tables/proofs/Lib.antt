@@ -1,3 +1,2 @@
-pub mod DenseLemmas
 pub mod NumberingLemmas
 pub mod RowLemmas
