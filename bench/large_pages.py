@@ -4,7 +4,7 @@
 Takes the seconds and the peak memory of `taskaudit check` without GLIBC_TUNABLES, and with the setting of the
 script `taskaudit`, by which glibc asks for pages of 2 MB for large blocks. The files are runs of eight
 threads of 2^POWER records (2^10, 2^14, 2^17 and 2^20) in the order of time. The two take turns, all sizes in
-each round, and the least seconds and the greatest memory of nine rounds count. All answers must be the same.
+each round, and the least seconds and the greatest memory of 25 rounds count. All answers must be the same.
 
 No peak is less than that of the Python that starts the program. The two differ only where the system gives
 large pages to those who ask for them (`madvise`): its setting is printed, and the load of the machine before
@@ -18,7 +18,7 @@ import tempfile
 
 from common import PROGRAM, numbers_of, row, table, timed, write_long_trace
 
-ROUNDS = 9
+ROUNDS = 25
 NAME, SETTING = "GLIBC_TUNABLES", "glibc.malloc.hugetlb=1"
 WITHOUT = {name: value for name, value in os.environ.items() if name != NAME}
 ENVIRONMENTS = (WITHOUT, {**WITHOUT, NAME: SETTING})
