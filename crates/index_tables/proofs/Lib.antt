@@ -1,2 +1,3 @@
+pub mod DenseLemmas
 pub mod NumberingLemmas
 pub mod RowLemmas

@@ -1,26 +1,30 @@
 //! A list of ids, each once, in which the index of an id is found without a walk.
 ghost use Rattle.std.specs.Prelude.{◌≡◌, ◌↔◌, Some, ℕ, slice_get, Contains, IsTrue, IfOk, IfErr};
-ghost use Rattle.index_tables.specs.Numbering.{AreApart, AreConsecutive, IsFirstAgain, IsSeededBy};
+ghost use Rattle.index_tables.specs.Dense.{AreConsecutive, AreIndexed};
+ghost use Rattle.index_tables.specs.Numbering.{AreApart, IsFirstAgain, IsSeededBy};
 
+use crate::dense::{CloseIds, Indices, close_span, place};
 use crate::seeded::Seeded;
 use indexmap::IndexSet;
 use std::alloc::{AllocError, Global};
 use std::marker::Model;
 
-/// Ids in their order, each once. An id's index is its place in the list. A look-up takes a few steps, and
-/// more where ids collide in the table. The seed of the table is made from all ids, so to change an id
-/// changes which ids collide: see `seeded`.
+/// Ids in their order, each once. An id's index is its place in the list. A look-up takes one step where each
+/// id is greater by 1 than the one before it, and where the ids lie close together. Other ids are hashed: a
+/// look-up takes a few steps, and more where ids collide in the table. The seed of that table is made from
+/// all ids, so to change an id changes which ids collide: see `seeded`.
 #[derive(Debug, Drop)]
 pub struct Numbering {
     table: Table,
 }
 
-/// Where the indices are.
+/// Where the indices are. With a third variant each look at the ids would take longer, and each record needs
+/// one.
 #[derive(Debug, Drop)]
 enum Table {
-    /// Ids without gaps: the index of an id is its distance from the first.
-    Consecutive(Vec<u64>),
-    /// Any ids, in a table that has the seed of these ids.
+    /// Ids that lie close together, as `dense` says.
+    Close(CloseIds),
+    /// Any other ids, in a table that has the seed of these ids.
     Hashed(IndexSet<u64, Seeded>),
 }
 
@@ -44,15 +48,29 @@ impl Numbering {
         ensures again { IfOk result (λ found. IfErr found (IsFirstAgain ids.items)) }
     {
         if are_consecutive(ids.as_slice()) {
-            return Ok(Ok(Numbering {
-                table: Table::Consecutive(ids),
-            }));
+            return Ok(Ok(Numbering::close(ids, Indices::Distances)));
+        }
+        if let Some(span) = close_span(ids.as_slice()) {
+            return match place(alloc, ids.as_slice(), span)? {
+                Ok(slots) => Ok(Ok(Numbering::close(ids, Indices::Slots(slots)))),
+                Err(again) => Ok(Err(again)),
+            };
         }
         match hash(alloc, ids.as_slice())? {
             Ok(known) => Ok(Ok(Numbering {
                 table: Table::Hashed(known),
             })),
             Err(again) => Ok(Err(again)),
+        }
+    }
+
+    /// Returns the list of these ids, with these indices.
+    fn close(ids: Vec<u64>, indices: Indices) -> Numbering
+        requires { AreIndexed ids.items indices }
+        ensures { result ≡ ids.items }
+    {
+        Numbering {
+            table: Table::Close(CloseIds { ids, indices }),
         }
     }
 
@@ -70,7 +88,7 @@ impl Numbering {
         ensures apart { AreApart self.now }
     {
         match &self.table {
-            Table::Consecutive(ids) => ids.as_slice(),
+            Table::Close(close) => close.ids.as_slice(),
             Table::Hashed(ids) => ids.as_slice(),
         }
     }
@@ -87,7 +105,7 @@ impl Numbering {
         ensures { (index : ℕ) → (result ≡ Some index) ↔ (slice_get self.now index ≡ Some id) }
     {
         match &self.table {
-            Table::Consecutive(ids) => consecutive_index(ids.as_slice(), id),
+            Table::Close(close) => close.index_of(id),
             Table::Hashed(ids) => ids.get_index_of(&id),
         }
     }
@@ -123,18 +141,6 @@ fn are_consecutive(ids: &[u64]) -> bool
         }
     }
     true
-}
-
-/// Returns the index of an id among ids without gaps.
-fn consecutive_index(ids: &[u64], id: u64) -> Option<usize>
-    requires { AreConsecutive ids.now }
-    ensures { (index : ℕ) → (result ≡ Some index) ↔ (slice_get ids.now index ≡ Some id) }
-{
-    if ids.is_empty() || id < ids[0] {
-        return None;
-    }
-    let index = (id - ids[0]) as usize;
-    if index < ids.len() { Some(index) } else { None }
 }
 
 /// Returns the table of these ids, with their seed, or the first index at which an id is there again.

@@ -4,8 +4,9 @@ ghost use Rattle.std.specs.Prelude.{◌<◌, All, IfOk};
 use crate::layers::trace_of_input;
 use anyhow::{Result, bail};
 use credit_ledger::Ledger;
+use ompt_events::Trace;
 use std::alloc::{AllocError, Global};
-use task_states::run;
+use task_states::{States, run};
 use task_tree::Tree;
 use trace_ledger::ledger_of;
 use wait_coverage::Coverage;
@@ -17,10 +18,26 @@ pub fn of_input(rt: &HostRuntime, searched: bool) -> Result<()> {
     let Ok(tree) = Tree::build(rt.alloc(), &trace) else {
         bail!("no tree");
     };
-    let Ok(states) = run(rt.alloc(), &trace, &tree) else {
+    of_tree(rt, &trace, &tree, searched)
+}
+
+/// Does it for a trace with this tree.
+fn of_tree(rt: &HostRuntime, trace: &Trace, tree: &Tree, searched: bool) -> Result<()> {
+    let Ok(states) = run(rt.alloc(), trace, tree) else {
         bail!("no states");
     };
-    let coverage = Coverage::build(rt.alloc(), &trace, &tree, &states)?;
+    of_states(rt, trace, tree, &states, searched)
+}
+
+/// Does it for a trace with these states.
+fn of_states(
+    rt: &HostRuntime,
+    trace: &Trace,
+    tree: &Tree,
+    states: &States,
+    searched: bool,
+) -> Result<()> {
+    let coverage = Coverage::build(rt.alloc(), trace, tree, states)?;
     let ledger = ledger_of(rt.alloc(), states.run())?;
     if searched {
         of_ends(rt, &coverage, &ledger)
