@@ -1,5 +1,6 @@
 //! What each wait of a trace covers, by the trace's ledger.
-ghost use Rattle.std.specs.Prelude.{◌<◌, All, IfOk};
+ghost use Rattle.std.specs.Prelude.{◌≡◌, ◌<◌, All, IfOk};
+ghost use Rattle.task_tree.specs.Paths.{IsTreeOf};
 
 use crate::layers::trace_of_input;
 use anyhow::{Result, bail};
@@ -22,7 +23,9 @@ pub fn of_input(rt: &HostRuntime, searched: bool) -> Result<()> {
 }
 
 /// Does it for a trace with this tree.
-fn of_tree(rt: &HostRuntime, trace: &Trace, tree: &Tree, searched: bool) -> Result<()> {
+fn of_tree(rt: &HostRuntime, trace: &Trace, tree: &Tree, searched: bool) -> Result<()>
+    requires { IsTreeOf trace.now.records tree.now }
+{
     let Ok(states) = run(rt.alloc(), trace, tree) else {
         bail!("no states");
     };
@@ -36,7 +39,10 @@ fn of_states(
     tree: &Tree,
     states: &States,
     searched: bool,
-) -> Result<()> {
+) -> Result<()>
+    requires tree { IsTreeOf trace.now.records tree.now }
+    requires records { states.now.run.records ≡ trace.now.records }
+{
     let coverage = Coverage::build(rt.alloc(), trace, tree, states)?;
     let ledger = ledger_of(rt.alloc(), states.run())?;
     if searched {
