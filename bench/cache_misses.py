@@ -15,7 +15,7 @@ import subprocess
 import sys
 import tempfile
 
-from common import ORDERS, PROGRAM, best, numbers_of, peak, row, table, write_long_trace
+from common import COUNTED, ORDERS, PROGRAM, best, numbers_of, peak, row, table, write_long_trace
 
 CACHE = ["valgrind", "--tool=cachegrind", "--cache-sim=yes", "--LL=8388608,16,64",
          "--cachegrind-out-file=/dev/null"]
@@ -25,7 +25,8 @@ ROUNDS = 9
 def counted(path):
     """The instructions and the misses of a check of the file."""
     with open(path, "rb") as source:
-        run = subprocess.run(CACHE + [PROGRAM, "check"], stdin=source, capture_output=True, check=False)
+        run = subprocess.run(CACHE + [PROGRAM, "check"], stdin=source, capture_output=True, env=COUNTED,
+                             check=False)
     if not run.stdout.startswith(b"yes: "):
         sys.exit(f"answered {run.stdout[:200]!r}")
     text = run.stderr.decode()

@@ -23,6 +23,12 @@ ORDERS = (("in the order of time", "time"), ("one thread after another", "thread
 # Seconds after which a run is cut.
 LIMIT = 120
 COUNTING = ["valgrind", "--tool=cachegrind", "--cache-sim=no", "--cachegrind-out-file=/dev/null"]
+# The environment of what Valgrind counts. Some processors clear and copy a long block by one instruction, and
+# Valgrind counts it once for each byte. glibc uses it from these lengths on, so never: a count is then the same
+# on each of these processors.
+NEVER = 2**62
+COUNTED = {**os.environ, "GLIBC_TUNABLES":
+           f"glibc.cpu.x86_rep_stosb_threshold={NEVER}:glibc.cpu.x86_rep_movsb_threshold={NEVER}"}
 
 
 def numbers_of(words, documentation, most=1):
@@ -118,7 +124,7 @@ def instructions(command, path):
     """The instructions of a command on a file, and the start of its output."""
     with open(path, "rb") as source, tempfile.TemporaryFile() as sink:
         run = subprocess.run(COUNTING + command, stdin=source, stdout=sink, stderr=subprocess.PIPE,
-                             check=False)
+                             env=COUNTED, check=False)
         sink.seek(0)
         text = sink.read(200).decode()
     found = re.search(r"I +refs: +([0-9,]+)", run.stderr.decode())

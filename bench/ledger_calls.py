@@ -20,7 +20,7 @@ import sys
 import tempfile
 from multiprocessing import Process
 
-from common import STOPWATCH, row, table
+from common import COUNTED, STOPWATCH, row, table
 
 COMMAND = [STOPWATCH, "ledger"]
 RUNS = 5
@@ -100,7 +100,8 @@ def counts_of(folder, name):
     counts = os.path.join(folder, "counts")
     with open(os.path.join(folder, name), "rb") as source:
         subprocess.run(["valgrind", "--tool=callgrind", f"--callgrind-out-file={counts}"] + COMMAND,
-                       stdin=source, stdout=subprocess.DEVNULL, stderr=subprocess.DEVNULL, check=True)
+                       stdin=source, stdout=subprocess.DEVNULL, stderr=subprocess.DEVNULL, env=COUNTED,
+                       check=True)
     command = ["callgrind_annotate", "--inclusive=yes", "--threshold=100", counts]
     return subprocess.run(command, capture_output=True, check=True, text=True).stdout
 

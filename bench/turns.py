@@ -16,7 +16,7 @@ import subprocess
 import sys
 import tempfile
 
-from common import ORDERS, STOPWATCH, numbers_of, peak, row, table, write_lines
+from common import COUNTED, ORDERS, STOPWATCH, numbers_of, peak, row, table, write_lines
 from turn_files import moving, run_with_turns
 
 CALLS = ("turn_table::turns_of", "gaps::find_gap", "own_order::arrange")
@@ -29,7 +29,7 @@ def counted(word, function, path):
                f"--toggle-collect=*{function}*", STOPWATCH, word]
     with open(path, "rb") as source:
         run = subprocess.run(command, stdin=source, stdout=subprocess.DEVNULL, stderr=subprocess.PIPE,
-                             check=True)
+                             env=COUNTED, check=True)
     count = int(re.search(r"Collected : ([0-9]+)", run.stderr.decode())[1])
     if not count:
         sys.exit(f"{function} is not among the functions that Valgrind counted: was it put into its caller?")
