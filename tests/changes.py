@@ -405,6 +405,117 @@ CHANGES = (seen_other, seen_repeated, entries_exchanged, entry_twice, record_los
 TURN_CHANGES = (turn_other, turn_begun_again, turns_falling, turns_apart_exchanged, turn_of_root, turn_missing)
 
 
+# Regions inside others
+
+def joins(it, parallel=None):
+    """Whether a member begins, of this region if one is given."""
+    begins = it['cb'] == 'implicit_task' and it['endpoint'] == 'begin' and 'initial' not in it['flags']
+    return begins and parallel in (None, it['parallel'])
+
+
+def added(records, at, thread, *bodies):
+    """The records with some more of a thread at this place."""
+    more = [{**body, 'thread': thread, 'seen': known_before(records, thread, at)} for body in bodies]
+    return numbered([*records[:at], *more, *records[at:]])
+
+
+def task_running(chance, records):
+    """A place in the file, and a thread with the task that it runs there; or None."""
+    told = those(records, lambda it: it.get('next') is not None or it.get('deps') is False or it['cb'] == 'sync_region')
+    if not told:
+        return None
+    at = chance.choice(told)
+    return at + 1, records[at]['thread'], records[at]['next' if 'next' in records[at] else 'task']
+
+
+def root_of(parallel, flag, endpoint):
+    return {'cb': 'implicit_task', 'endpoint': endpoint, 'flags': [flag], 'task': 10**6, 'index': 0, 'actual': 1,
+            'parallel': parallel}
+
+
+def initial_inside(chance, records):
+    """An initial task begins and ends inside a task, which may have begun a region."""
+    found = task_running(chance, records)
+    if not found:
+        return None
+    at, thread, _ = found
+    return added(records, at, thread, *(root_of(chance.choice([0, 100]), 'initial', it) for it in ('begin', 'end')))
+
+
+def member_inside(chance, records):
+    """A member begins and ends inside a task, in a region that some task begins there or elsewhere."""
+    one, other = task_running(chance, records), task_running(chance, records)
+    if not one:
+        return None
+    places = sorted([(*one, [root_of(10**6, 'implicit', it) for it in ('begin', 'end')]),
+                     (*other, [{'cb': 'parallel_begin', 'task': other[2], 'parallel': 10**6, 'requested': 1}])],
+                    key=lambda it: it[0], reverse=True)
+    for at, thread, _, bodies in places:
+        records = added(records, at, thread, *bodies)
+    return records
+
+
+def regions_exchanged(chance, records):
+    """Two parallel regions exchange their numbers where they begin."""
+    found = those(records, lambda it: it['cb'] == 'parallel_begin')
+    if len(found) < 2:
+        return None
+    one, other = (records[i] for i in chance.sample(found, 2))
+    one['parallel'], other['parallel'] = other['parallel'], one['parallel']
+    return records
+
+
+def region_lost(chance, records):
+    """A region of which no member begins, as a league, is not recorded."""
+    begin = one_of(chance, records, lambda it: it['cb'] == 'parallel_begin' and not any(
+        joins(other, it['parallel']) for other in records))
+    return begin and numbered([it for it in records if it['cb'] not in ('parallel_begin', 'parallel_end')
+                               or it['parallel'] != begin['parallel']])
+
+
+def begun_by_another(chance, records):
+    """A parallel region is begun by the task that its thread ran before."""
+    def switch_before(i):
+        return next((k for k in reversed(range(i)) if records[k]['thread'] == records[i]['thread']
+                     and records[k].get('next') == records[i]['task'] != records[k]['prior']), None)
+    begins = those(records, lambda it: it['cb'] == 'parallel_begin')
+    pairs = [(i, switch_before(i)) for i in begins if switch_before(i) is not None]
+    if not pairs:
+        return None
+    i, k = chance.choice(pairs)
+    begin = {**records[i], 'task': records[k]['prior'], 'seen': known_before(records, records[k]['thread'], k)}
+    return numbered([*records[:k], begin, *records[k:i], *records[i + 1:]])
+
+
+def encountering_runs(chance, records):
+    """A task runs for a moment while a root of the region that it began is open on its thread."""
+    inside = []
+    for i, it in enumerate(records):
+        before = next((other for other in reversed(records[:i]) if other['thread'] == it['thread']), None)
+        if before and before['cb'] == 'parallel_begin' and it['cb'] == 'implicit_task':
+            inside.append((i + 1, before['task'], (it['thread'], it['task'])))
+    return run_at(records, *chance.choice(inside)) if inside else None
+
+
+def thread_inside(chance, records):
+    """All that a thread recorded is recorded by another one, inside a task that runs there."""
+    threads = sorted({it['thread'] for it in records if joins(it)})
+    found = task_running(chance, records)
+    if not found or not threads:
+        return None
+    at, thread, _ = found
+    mover = chance.choice(threads)
+    if mover == thread:
+        return None
+    own = [it | {'thread': thread} for it in records if it['thread'] == mover]
+    rest = [[it for it in part if it['thread'] != mover] for part in (records[:at], records[at:])]
+    return numbered([*rest[0], *own, *rest[1]])
+
+
+NESTING_CHANGES = (initial_inside, member_inside, regions_exchanged, region_lost, begun_by_another, encountering_runs,
+                   thread_inside)
+
+
 def changed(chance, records, changes=CHANGES):
     """The records with one change, by the first kind that applies; as they are where none does."""
     for change in chance.sample(changes, len(changes)):
@@ -423,3 +534,10 @@ def changed_with_turns(chance, records):
     if chance.random() < 0.75:
         return chance.choice([counted_turns, implied_turns])(found)
     return [{'prior_turn': 0, 'next_turn': 0} | it if runs_next(it) else it for it in found]
+
+
+def changed_with_nesting(chance, records):
+    """The same of a trace of version 3. Two fifths of the changes are of roots and regions."""
+    if chance.random() < 0.4:
+        return counted_turns(changed(chance, records, NESTING_CHANGES))
+    return changed_with_turns(chance, records)

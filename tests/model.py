@@ -2,6 +2,9 @@
 """model.py < FILE: the answer of docs/MODEL.md to a readable trace file, found only by the definitions there.
 model.py order < FILE: the same, and after a yes or a no an order of all records, one line `T S` (thread, seq) each.
 
+A file of version 3, which no program reads yet, has parallel regions inside others. Its records nest, and where that
+matters a function says so.
+
 It shares no code with the program and saves no time: what is a relation there is a set here, and what happens
 before what is a transitive closure. The first line of each function names the definition that it restates. What a
 record says is in its attributes, which have the names of the module Records. `records` are in file order, and i, k,
@@ -34,12 +37,12 @@ DISCARD_STATE = {'Created': 'Done'}
 RECORDS_SAY = ['begun_root', 'ended_root', 'begun_initial', 'joined', 'forked', 'region_named', 'creation', 'created',
                'created_with_deps', 'dependences', 'made', 'started', 'told_turns', 'begun_turn', 'ended_turn',
                'suspended_turn', 'fulfilled', 'wait_completed', 'discarded', 'finish', 'schedule', 'claim', 'region',
-               'flags', 'running']
+               'flags', 'running', 'nests']
 Turns = namedtuple('Turns', 'prior next')
 Membership = namedtuple('Membership', 'parallel actual index member')
 Claim = namedtuple('Claim', 'root path kept')
 Region = namedtuple('Region', 'task kind endpoint')
-Walk = namedtuple('Walk', 'roots current')
+Walk = namedtuple('Walk', 'roots outer current')
 Yes = namedtuple('Yes', 'order')
 No = namedtuple('No', 'place why task order')
 Malformed = namedtuple('Malformed', 'place number name')
@@ -52,13 +55,15 @@ MOST_TRIED = 8
 def read(data):
     """The records of a readable trace file: what its lines after the header say; None is what they do not say."""
     header, *lines = [json.loads(line) for line in data.split(b'\n')[:-1]]
-    tells_turns = header['version'] == 2
+    version = header['version']
     return [SimpleNamespace(thread=line['thread'], seq=line['seq'], seen=line['seen'],
-                            **{**dict.fromkeys(RECORDS_SAY), **said_by(line, tells_turns)}) for line in lines]
+                            **{**dict.fromkeys(RECORDS_SAY), **said_by(line, version >= 2), 'nests': version == 3})
+            for line in lines]
 
 
 def said_by(line, tells_turns):
-    """The module Records: what its definitions give of a record, where they apply."""
+    """The module Records: what its definitions give of a record, where they apply, except for `nests`, which is of the
+    file: true exactly in one of version 3."""
     task, flags = line.get('task'), line.get('flags')
     match line['cb']:
         case 'parallel_begin':
@@ -92,7 +97,7 @@ def said_by(line, tells_turns):
 
 
 def said_by_schedule(line, tells_turns):
-    """The module Records, of a task_schedule. Turns are recorded in version 2, where a task runs next."""
+    """The module Records, of a task_schedule. Turns are recorded in versions 2 and 3, where a task runs next."""
     status, prior = line['status'], line['prior']
     says = {'schedule': (status, prior), 'named': {prior}}
     if status in DEMANDS_NEXT:
@@ -236,27 +241,33 @@ def resumptions(records):
 
 # Which task a thread runs
 
+# at_start: before its first record a thread has no root and runs no task.
+AT_START = Walk([], [], None)
+
+
 def innermost(walk):
     """Walk: the innermost open root, where there is one."""
     return walk.roots[0] if walk.roots else None
 
 
-def after_body(walk, record):
-    """after_body: the state of the thread after the record."""
+def after_record(walk, record):
+    """after_record: the state of the thread after the record. Where a root ends, the task that ran when it began is
+    current, if the record nests, and else the root below."""
     if record.begun_root is not None:
-        return Walk([record.begun_root, *walk.roots], record.begun_root)
+        return Walk([record.begun_root, *walk.roots], [walk.current, *walk.outer], record.begun_root)
     if record.ended_root is not None:
-        below = walk.roots[1:]
-        return Walk(below, below[0] if below else None)
-    return Walk(walk.roots, record.started) if record.started is not None else walk
+        roots, outer = walk.roots[1:], walk.outer[1:]
+        again = walk.outer if record.nests else roots
+        return Walk(roots, outer, again[0] if again else None)
+    return walk._replace(current=record.started) if record.started is not None else walk
 
 
 def walks(records):
     """walk_of, for each place: the walk of the record's thread before it."""
     before, stands = [], {}
     for record in records:
-        before.append(stands.get(record.thread, Walk([], None)))
-        stands[record.thread] = after_body(before[-1], record)
+        before.append(stands.get(record.thread, AT_START))
+        stands[record.thread] = after_record(before[-1], record)
     return before
 
 
@@ -638,12 +649,29 @@ def team_short(records):
 
 
 def nested_parallel(records):
-    """IsNested: by the rules forked_inside, joined_inside and initial_inside."""
+    """IsNested: by the rules forked_inside, joined_inside and initial_inside; of records that do not nest."""
     initial = said('begun_initial', records)
     in_teams = {member.member for member in said('joined', records)}
-    return {i for i, walk in enumerate(walks(records)) if records[i].forked and records[i].running not in initial
+    return {i for i, walk in enumerate(walks(records)) if not records[i].nests and (
+            records[i].forked and records[i].running not in initial
             or records[i].joined and innermost(walk) in in_teams
-            or records[i].begun_initial is not None and walk.roots}
+            or records[i].begun_initial is not None and walk.roots)}
+
+
+def region_nesting(records):
+    """RegionNesting: a root begins inside another, in no region that the task which runs there began; of records that
+    nest."""
+    return {i for i, walk in enumerate(walks(records)) if records[i].nests and walk.roots
+            and nesting_rules(records, walk, i)}
+
+
+def nesting_rules(records, walk, i):
+    """RegionNesting: the rules that hold at i, where the thread has an open root: other_region and other_league."""
+    earlier_there = [record for record in records[:i] if record.thread == records[i].thread]
+    begun = {parallel for task, parallel in said('forked', earlier_there) if task == walk.current}
+    rules = {'other_region': records[i].joined and records[i].joined.parallel not in begun,
+             'other_league': records[i].begun_initial is not None and not begun}
+    return {name for name, holds in rules.items() if holds}
 
 
 def deps_place(records):
@@ -694,18 +722,21 @@ def no_order(records):
 
 
 def target_task(records):
-    """MakesTarget: a task is made that has the flag target."""
-    return {i for i in places(records) if records[i].made is not None and 'target' in records[i].flags}
+    """MakesTarget: a task is made that has the flag target, by a record that does not nest."""
+    return {i for i in places(records) if records[i].made is not None and 'target' in records[i].flags
+            and not records[i].nests}
 
 
-# Each with its number; a trace shows one of Moved and TurnGap at most.
+# Each with its number; a trace shows one of Moved and TurnGap at most, and one of NestedParallel and RegionNesting.
 ALL_CAUSES = {
     'SeqGap': (1, seq_gap), 'CreatedTwice': (2, created_twice), 'Rootless': (3, rootless),
     'NotCurrent': (4, not_current), 'Moved': (5, moved), 'TurnGap': (5, turn_gap), 'StatusOrder': (6, status_order),
     'RegionOrder': (7, region_order), 'TeamShort': (8, team_short), 'NestedParallel': (9, nested_parallel),
-    'DepsPlace': (10, deps_place), 'ShareWrong': (11, share_wrong), 'EntryTwice': (12, entry_twice),
-    'LengthAhead': (13, length_ahead), 'LengthBack': (14, length_back), 'NoOrder': (15, no_order),
-    'TargetTask': (16, target_task)}
+    'RegionNesting': (9, region_nesting), 'DepsPlace': (10, deps_place), 'ShareWrong': (11, share_wrong),
+    'EntryTwice': (12, entry_twice), 'LengthAhead': (13, length_ahead), 'LengthBack': (14, length_back),
+    'NoOrder': (15, no_order), 'TargetTask': (16, target_task)}
+# The causes that no file of a version has.
+NEVER = {1: {'TurnGap', 'RegionNesting'}, 2: {'Moved', 'RegionNesting'}, 3: {'Moved', 'NestedParallel', 'TargetTask'}}
 IN_OWN_ORDER = {'RegionOrder', 'TeamShort', 'ShareWrong'}
 
 

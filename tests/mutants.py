@@ -59,6 +59,8 @@ def cases():
     found = set()
     for top in (HERE, os.path.join(HERE, '../examples')):
         for folder, _, names in os.walk(top):
+            if os.path.basename(folder) == RUN.NOT_RUN:
+                continue
             stems = [os.path.splitext(os.path.join(folder, name)) for name in names]
             found |= {stem for stem, ending in stems if ending in ('.jsonl', '.short', '.make')}
     return sorted(found)

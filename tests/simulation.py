@@ -2,7 +2,8 @@
 
 A run keeps what its tasks and threads do, and takes random steps that a runtime may take. A hasty one takes one
 step too early: a wait ends, or a dependent task starts, before it may. In a run of version 2 untied tasks resume on
-any thread, and the turns of all tasks are counted. The recorder is that of examples/recorder.py."""
+any thread, and the turns of all tasks are counted. In one of version 3 any task begins parallel regions and leagues,
+inside others. The recorder is that of examples/recorder.py."""
 import itertools
 import os
 import sys
@@ -17,6 +18,8 @@ WAITING = sorted(BARRIERS | {'taskwait'})
 DEP_KINDS = ('in', 'out', 'inout', 'mutexinoutset', 'inoutset')
 FLAGS = ['untied', 'final', 'undeferred']
 MOST_TASKS = 12
+# So many regions are inside one another at most.
+MOST_DEPTH = 4
 
 
 class Job(Task):
@@ -25,6 +28,8 @@ class Job(Task):
     def __init__(self, parent=None):
         super().__init__(parent)
         self.parent, self.children, self.items, self.regions, self.barriers = parent, [], [], [], 0
+        # the parallel regions that it began and did not end, and how many regions a root is in
+        self.forks, self.depth = [], 0
         self.stands, self.is_done, self.event = 'created', False, None
         self.is_taskwait = self.is_initial = self.is_untied = False
         self.thread = self.context = None
@@ -89,7 +94,8 @@ class Thread(Recorder):
     def __init__(self, number, run):
         super().__init__(number, True)
         self.run, self.ledger = run, run.ledger
-        self.roots, self.current, self.forks = [], None, []
+        # its open roots, the innermost last, and for each the task that it ran when that root began
+        self.roots, self.outer, self.current = [], [], None
 
     def record(self, cb, **members):
         super().record(cb, **members)
@@ -98,13 +104,14 @@ class Thread(Recorder):
     def begin(self, root, flag, *place):
         self.implicit_task('begin', root, flag, *place)
         self.roots.append(root)
+        self.outer.append(self.current)
         self.current = root
         root.stands, root.thread, root.place = 'running', self, (flag, *place)
 
     def end(self):
         root = self.roots.pop()
         self.implicit_task('end', root, *root.place)
-        self.current = self.roots[-1] if self.roots else None
+        self.current = self.outer.pop()
 
     def run_next(self, status, job):
         """The current task stops with this status, and the job runs."""
@@ -131,7 +138,7 @@ class Run:
     def __init__(self, chance, threads, version):
         Task.ids = itertools.count(1)
         self.chance, self.haste, self.was_hasty, self.was_moving = chance, False, False, False
-        self.tells_turns = version == 2
+        self.tells_turns = version >= 2
         self.flags = FLAGS + ['untied'] * 3 if self.tells_turns else FLAGS
         self.ledger, self.records, self.jobs, self.regions = Ledger(), [], [], itertools.count(100)
         self.threads = [Thread(it, self) for it in range(threads)]
@@ -158,7 +165,7 @@ class Run:
         group = partial(self.begin_region, kind='taskgroup')
         pair = [partial(self.create, with_items=True)] * 2
         return ([self.create], [self.create, self.begin_region], [group, self.create], pair,
-                [*pair, lambda thread: thread.run_next('switch', self.jobs[0])])
+                [*pair, lambda thread: thread.run_next('switch', self.jobs[-2])])
 
     def moving_beginnings(self):
         """What a short run of version 2 may begin with besides: a task runs, is suspended and resumes elsewhere. It
@@ -203,10 +210,10 @@ class Run:
             steps.append((lambda: self.complete_taskwait(thread, awaited), awaited.is_ready()))
         elif job.regions:
             steps += [(lambda: self.end_region(thread), it.may_end()) for it in job.regions[-1:] if it.has_met()]
+        elif job.forks:
+            steps.append((lambda: self.join(thread), True))
         elif job not in thread.roots:
             steps += self.endings_of_body(thread)
-        elif thread.forks and job.is_initial:
-            steps.append((lambda: thread.record('parallel_end', parallel=thread.forks.pop(), task=job.id), True))
         elif not any(it.stands == 'suspended' and it.context is job and not it.is_untied for it in self.jobs):
             steps.append((thread.end, True))
         return self.allowed(*steps)
@@ -245,9 +252,12 @@ class Run:
             steps += [(lambda: self.create(thread), True)] * 3 + [(lambda: self.create(thread, 'taskwait'), True)]
         steps += [(lambda: self.begin_region(thread), True)] * 2 + [(lambda: self.pass_region(thread), True)]
         steps.append((lambda: thread.record('cancel', task=job.id, flags=['taskgroup', 'activated']), True))
-        if job.is_initial and not thread.forks and not job.regions:
-            steps.append((lambda: self.fork(thread), True))
-        return self.allowed(*steps)
+        return self.allowed(*steps, *self.forkings(thread))
+
+    def forkings(self, thread):
+        """The steps by which the current task begins a parallel region."""
+        job = thread.current
+        return [(lambda: self.fork(thread), True)] if job.is_initial and not job.forks and not job.regions else []
 
     def runnable(self, thread, ending=None):
         """The tasks that may run next on the thread, if the task `ending` is complete: its innermost root, those it
@@ -278,12 +288,15 @@ class Run:
         threads = [thread, *self.chance.sample(idle, self.chance.randint(0, len(idle)))]
         parallel, team = next(self.regions), Team(len(threads))
         thread.record('parallel_begin', task=thread.current.id, parallel=parallel, requested=self.chance.randint(0, 5))
-        thread.forks.append(parallel)
+        thread.current.forks.append(parallel)
         self.chance.shuffle(threads)
         for index, it in enumerate(threads):
             member = Job()
             member.team = team
             it.begin(member, 'implicit', parallel, len(threads), index)
+
+    def join(self, thread):
+        thread.record('parallel_end', parallel=thread.current.forks.pop(), task=thread.current.id)
 
     def create(self, thread, *flags, with_items=None, is_untied=False):
         job = Job(thread.current)
@@ -343,37 +356,125 @@ class Run:
         job.stands, job.is_done = 'ended', True
 
 
+class NestingRun(Run):
+    """A run in which each task that runs may begin a parallel region or a league: one root begins on its thread, where
+    the task runs again once that root has ended, and others on threads that have no root."""
+
+    def __init__(self, chance, threads):
+        super().__init__(chance, threads, 3)
+        # for each region the thread on which it began, as long as no root of it did
+        self.forked_on = {}
+        # whether version 2 has no such run
+        self.was_nesting = False
+        self.flags = [*self.flags, 'target']
+
+    def others(self, thread):
+        """Most threads have no root until they come into a region."""
+        is_free = thread.current is None and any(it.roots for it in self.threads)
+        return [] if is_free and self.chance.random() < 0.9 else super().others(thread)
+
+    def forkings(self, thread):
+        """A region begins, or a root of one that the task began before on this thread."""
+        job = thread.current
+        if thread.roots[-1].depth == MOST_DEPTH:
+            return []
+        steps = [(lambda: self.fork(thread), True)] * 3
+        awaited = [it for it in job.forks if self.forked_on[it] is thread]
+        return steps + [(lambda: self.enter(thread, awaited[-1]), True)] * bool(awaited)
+
+    def ends(self, thread):
+        """Where a root ends, the region mostly ends at once."""
+        return [((lambda: self.end_root(thread)) if action == thread.end else action, is_due)
+                for action, is_due in super().ends(thread)]
+
+    def end_root(self, thread):
+        thread.end()
+        job = thread.current
+        if job and job.forks and not job.awaits() and self.chance.random() < 0.7:
+            self.join(thread)
+
+    def fork(self, thread):
+        """A region begins, and mostly its roots do at once; more often a league where an initial task begins it."""
+        parallel, job = self.begin_parallel(thread, self.chance.randint(0, 5)), thread.current
+        if self.chance.random() < 0.85:
+            is_plain = job.is_initial and job.depth == 0
+            self.enter(thread, parallel, self.chance.random() < (0.4 if is_plain else 0.1))
+
+    def fork_at_once(self, thread, is_league=False):
+        self.enter(thread, self.begin_parallel(thread, 2), is_league)
+
+    def begin_parallel(self, thread, requested):
+        """A region begins, of which no root has begun."""
+        parallel, job = next(self.regions), thread.current
+        thread.record('parallel_begin', task=job.id, parallel=parallel, requested=requested)
+        job.forks.append(parallel)
+        self.forked_on[parallel] = thread
+        return parallel
+
+    def enter(self, thread, parallel, is_league=False):
+        """The roots of a region begin: the members of a team, or initial tasks, whose number of a region may be any."""
+        self.forked_on[parallel] = None
+        idle = [it for it in self.threads if not it.roots]
+        threads = [thread, *self.chance.sample(idle, self.chance.randint(0, len(idle)))]
+        job, depth, team = thread.current, thread.roots[-1].depth + 1, Team(len(threads))
+        self.was_nesting |= is_league or not job.is_initial or depth > 1
+        self.chance.shuffle(threads)
+        for index, it in enumerate(threads):
+            root = Job()
+            root.depth, root.is_initial, root.team = depth, is_league, Team(1) if is_league else team
+            told = self.chance.choice([parallel, 0, 99]) if is_league else parallel
+            it.begin(root, 'initial' if is_league else 'implicit', told, len(threads), index)
+
+    def nested_beginnings(self):
+        """What a short run of version 3 begins with: a region inside another, one in an explicit task, or a league; and
+        inside it what other short runs begin with."""
+        plain = [partial(self.create, is_untied=True, with_items=False), self.start_first]
+        inner, league = self.fork_at_once, partial(self.fork_at_once, is_league=True)
+        outer = self.chance.choice([[inner, inner], [*plain, inner], [*plain, inner], [league], [league, inner]])
+        return [*outer, *self.chance.choice(self.beginnings())]
+
+
 def long_run(chance, is_hasty, version=1):
-    """A run of one to four threads, of up to some hundred records; of version 2 one of two threads or more."""
-    run = Run(chance, chance.randint(version, 4), version)
+    """A run of one to four threads, of up to some hundred records; of version 2 one of two threads or more, and of
+    version 3 one of two to six."""
+    run = NestingRun(chance, chance.randint(2, 6)) if version == 3 else Run(chance, chance.randint(version, 4), version)
     for thread in run.threads:
         if chance.random() < 0.3:
             thread.record('thread_begin', kind=chance.choice(['initial', 'worker', 'other', 'unknown']))
         if version == 2 and chance.random() < 0.5:
             run.begin_initial(thread)
-    steps = chance.randint(20 if version == 2 else 0, chance.choice([20, 60, 120]))
+    steps = chance.randint(20 if version >= 2 else 0, chance.choice([20, 60, 120]))
     hasty_from = chance.randint(0, steps) if is_hasty else None
     for number in range(steps):
         run.haste |= number == hasty_from
-        run.step(chance.choice(run.threads))
+        # of version 3 mostly a thread that runs something, since the others wait to be in a region
+        inside = [it for it in run.threads if it.roots] if version == 3 and chance.random() < 0.8 else []
+        run.step(chance.choice(inside or run.threads))
     return run
 
 
 def short_run(chance, is_hasty, most, version=1):
     """A run that ends once it has this many records. It begins with a task for which something soon may wait, and
     mostly with a second thread, so that its records have several orders."""
-    run = Run(chance, chance.randint(2, 3), version)
+    run = NestingRun(chance, chance.randint(2, 3)) if version == 3 else Run(chance, chance.randint(2, 3), version)
     first = run.threads[0]
     run.begin_initial(first)
+    if version == 3:
+        return short_rest(run, run.nested_beginnings(), is_hasty, most)
     others = chance.choice(['in a team', 'at once', 'at once', 'later'])
     if others == 'in a team':
         run.fork(first)
     for thread in run.threads[1:] if others == 'at once' else []:
         run.begin_initial(thread)
     moves = version == 2 and chance.random() < 0.7
-    for action in chance.choice(run.moving_beginnings() if moves else run.beginnings()):
-        action(first)
+    return short_rest(run, chance.choice(run.moving_beginnings() if moves else run.beginnings()), is_hasty, most)
+
+
+def short_rest(run, beginning, is_hasty, most):
+    """The run after these actions of its first thread and some steps."""
+    for action in beginning:
+        action(run.threads[0])
     run.haste = is_hasty
-    while len(run.records) < most and chance.random() < 0.95:
-        run.step(chance.choice(run.threads))
+    while len(run.records) < most and run.chance.random() < 0.95:
+        run.step(run.chance.choice(run.threads))
     return run

@@ -7,8 +7,8 @@ from itertools import islice
 
 import orders
 from fields import faults_of
-from model import (BARRIERS, CALLED_BARRIERS, DEMANDS_NEXT, DISCARD_STATE, NEXT_STATE, START_STATE, Walk, after_body,
-                   conflict, innermost, may, moves_by, state_after)
+from model import (AT_START, BARRIERS, CALLED_BARRIERS, DEMANDS_NEXT, DISCARD_STATE, NEXT_STATE, START_STATE,
+                   after_record, conflict, innermost, may, moves_by, state_after)
 from traces import Trace, member
 
 ANSWER = re.compile(r'(?:malformed: (?P<malformed>.*): cause (?P<cause>\d+) \w+'
@@ -213,9 +213,9 @@ def open_region(trace, record):
 
 def walk_before(trace, record):
     """The state of the record's thread before it, and the record that began each of its open roots."""
-    walk, begins = Walk([], None), {}
+    walk, begins = AT_START, {}
     for it in trace.of_thread(record.thread, last=record.number - 1):
-        walk = after_body(walk, it)
+        walk = after_record(walk, it)
         if it.begun_root is not None:
             begins[it.begun_root] = it
     return walk, begins

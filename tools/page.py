@@ -3,7 +3,7 @@ of the records, waits below them, dependences as arrows. It needs no network and
 to the record."""
 from html import escape
 
-from model import Walk, WAITS_FOR_TASKS, after_body, conflict
+from model import AT_START, WAITS_FOR_TASKS, after_record, conflict
 from explanations import lines_of, lines_of_order
 from orders import in_order
 from traces import Trace
@@ -89,12 +89,12 @@ class Sheet:
 
     def bars(self, own):
         """What the thread runs, from each record to the one where it changes."""
-        walk, begin = Walk([], None), None
+        walk, begin = AT_START, None
         for it in own:
-            after = after_body(walk, it)
+            after = after_record(walk, it)
             if walk.current is None and it.running is not None:
-                walk, begin = Walk(walk.roots, it.running), begin or own[0]
-                after = after_body(walk, it)
+                walk, begin = walk._replace(current=it.running), begin or own[0]
+                after = after_record(walk, it)
             if after.current != walk.current:
                 self.bar(walk, begin, it)
                 begin = it
