@@ -199,7 +199,7 @@ static bool take_version(void) {
     if (!chosen || !*chosen) return true;
     settings.version = *chosen - '0';
     if (chosen[1] == 0 && settings.version >= FIRST_VERSION && settings.version <= LAST_VERSION) return true;
-    return refuse("TASKAUDIT_VERSION", "no version of a trace file; 1 and 2 are");
+    return refuse("TASKAUDIT_VERSION", "no version of a trace file; 1, 2 and 3 are");
 }
 
 bool begin_file(void) {

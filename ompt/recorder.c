@@ -194,20 +194,28 @@ static void begin_root(struct thread *thread, struct record record, ompt_data_t 
     if (!root) return;
     data->ptr = root;
     root->is_initial = record.flags & ompt_task_initial;
+    /* the index of any other initial task is 1, and its `actual` too */
+    root->is_of_league = root->is_initial && is_nesting() && record.index < record.size;
     root->parent = thread->innermost;
+    root->outer = is_nesting() ? thread->current : thread->innermost;
     root->thread = thread->number;
     thread->innermost = thread->current = root;
     keep_known(thread, record);
 }
 
-/* In a forked process the runtime begins anew, and does not tell of the initial task that it begins: that begins here,
-   where it first occurs. Returns it, or NULL. */
-__attribute__((noinline)) static struct task *begin_initial(struct thread *thread, ompt_data_t *data) {
-    if (!is_forked || !data || thread->current) return NULL;
+/* Begins an initial task that the runtime does not tell of, on a thread that runs no task. Returns it, or NULL. */
+static struct task *add_initial(struct thread *thread, ompt_data_t *data) {
+    if (!data || thread->current) return NULL;
     keep_known(thread, (struct record){.callback = THREAD_BEGIN, .kind = ompt_thread_initial});
     begin_root(thread, (struct record){.callback = IMPLICIT_TASK, .endpoint = ompt_scope_begin, .size = 1, .index = 1,
                                        .flags = ompt_task_initial}, data);
     return task_of(data);
+}
+
+/* In a forked process the runtime begins anew, and does not tell of the initial task that it begins: that begins here,
+   where it first occurs. Returns it, or NULL. */
+__attribute__((noinline)) static struct task *begin_initial(struct thread *thread, ompt_data_t *data) {
+    return is_forked ? add_initial(thread, data) : NULL;
 }
 
 /* Returns the task of a callback that tells which task runs. */
@@ -216,13 +224,23 @@ static struct task *running_task(struct thread *thread, ompt_data_t *data) {
     return task ? task : begin_initial(thread, data);
 }
 
+/* Returns the task that begins a region. Hidden helper threads, which run target tasks, may begin theirs in no task:
+   then it is an initial task that begins here. */
+static struct task *encountering_task(struct thread *thread, ompt_data_t *data) {
+    struct task *task = running_task(thread, data);
+    if (task || !is_nesting()) return task;
+    task = add_initial(thread, data);
+    if (task) note(HELPERS_WITHOUT_TASK, NULL);
+    return task;
+}
+
 static void on_parallel_begin(ompt_data_t *encountering, const ompt_frame_t *frame, ompt_data_t *region,
                               unsigned int requested, int flags, const void *code) {
     (void)frame;
     struct thread *thread = this_thread();
-    struct task *task = thread ? running_task(thread, encountering) : NULL;
+    struct task *task = thread ? encountering_task(thread, encountering) : NULL;
     if (!task) return;
-    if (flags & PARALLEL_LEAGUE) note(TEAMS, code);
+    if (flags & PARALLEL_LEAGUE && !is_nesting()) note(TEAMS, code);
     region->value = atomic_fetch_add(&region_count, 1) + 1;
     keep_known(thread, (struct record){.callback = PARALLEL_BEGIN, .task = task, .region = region->value,
                                        .size = requested, .code = code});
@@ -244,7 +262,8 @@ static void end_root(struct thread *thread, struct record record, struct task *r
         return;
     }
     record.task = root;
-    thread->innermost = thread->current = root->parent;
+    thread->innermost = root->parent;
+    thread->current = root->outer;
     keep_known(thread, record);
 }
 
@@ -277,7 +296,7 @@ static void on_task_create(ompt_data_t *encountering, const ompt_frame_t *frame,
     struct task *made = creator ? new_task(thread) : NULL;
     if (!made) return;
     data->ptr = made;
-    if (flags & ompt_task_target) note(TARGET, code);
+    if (flags & ompt_task_target && !is_nesting()) note(TARGET, code);
     made->parent = creator;
     made->root = creator->root;
     made->depth = creator->depth + 1;
@@ -370,6 +389,21 @@ static void on_task_schedule(ompt_data_t *prior_data, ompt_task_status_t status,
     else keep_reading(thread, record);
 }
 
+/* Whether this is the kind of the barrier at a region's end. */
+static bool is_join(ompt_sync_region_t kind) {
+    return kind == ompt_sync_region_barrier_implicit || kind == ompt_sync_region_barrier_implicit_parallel;
+}
+
+/* Returns the task of which a region ends here. The end of the join barrier of a region in a teams construct may be told
+   as of the task below the member: that of the region which each initial task of the construct begins. */
+static struct task *ending_task(struct thread *thread, ompt_sync_region_t kind, struct task *task) {
+    struct task *member = thread->current;
+    if (!is_nesting() || task == member || !member || member != thread->innermost || member->outer != task) return task;
+    if (!is_join(kind) || task != member->parent || !task->parent || !task->parent->is_of_league) return task;
+    note(JOINS_IN_TEAMS, NULL);
+    return member;
+}
+
 static void on_sync_region(ompt_sync_region_t kind, ompt_scope_endpoint_t endpoint, ompt_data_t *region,
                            ompt_data_t *data, const void *code) {
     struct thread *thread = this_thread();
@@ -379,6 +413,7 @@ static void on_sync_region(ompt_sync_region_t kind, ompt_scope_endpoint_t endpoi
         note(task ? UNKNOWN : NO_TASK, code);
         return;
     }
+    if (endpoint == ompt_scope_end) task = ending_task(thread, kind, task);
     struct record record = {.callback = SYNC_REGION, .kind = kind, .endpoint = endpoint, .task = task, .code = code,
                             .region = region ? region->value : 0};
     if (endpoint == ompt_scope_begin) keep_known(thread, record);

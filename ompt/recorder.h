@@ -12,9 +12,11 @@
 /* The limits of a trace file (docs/FORMAT.md). */
 enum { MAX_RECORDS = 1 << 22, MAX_TASKS = 1 << 20, MAX_THREADS = 256, MAX_DEPENDENCES = 64, MAX_DEPTH = 1024 };
 
-/* The versions of a trace file. The first cannot say that a task resumes on another thread. TASKAUDIT_VERSION in the
-   environment chooses one; without it the file is of the default version. */
-enum { FIRST_VERSION = 1, LAST_VERSION = 2, DEFAULT_VERSION = LAST_VERSION };
+/* The versions of a trace file. The first cannot say that a task resumes on another thread; from NESTING_VERSION on a
+   file has regions inside others, teams and target tasks. TASKAUDIT_VERSION in the environment chooses one; without it
+   the file is of the default version. */
+enum { FIRST_VERSION = 1, NESTING_VERSION = 3, LAST_VERSION = 3 };
+enum { DEFAULT_VERSION = 2 };
 
 /* Rooms are taken in blocks, so that threads seldom meet at the counters of all. */
 enum { RECORDS_OF_BLOCK = 1024, TASKS_OF_BLOCK = 256 };
@@ -28,15 +30,19 @@ enum callback {
 struct task {
     struct task *parent;   /* of a root: the root below it on its thread, or NULL */
     struct task *root;     /* itself, if it is a root */
-    uint64_t id;           /* its number in the file, given when that is written */
+    union {
+        struct task *outer;    /* of a root, until it ends: what its thread runs again then, or NULL */
+        uint64_t id;           /* its number in the file, given when that is written */
+    };
     uint32_t number;       /* among the children of its parent */
     uint32_t children;     /* how many it has created */
     uint32_t depth;        /* how many steps it is below its root */
     int32_t thread;        /* the thread on which it first ran, or -1 */
     uint32_t turn;         /* how often it has resumed since it started, on any thread */
-    bool is_initial, is_discarded;
-    bool has_list;         /* its dependences are recorded */
-    bool has_started;      /* for the writer: its start was counted */
+    bool is_initial : 1, is_discarded : 1;
+    bool is_of_league : 1; /* an initial task of a teams construct, in a file that has these */
+    bool has_list : 1;     /* its dependences are recorded */
+    bool has_started : 1;  /* for the writer: its start was counted */
 };
 
 struct dependence {
@@ -91,6 +97,7 @@ struct thread {
 enum note {
     MOVED, UNTIED, CREATED_FOR_ANOTHER, DISCARDED_TWICE, DOACROSS, ALL_MEMORY, LONG_LIST, LATE_LIST, NO_TASK,
     UNKNOWN, WRONG_END, NESTED, INNER_REGIONS, TEAMS, TARGET, ADDED_MEMBERS, BARRIERS_RENAMED,
+    JOINS_IN_TEAMS, LEAGUE_MEMBERS, HELPERS_WITHOUT_TASK,
     /* why recording stopped */
     MANY_RECORDS, MANY_TASKS, MANY_THREADS, DEEP_TASKS, NO_MEMORY, NOTES
 };
@@ -130,6 +137,11 @@ struct settings {
     int version;
 };
 extern struct settings settings;
+
+/* Whether the file has regions inside others as they are. */
+static inline bool is_nesting(void) {
+    return settings.version >= NESTING_VERSION;
+}
 
 /* Takes the settings from the environment and makes the file that will be written; says why not, and returns false. */
 bool begin_file(void);

@@ -33,6 +33,7 @@ static const struct flag cancel_flags[] = {{1, "parallel"}, {2, "sections"}, {4,
 static const char *const note_names[NOTES] = {
     "moved", "untied", "created_for_another", "discarded_twice", "doacross", "all_memory", "long_list", "late_list",
     "no_task", "unknown", "wrong_end", "nested", "inner_regions", "teams", "target", "added_members", "barriers_renamed",
+    "joins_in_teams", "league_members", "helpers_without_task",
     "many_records", "many_tasks", "many_threads", "deep_tasks", "no_memory"};
 
 /* No record takes more text: a path has at most 1,024 numbers, a list 64 items, and a module's name 256 bytes. */
@@ -183,6 +184,11 @@ static const struct record *next(struct cursor *cursor) {
     if (cursor->at == cursor->count) return NULL;
     if (cursor->at && cursor->at % RECORDS_OF_BLOCK == 0) cursor->block = cursor->block->next;
     return &cursor->block->records[cursor->at++ % RECORDS_OF_BLOCK];
+}
+
+/* Whether the parallel region that begins here is inside another one, which a file of this version cannot have. */
+static bool may_leave_out(const struct record *begin) {
+    return !is_nesting() && !begin->task->is_initial;
 }
 
 /* Whether the parallel region that begins just before the cursor is one of one thread inside another region, in which
@@ -336,9 +342,7 @@ static void put_thread(const struct thread *thread) {
     struct cursor cursor = records_of(thread);
     uint32_t seq = 0;
     for (const struct record *record; (record = next(&cursor));) {
-        if (record->callback == PARALLEL_BEGIN && !record->task->is_initial) {
-            if (passes_inner_region(&cursor, record)) continue;
-        }
+        if (record->callback == PARALLEL_BEGIN && may_leave_out(record) && passes_inner_region(&cursor, record)) continue;
         put_record(record, thread->number, seq++);
     }
 }
@@ -353,9 +357,10 @@ static uint64_t wait_count, dependent_count;
 static uint32_t lines[MAX_THREADS + 1];
 static uint32_t open_regions;
 
-/* Of each parallel region the size of its team, and how many members began. */
+/* Of each parallel region the size of its team, how many members began, and the index of the last that did. */
 static struct team {
-    uint32_t size, begun;
+    uint32_t size, begun, index;
+    bool is_in_league; /* an initial task of a teams construct began it */
 } *teams;
 static uint32_t last_region;
 
@@ -368,7 +373,13 @@ static void look_at_root(const struct record *record) {
     record->task->id = ++last_id;
     if (!teams || record->task->is_initial || record->region > last_region) return;
     teams[record->region].size = record->size;
+    teams[record->region].index = record->index;
     teams[record->region].begun++;
+}
+
+static void look_at_parallel(const struct record *record) {
+    open_regions++;
+    if (teams && record->region <= last_region) teams[record->region].is_in_league = record->task->is_of_league;
 }
 
 static void look_at_region(const struct record *record) {
@@ -405,7 +416,7 @@ static void look_at(const struct thread *thread) {
         else if (record->callback == PARALLEL_END) open_regions--;
         else if (record->callback == PARALLEL_BEGIN) {
             uint32_t at = cursor.at;
-            if (record->task->is_initial || !leaves_out(&cursor, record)) open_regions++;
+            if (!may_leave_out(record) || !leaves_out(&cursor, record)) look_at_parallel(record);
             else left_out += cursor.at - at + 1;
         }
     }
@@ -423,21 +434,30 @@ static void look_at_barriers(void) {
     wait_count += found / 2;
 }
 
-/* Members that never began: the program ended before their threads woke. A thread of their own begins and ends them,
-   where the file has room for one more. */
+/* Members that never began: the program ended before their threads woke; or their region is the one that each initial
+   task of a teams construct begins, of which the runtime tells the first member only. A thread of their own begins and
+   ends them, where the file has room for one more. */
 
 static bool lacks_members(uint32_t region) {
     return teams[region].begun < teams[region].size && teams[region].size <= MAX_THREADS && thread_total < MAX_THREADS;
 }
 
 static void look_at_teams(void) {
-    for (uint32_t region = 1; teams && region <= last_region; region++)
-        if (lacks_members(region)) atomic_fetch_add(&notes[ADDED_MEMBERS], teams[region].size - teams[region].begun);
-    lines[thread_total] = 2 * (uint32_t)notes[ADDED_MEMBERS];
+    for (uint32_t region = 1; teams && region <= last_region; region++) {
+        if (!lacks_members(region)) continue;
+        enum note what = teams[region].is_in_league ? LEAGUE_MEMBERS : ADDED_MEMBERS;
+        atomic_fetch_add(&notes[what], teams[region].size - teams[region].begun);
+    }
+    lines[thread_total] = 2 * (uint32_t)(notes[ADDED_MEMBERS] + notes[LEAGUE_MEMBERS]);
 }
 
+/* All records are searched only where several members began. */
 static void find_begun(uint32_t region, bool *is_begun) {
     memset(is_begun, 0, MAX_THREADS);
+    if (teams[region].begun == 1 && teams[region].index < MAX_THREADS) {
+        is_begun[teams[region].index] = true;
+        return;
+    }
     for (int i = 0; i < thread_total; i++) {
         struct cursor cursor = records_of(thread_at(i));
         for (const struct record *record; (record = next(&cursor));)

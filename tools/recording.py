@@ -13,6 +13,11 @@ CHANGED = {
     'doacross': '{count} dependences of doacross loops (source, sink) are left out',
     'wrong_end': '{count} ends of initial or implicit tasks that came while another task ran are left out',
     'added_members': '{count} members of teams whose threads never woke are added, on a thread of their own',
+    'joins_in_teams': '{count} ends of barriers at the end of regions in teams constructs, told as of the task below the'
+                      ' member, are written as of the member',
+    'league_members': '{count} members of the regions that initial tasks of teams constructs begin, of which the runtime'
+                      ' tells the first only, are added, on a thread of their own',
+    'helpers_without_task': '{count} hidden helper threads began a region in no task; each is given an initial task',
 }
 NOT_AUDITED = {
     'nested': '{count} parallel regions inside others: the file is malformed (NestedParallel or NotCurrent)',
@@ -24,6 +29,7 @@ MOVED = '{count} times a task went on on another thread (untied tasks)'
 MOVED_BY_VERSION = {
     1: f'NOT AUDITED: {MOVED}: the file is malformed (Moved), since version 1 of the file cannot say that',
     2: f'{MOVED}, as its turns say',
+    3: f'{MOVED}, as its turns say',
 }
 # Why a file has a part of a run only.
 PARTIAL = {
