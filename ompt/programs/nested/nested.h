@@ -1,0 +1,23 @@
+/* What the programs with regions inside others share. Teams have two threads, or as many as OMP_NUM_THREADS says. */
+#ifndef NESTED_H
+#define NESTED_H
+
+#include "../unfinished.h"
+
+#include <omp.h>
+#include <stdlib.h>
+
+enum { LEVELS = 4, PER_TEAM = 8 };
+
+/* What each program begins with. */
+static void allow_inner_regions(void) {
+    omp_set_max_active_levels(LEVELS);
+    if (!getenv("OMP_NUM_THREADS")) omp_set_num_threads(2);
+}
+
+/* The first number of the tasks of this inner region: that of its member of the outer region, times what a team has. */
+static int first_of_team(void) {
+    return omp_get_ancestor_thread_num(1) * PER_TEAM;
+}
+
+#endif
