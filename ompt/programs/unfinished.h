@@ -18,11 +18,15 @@ static inline void is_task(int task) {
     if (taskaudit_is_task) taskaudit_is_task(task);
 }
 
+static inline void mark(int task) {
+    atomic_store(&is_done[task], 1);
+}
+
 /* The last statement of each task. It comes late, so that a wait that does not wait ends before it. */
 static void finish(int task) {
     is_task(task);
     usleep(TASK_MICROSECONDS);
-    atomic_store(&is_done[task], 1);
+    mark(task);
 }
 
 /* Prints which of so many tasks from the first on are not done yet, at once. */

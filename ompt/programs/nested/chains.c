@@ -49,6 +49,8 @@ int main(void) {
             finish(2 * PER_TEAM);
         }
 #pragma omp taskwait
+        print_unfinished_from("taskwait", 3, 1);
+        print_unfinished_from("taskwait", PER_TEAM + 3, 1);
         print_unfinished_from("taskwait", 2 * PER_TEAM, 1);
     }
     return one + two;

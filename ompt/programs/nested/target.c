@@ -7,30 +7,34 @@ int main(void) {
 #pragma omp parallel
 #pragma omp single
     {
-#pragma omp task depend(out : one)
-        finish(0);
+#pragma omp task depend(out : one) depend(out : two)
+        {
+            usleep(10 * TASK_MICROSECONDS); /* hidden helper threads are begun meanwhile */
+            finish(0);
+        }
 #pragma omp target nowait depend(inout : one) map(tofrom : one)
         {
-            usleep(TASK_MICROSECONDS);
+            print_unfinished("target", 1);
+            finish(1);
             one = 1;
         }
 #pragma omp task depend(in : one) depend(out : two)
         {
-            if (one != 1) print_unfinished("target", MOST_TASKS);
-            finish(1);
+            print_unfinished("depend", 2);
+            finish(2);
         }
 #pragma omp parallel num_threads(2)
 #pragma omp single
         {
-#pragma omp task
-            finish(2);
-#pragma omp task
-            finish(3);
+            for (int task = 3; task < 7; task++) {
+#pragma omp task firstprivate(task)
+                finish(task);
+            }
 #pragma omp taskwait
-            print_unfinished_from("inner taskwait", 2, 2);
+            print_unfinished_from("inner taskwait", 3, 4);
         }
 #pragma omp taskwait
-        print_unfinished("taskwait", 4);
+        print_unfinished("taskwait", 7);
     }
-    return two;
+    return one != 1;
 }

@@ -1,4 +1,4 @@
-/* Teams with distribute, whose regions create tasks and wait for them at a barrier, a taskwait and their ends. */
+/* Teams with distribute, whose regions create tasks and wait for them at a taskwait and at their ends. */
 #include "nested.h"
 
 static void create_tasks(int first) {
@@ -20,14 +20,15 @@ int main(void) {
         for (int i = 0; i < 8; i++)
 #pragma omp atomic
             sum += i;
-#pragma omp parallel
+#pragma omp parallel num_threads(2)
         {
 #pragma omp single
             create_tasks(PER_TEAM * team);
-#pragma omp task firstprivate(team)
-            finish(PER_TEAM * team + 6 + omp_get_thread_num() % 2);
-#pragma omp barrier
+            int last = PER_TEAM * team + 6 + omp_get_thread_num();
+#pragma omp task firstprivate(last)
+            finish(last);
         }
+        print_unfinished_from("parallel", PER_TEAM * team, PER_TEAM);
     }
     return sum != 28;
 }
