@@ -285,7 +285,7 @@ static void on_task_create(ompt_data_t *creator, const ompt_frame_t *frame, ompt
 enum { MOST_NUMBERS = 64 };
 static struct task *numbered[MOST_NUMBERS];
 
-__attribute__((visibility("default"))) void taskaudit_is_task(int number) {
+void taskaudit_is_task(int number) {
     ompt_data_t *task = NULL;
     if (number < 0 || number >= MOST_NUMBERS || !runtime_task_info) return;
     if (runtime_task_info(0, NULL, &task, NULL, NULL, NULL) == 2 && task) numbered[number] = task->ptr;

@@ -396,9 +396,10 @@ static bool is_join(ompt_sync_region_t kind) {
 
 /* Returns the task of which a region ends here. The end of the join barrier of a region in a teams construct may be told
    as of the task below the member: that of the region which each initial task of the construct begins. */
-static struct task *ending_task(struct thread *thread, ompt_sync_region_t kind, struct task *task) {
+__attribute__((noinline)) static struct task *ending_task(struct thread *thread, ompt_sync_region_t kind,
+                                                          struct task *task) {
     struct task *member = thread->current;
-    if (!is_nesting() || task == member || !member || member != thread->innermost || member->outer != task) return task;
+    if (!is_nesting() || !member || member != thread->innermost || member->outer != task) return task;
     if (!is_join(kind) || task != member->parent || !task->parent || !task->parent->is_of_league) return task;
     note(JOINS_IN_TEAMS, NULL);
     return member;
@@ -413,7 +414,7 @@ static void on_sync_region(ompt_sync_region_t kind, ompt_scope_endpoint_t endpoi
         note(task ? UNKNOWN : NO_TASK, code);
         return;
     }
-    if (endpoint == ompt_scope_end) task = ending_task(thread, kind, task);
+    if (endpoint == ompt_scope_end && task != thread->current) task = ending_task(thread, kind, task);
     struct record record = {.callback = SYNC_REGION, .kind = kind, .endpoint = endpoint, .task = task, .code = code,
                             .region = region ? region->value : 0};
     if (endpoint == ompt_scope_begin) keep_known(thread, record);
