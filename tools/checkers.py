@@ -47,6 +47,16 @@ def checker_of_checkout():
     return [SCRIPT if os.path.exists(SCRIPT) else installed() or 'taskaudit']
 
 
+def ready_checker():
+    """The words that start a program that audits at once: that of this checkout, or the one that is installed."""
+    if os.path.exists(SCRIPT) and is_built():
+        return [SCRIPT]
+    if installed():
+        return [installed()]
+    raise NoChecker('there is no program to audit with: none is installed, and that of this checkout is not built, which'
+                    ' ./taskaudit check FILE does')
+
+
 def find_checker(is_unproved):
     """The words that start the program that audits, and what is to be said of it before, or None."""
     is_checkout = os.path.exists(SCRIPT)

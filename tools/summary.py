@@ -3,6 +3,7 @@
 Of each kind of wait, start, task and region: how many there are, and how many were at risk, by the definitions of
 docs/SUMMARY.md. One pass reads the records, and one goes along them in the tasks' own order. The words are those of
 docs/MODEL.md; a length is a ledger length, and the limit of a task the least length at which it is complete."""
+import gc
 import json
 import os
 import sys
@@ -24,6 +25,7 @@ WAITS = {'taskwaits': '{} of {} taskwaits began before their tasks were known to
 NO_RISK = ('No wait and no start was at risk, so this yes exercised nothing: a runtime that waits for nothing could have'
            ' given the same records.')
 NO_WAITS = 'There is no wait and no start with predecessors in the file, so this yes exercised nothing.'
+NOT_JUDGED = 'The file is malformed, so none of these was judged.'
 # More than any length.
 NEVER = 1 << 62
 # The classes of types of dependences: two of one class conflict only in the first one, two of different classes always.
@@ -319,13 +321,14 @@ def from_object(told):
     return {kind: Figure(**it) for kind, it in told.items()}
 
 
-def sentences_on(figures, is_yes):
-    """Returns sentences on the kinds of waits of which none was at risk; and of a yes whether any was."""
+def sentences_on(figures, verdict):
+    """Returns sentences on the kinds of waits of which none was at risk; of a yes whether any was; and whether the file
+    is malformed."""
     found = [text.format(*reversed(figures[kind])) for kind, text in WAITS.items()
              if figures[kind].count and not figures[kind].at_risk]
-    if is_yes and not any(figures[kind].at_risk for kind in WAITS):
+    if verdict == 'yes' and not any(figures[kind].at_risk for kind in WAITS):
         found.append(NO_RISK if found else NO_WAITS)
-    return found
+    return found + [NOT_JUDGED] * (verdict == 'malformed')
 
 
 def table(heads, rows):
@@ -336,12 +339,33 @@ def table(heads, rows):
             for row in cells]
 
 
-def as_text(figures, is_yes):
-    """Returns the figures of one file as lines."""
+def as_text(figures, verdict):
+    """Returns the figures of one file, whose answer begins with this word, as lines."""
     rows = [(name, *figures[kind]) for kind, name in KINDS.items()]
-    said = sentences_on(figures, is_yes)
+    said = sentences_on(figures, verdict)
     return '\n'.join([*table(['in the file', 'at risk'], rows), *[''] * bool(said), *said])
 
 
+def of_many(told):
+    """Returns lines on many files, of which each has a verdict and figures: a table, and what no file touches. Malformed
+    files are not judged, so what is in them counts apart."""
+    judged = [figures for verdict, figures in told if verdict != 'malformed']
+    others = [figures for verdict, figures in told if verdict == 'malformed']
+    rows = [(name, sum(it[kind].count for it in judged), sum(it[kind].at_risk for it in judged),
+             sum(it[kind].at_risk > 0 for it in judged), sum(it[kind].count for it in others))
+            for kind, name in KINDS.items()]
+    idle = [figures for verdict, figures in told if verdict == 'yes'
+            and not any(figures[kind].at_risk for kind in WAITS)]
+    yeses = sum(verdict == 'yes' for verdict, _ in told)
+    said = {'No file that was judged has any of these: {}.': [name for name, count, *_ in rows if not count],
+            'None of these was at risk: {}.': [name for name, count, at_risk, *_ in rows if count and not at_risk],
+            '{} exercised nothing, since no wait and no start in them was at risk.':
+                [f'{len(idle)} of {yeses} yeses'] * bool(idle)}
+    sentences = [text.format(', '.join(names)) for text, names in said.items() if names]
+    return [*table(['in all files', 'at risk', 'files at risk', 'not judged'], rows), '', *sentences]
+
+
 if __name__ == '__main__':
+    # what is kept has no circles, and looking for them takes a fifth of the time
+    gc.disable()
     json.dump(as_object(summary_of(sys.stdin)), sys.stdout)
