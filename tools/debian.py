@@ -20,13 +20,16 @@ DESCRIPTION = """Auditor of recorded OpenMP tasks
  prints is proved by machine.
  .
  taskaudit-run runs a program under LLVM's OpenMP runtime, records its tasks,
- and audits what was recorded. taskaudit-explain explains an answer."""
+ and audits what was recorded. taskaudit-explain explains an answer, and
+ taskaudit-audit audits many files."""
 # The documents named in the help, the errors and the scripts.
-DOCUMENTS = ('CAUSES.md', 'FORMAT.md', 'MODEL.md', 'RECORDING.md', 'trace.schema.json')
+DOCUMENTS = ('CAUSES.md', 'FORMAT.md', 'MODEL.md', 'RECORDING.md', 'SUITES.md', 'SUMMARY.md', 'trace.schema.json')
 COMPLETIONS = {'bash': 'usr/share/bash-completion/completions/{}', 'zsh': 'usr/share/zsh/vendor-completions/_{}',
                'fish': 'usr/share/fish/vendor_completions.d/{}.fish'}
 PRIVATE, OVERRIDES = 'usr/lib/taskaudit', 'usr/share/lintian/overrides/taskaudit'
 DOC = 'usr/share/doc/taskaudit'
+# What find_package(taskaudit) of CMake finds, and where it is in the repository.
+FOR_CMAKE = {'usr/share/cmake/taskaudit/taskaudit-config.cmake': 'ompt/cmake/taskaudit-config.cmake'}
 PROGRAM = f'{PRIVATE}/bin/taskaudit'
 # usr/bin/taskaudit. It finds the program by its own place, so a package works in any folder where it is unpacked.
 STARTER = b"""#!/bin/sh
@@ -38,11 +41,11 @@ export GLIBC_TUNABLES="glibc.malloc.hugetlb=1${GLIBC_TUNABLES:+:$GLIBC_TUNABLES}
 exec "${script%/*}/../lib/taskaudit/bin/taskaudit" "$@"
 """
 # The scripts, by the names of the links to them in usr/bin.
-SCRIPTS = {'taskaudit-run': 'ompt/taskaudit-run', 'taskaudit-explain': 'tools/explain'}
+SCRIPTS = {'taskaudit-run': 'ompt/taskaudit-run', 'taskaudit-explain': 'tools/explain', 'taskaudit-audit': 'tools/audit'}
 # What the scripts import and read.
 NEEDED = ('ompt/running.py', 'ompt/runs.py', 'tools/answers.py', 'tools/checkers.py', 'tools/explanations.py',
-          'tools/fields.py', 'tools/orders.py', 'tools/page.py', 'tools/recording.py', 'tools/traces.py',
-          'tools/texts/version', 'tests/model.py', 'docs/trace.schema.json')
+          'tools/fields.py', 'tools/judging.py', 'tools/junit.py', 'tools/orders.py', 'tools/page.py',
+          'tools/recording.py', 'tools/summary.py', 'tools/traces.py', 'tools/texts/version', 'tests/model.py', 'docs/trace.schema.json')
 LIBRARIES = ('libtaskaudit_ompt.so', 'libtaskaudit_beside.so')
 # The scripts have match statements.
 OLDEST_PYTHON = (3, 10)
@@ -161,6 +164,7 @@ def installed_files(program, recorders, about):
              f'{DOC}/copyright': copyright_of(about[2]), f'{DOC}/changelog.gz': compressed(changes_of(*about)),
              f'{DOC}/CHANGELOG.md': read(os.path.join(TOP, 'CHANGELOG.md'))}
     files |= {f'{DOC}/{name}': read(os.path.join(TOP, 'docs', name)) for name in DOCUMENTS}
+    files |= {name: read(os.path.join(TOP, place)) for name, place in FOR_CMAKE.items()}
     files |= {f'{PRIVATE}/ompt/out/{name}': data for name, (data, _) in recorders.items()}
     for name in (*SCRIPTS.values(), *NEEDED):
         data = read(os.path.join(TOP, name))
