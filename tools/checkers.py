@@ -53,8 +53,8 @@ def ready_checker():
         return [SCRIPT]
     if installed():
         return [installed()]
-    raise NoChecker('there is no program to audit with: none is installed, and that of this checkout is not built, which'
-                    ' ./taskaudit check FILE does')
+    raise NoChecker('there is no program to audit with: none is on the PATH, and that of this checkout is not built;'
+                    ' `./taskaudit check FILE` builds it')
 
 
 def find_checker(is_unproved):

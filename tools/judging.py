@@ -29,7 +29,11 @@ ANSWER = re.compile(r'(?:yes: (?P<records>\d+) records, (?P<entries>\d+) entries
                     r'|(?:no|malformed): line (?P<line>\d+), thread (?P<thread>\d+), seq (?P<seq>\d+): '
                     r'(?:task (?P<task>\d+) (?:unfinished|must precede task (?P<dependent>\d+))'
                     r'|cause (?P<cause>\d+) (?P<cause_name>\w+)))')
-COUNTS, NAMED = ('records', 'entries', 'tasks', 'waits'), ('line', 'thread', 'seq', 'task', 'dependent', 'cause', 'cause_name')
+# How long a process that is ended may take for that.
+SECONDS_TO_END = 10
+INTERRUPTED = 'the audit was interrupted'
+COUNTS = ('records', 'entries', 'tasks', 'waits')
+NAMED = ('line', 'thread', 'seq', 'task', 'dependent', 'cause', 'cause_name')
 
 
 class NoAnswer(Exception):
@@ -159,7 +163,8 @@ class Judge:
             out, errors = ran.communicate(timeout=self.limit)
         except subprocess.TimeoutExpired as error:
             end(ran)
-            ran.communicate()
+            with suppress(subprocess.TimeoutExpired):
+                ran.communicate(timeout=SECONDS_TO_END)
             raise NoAnswer(f'it took longer than {self.limit:g} s') from error
         finally:
             with self.lock:
@@ -174,7 +179,7 @@ class Judge:
         try:
             result = self.judged(file)
         except Stopped:
-            result = Result(file, 'not audited', 'not audited: the audit was interrupted')
+            result = Result(file, 'not audited', f'not audited: {INTERRUPTED}')
         except NoAnswer as error:
             result = Result(file, 'without an answer', f'no answer: {error}')
         except OSError as error:
@@ -205,8 +210,8 @@ class Judge:
         words = [sys.executable, '-B', os.path.join(TOOLS, 'summary.py')]
         try:
             out, errors, status = self.printed(words, result.file)
-        except NoAnswer as error:
-            out, errors, status = '', str(error), 1
+        except (NoAnswer, Stopped, OSError) as error:
+            out, errors, status = '', str(error) or INTERRUPTED, 1
         if status:
             last = errors.rstrip('\n').rpartition('\n')[2]
             print(f'{shown(result.file)}: no summary: {last}', file=sys.stderr, flush=True)
