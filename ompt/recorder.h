@@ -16,7 +16,7 @@ enum { MAX_RECORDS = 1 << 22, MAX_TASKS = 1 << 20, MAX_THREADS = 256, MAX_DEPEND
    file has regions inside others, teams and target tasks. TASKAUDIT_VERSION in the environment chooses one; without it
    the file is of the default version. */
 enum { FIRST_VERSION = 1, NESTING_VERSION = 3, LAST_VERSION = 3 };
-enum { DEFAULT_VERSION = 2 };
+enum { DEFAULT_VERSION = 3 };
 
 /* Rooms are taken in blocks, so that threads seldom meet at the counters of all. */
 enum { RECORDS_OF_BLOCK = 1024, TASKS_OF_BLOCK = 256 };

@@ -2,8 +2,7 @@
 """model.py < FILE: the answer of docs/MODEL.md to a readable trace file, found only by the definitions there.
 model.py order < FILE: the same, and after a yes or a no an order of all records, one line `T S` (thread, seq) each.
 
-A file of version 3, which no program reads yet, has parallel regions inside others. Its records nest, and where that
-matters a function says so.
+A file of version 3 has parallel regions inside others. Its records nest, and where that matters a function says so.
 
 It shares no code with the program and saves no time: what is a relation there is a set here, and what happens
 before what is a transitive closure. The first line of each function names the definition that it restates. What a
@@ -659,14 +658,14 @@ def nested_parallel(records):
 
 
 def region_nesting(records):
-    """RegionNesting: a root begins inside another, in no region that the task which runs there began; of records that
+    """IsMisnested: a root begins inside another, in no region that the task which runs there began; of records that
     nest."""
     return {i for i, walk in enumerate(walks(records)) if records[i].nests and walk.roots
             and nesting_rules(records, walk, i)}
 
 
 def nesting_rules(records, walk, i):
-    """RegionNesting: the rules that hold at i, where the thread has an open root: other_region and other_league."""
+    """IsMisnested: the rules that hold at i, where the thread has an open root: other_region and other_league."""
     earlier_there = [record for record in records[:i] if record.thread == records[i].thread]
     begun = {parallel for task, parallel in said('forked', earlier_there) if task == walk.current}
     rules = {'other_region': records[i].joined and records[i].joined.parallel not in begun,

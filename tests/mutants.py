@@ -17,9 +17,9 @@ from concurrent.futures import ThreadPoolExecutor
 import mutated_lines
 import reading
 import upgrade_model
-from changes import (CHANGES, TASKS, changed, changed_with_turns, created_late, entries_exchanged, entry_twice,
-                     finishes, flags_other, implied_turns, numbered, run_too_soon)
-from reading import LONGEST, LONGEST_PATH, MOST_DEPENDENCES, SCRIPTS
+from changes import (CHANGES, TASKS, changed, changed_with_nesting, changed_with_turns, created_late,
+                     entries_exchanged, entry_twice, finishes, flags_other, implied_turns, numbered, run_too_soon)
+from reading import LONGEST, LONGEST_PATH, MOST_DEPENDENCES, SCRIPTS, VERSIONS
 from scripts import script
 
 HERE = os.path.dirname(os.path.abspath(__file__))
@@ -35,6 +35,8 @@ Parsed = namedtuple('Parsed', 'version records')
 SCRIPT = 'script'
 # Changes after which a trace may have a cause that is rarely reported.
 SELDOM = flags_other, entries_exchanged, entry_twice, created_late, run_too_soon
+# What `compare` changes in a trace with turns, by its version.
+CHANGED = {2: changed_with_turns, 3: changed_with_nesting}
 # Members that are tasks or regions, and those of a trace that a script does not know.
 IDS = (*TASKS, 'parallel')
 OF_TRACES = ('seq', 'seen', 'root', 'path', 'kept', 'prior_turn', 'next_turn')
@@ -59,8 +61,6 @@ def cases():
     found = set()
     for top in (HERE, os.path.join(HERE, '../examples')):
         for folder, _, names in os.walk(top):
-            if os.path.basename(folder) == RUN.NOT_RUN:
-                continue
             stems = [os.path.splitext(os.path.join(folder, name)) for name in names]
             found |= {stem for stem, ending in stems if ending in ('.jsonl', '.short', '.make')}
     return sorted(found)
@@ -210,6 +210,7 @@ def lines_cut(chance, files, lines):
 HEADERS = [b'{"format":"task-credit-audit","version":1}', b'{"format":"task-credit-audit","version":2}',
            b'{"format":"task-credit-script","version":1}', b' {"version":1,"format":"task-credit-audit","more":[{}]}\r',
            b'{"version":7,"format":"task-credit-audit","version":2}', b'{"format":"task-credit-audit","version":3}',
+           b'{"format":"task-credit-audit","version":4}',
            b'{"format":"task-credit-audit","version":1.0}', b'{"format":"task-credit-audit","version":"1"}',
            b'{"format":"task-credit-script","version":2}', b'{"format":"task-credit-audit"}', b'{}', b'']
 
@@ -478,10 +479,10 @@ def something_changed(chance, files, parsed):
     if parsed.version == SCRIPT:
         return None
     records = in_full(parsed)
-    if parsed.version == 2 and chance.random() < 0.7:
-        return parsed._replace(records=changed_with_turns(chance, records))
+    if parsed.version in CHANGED and chance.random() < 0.7:
+        return parsed._replace(records=CHANGED[parsed.version](chance, records))
     records = changed(chance, records, chance.choice([CHANGES, SELDOM]))
-    return parsed._replace(records=implied_turns(records) if parsed.version == 2 else records)
+    return parsed._replace(records=implied_turns(records) if parsed.version in CHANGED else records)
 
 
 def in_version(parsed, version):
@@ -489,15 +490,15 @@ def in_version(parsed, version):
     records = in_full(parsed)
     if version == SCRIPT:
         return [{name: it for name, it in record.items() if name not in OF_TRACES} for record in records]
-    return implied_turns(records) if version == 2 and parsed.version == 1 else records
+    return implied_turns(records) if version > 1 and parsed.version == 1 else records
 
 
 @of_records
 def version_other(chance, files, parsed):
-    """A trace of the other version, or a script."""
+    """A trace of another version, or a script."""
     if parsed.version == SCRIPT:
         return None
-    version = chance.choice([3 - parsed.version, SCRIPT])
+    version = chance.choice([*(it for it in VERSIONS if it != parsed.version), SCRIPT])
     return Parsed(version, in_version(parsed, version))
 
 

@@ -5,6 +5,7 @@ from model import DEMANDS_NEXT
 from scripts import script
 from upgrade_model import finishes
 
+VERSIONS = 1, 2, 3
 LONGEST, SHORT_END, LAST_THREAD, LONGEST_PATH, MOST_DEPENDENCES = 65536, 2**32, 255, 1024, 64
 SHORT = ('seq', 'seen', 'requested', 'actual', 'index')
 CLAIM, TURNS = {'root': int, 'path': [int], 'kept': int}, {'prior_turn': int, 'next_turn': int}
@@ -21,14 +22,14 @@ def version_of(value):
     """The version that a header gives, or None where the value is no header."""
     members = value if type(value) is dict else {}
     version = members.get('version')
-    is_known = members.get('format') == 'task-credit-audit' and type(version) is int and version in (1, 2)
+    is_known = members.get('format') == 'task-credit-audit' and type(version) is int and version in VERSIONS
     return version if is_known else None
 
 
 def more_members(record, version):
     """The members that a record has besides those of its callback."""
     runs_next = record['cb'] == 'task_schedule' and record['status'] in DEMANDS_NEXT
-    claim, turns = CLAIM if finishes(record) else {}, TURNS if runs_next and version == 2 else {}
+    claim, turns = CLAIM if finishes(record) else {}, TURNS if runs_next and version >= 2 else {}
     return {'seq': int, 'seen': int} | claim | turns
 
 

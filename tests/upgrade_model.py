@@ -1,18 +1,19 @@
 #!/usr/bin/env python3
-"""upgrade_model.py < FILE: what `taskaudit upgrade` must print of a trace file that can be read, by docs/FORMAT.md and
-docs/MODEL.md, "Turns".
+"""upgrade_model.py [VERSION] < FILE: what `taskaudit upgrade --to VERSION` must print of a trace file that can be read, by
+docs/FORMAT.md and docs/MODEL.md, "Turns". Without a version it is 2.
 
 Turns are counted along the file: a task that runs next begins the turn whose number is how often it ran next on
 earlier lines, and one more for a task that some line of the file begins as an initial or implicit task, whose turn
 0 begins there. The task that stops ends the turn that it began last on the thread. This gives a task's own order
 only while the task stays on one thread, so a task that runs next on another one is reported instead, on the first
-such line."""
+such line. A file of version 2 has turns, and in version 3 another header; a file of the version that is asked for, or
+of a newer one, is written as it is."""
 import json
 import sys
 
 from model import DEMANDS_NEXT, STATUS_PART
 
-HEADER = {'format': 'task-credit-audit', 'version': 2}
+FORMAT, FIRST_WITH_TURNS = 'task-credit-audit', 2
 # The members that are written, beside cb, thread, seq and seen; claims and turns where a record has them.
 MEMBERS = {'thread_begin': 'kind', 'thread_end': '', 'parallel_begin': 'task parallel requested',
            'parallel_end': 'task parallel', 'implicit_task': 'endpoint parallel task actual index flags',
@@ -63,14 +64,19 @@ def turns_of(records):
     return found
 
 
+def flags_of(record):
+    """The flags of a record in the order in which they are written."""
+    known = CANCEL_FLAGS if record['cb'] == 'cancel' else TASK_FLAGS
+    return [name for name in known if name in record['flags']]
+
+
 def in_full(record, turns):
     """The members of a record as they are written, the turns too where there are some."""
     cb = record['cb']
     names = ['cb', 'thread', 'seq', 'seen', *MEMBERS[cb].split(), *['root', 'path', 'kept'] * finishes(record)]
     found = {name: record.get(name) for name in names}
     if 'flags' in found:
-        known = CANCEL_FLAGS if cb == 'cancel' else TASK_FLAGS
-        found['flags'] = [name for name in known if name in record['flags']]
+        found['flags'] = flags_of(record)
     if 'list' in found:
         found['list'] = [{'type': it['type'], 'var': it['var']} for it in record['list']]
     if turns:
@@ -82,21 +88,23 @@ def text_of(values):
     return ''.join(json.dumps(it, sort_keys=True, separators=(',', ':')) + '\n' for it in values).encode()
 
 
-def answer(data):
+def answer(data, to=FIRST_WITH_TURNS):
     """The result for a readable file: standard output, standard error and the exit status."""
     header, *records = [json.loads(line) for line in data.split(b'\n')[:-1]]
-    if header['version'] == 2:
+    version = max(header['version'], to)
+    if header['version'] >= FIRST_WITH_TURNS:
         turns = {i: (it['prior_turn'], it['next_turn']) for i, it in enumerate(records) if runs_next(it)}
     else:
         moved = moved_at(records)
         if moved is not None:
             return b'', f'not upgraded: line {moved + 2}: 2 Moved\n'.encode(), 2
         turns = turns_of(records)
-    return text_of([HEADER, *(in_full(it, turns.get(i)) for i, it in enumerate(records))]), b'', 0
+    written = [{'format': FORMAT, 'version': version}, *(in_full(it, turns.get(i)) for i, it in enumerate(records))]
+    return text_of(written), b'', 0
 
 
 def main():
-    out, error, status = answer(sys.stdin.buffer.read())
+    out, error, status = answer(sys.stdin.buffer.read(), *map(int, sys.argv[1:2]))
     sys.stdout.buffer.write(out)
     sys.stderr.buffer.write(error)
     return status

@@ -22,6 +22,12 @@ Order = namedtuple('Order', 'sentence first left_out last')
 # A move of a task: its line and thread, and the turn that begins or ends by it, where one does.
 Move = namedtuple('Move', 'number thread turn move')
 
+# A parallel region inside another, begun by a task that is no initial one: the record that begins it, and on its thread
+# the begin of a root of it, for which the task stops, and the end of that root, where the task goes on. Each of the last
+# two is None where it is not in the file.
+Inner = namedtuple('Inner', 'fork begin end')
+
+AFTER_A_NO = 'docs/CAUSES.md, "After a no", says how to tell a recorder that read too early from a runtime that was.'
 # The greatest number of records of one kind shown, and of tasks named in a row.
 MOST_SHOWN = 8
 # The greatest number of numbers in a path.
@@ -65,9 +71,13 @@ def explain(path, answer, order):
         if told['no']:
             found.task = int(told['task'])
             explain_no(found, trace, record)
+            explain_region(found, trace, record)
+            found.say(AFTER_A_NO)
             explain_order(found, trace, record, order)
         else:
             CAUSES[int(told['cause']) - 1](found, trace, record)
+            if CAUSES[int(told['cause']) - 1] != nested_parallel_or_region_nesting:
+                explain_region(found, trace, record)
             found.say(f"docs/CAUSES.md, cause {told['cause']}, says which mistakes give this, and what to fix.")
     return found
 
@@ -141,7 +151,6 @@ def show_life(found, trace, record):
                   + (f'which runs from line {min(starts, key=turn_begun).number} on.' if starts else 'and none starts it.'))
     else:
         say_when_finished(found, record, parts, starts)
-    found.say('docs/CAUSES.md, "After a no", says how to tell a recorder that read too early from a runtime that was.')
 
 
 def turn_begun(record):
@@ -181,6 +190,70 @@ def explain_order(found, trace, record, order):
     found.order = Order(sentence, first, segment.left_out(), last)
 
 
+# Regions inside others
+
+def explain_region(found, trace, record):
+    """Where the thread is in a region that is inside another one: which task began that, and where it goes on."""
+    if not record.nests:
+        return
+    walk, begins = walk_before(trace, record)
+    root = record if record.begun_root is not None else begins.get(innermost(walk))
+    inner = root and inner_region(trace, root)
+    if not inner:
+        return
+    task, parallel = inner.fork.forked
+    found.show(inner.fork, f'task {task} begins region {parallel}, inside another one')
+    on = f'on thread {inner.fork.thread}'
+    if not inner.begin:
+        goes_on = f'no root of it begins {on} inside task {task}.'
+    else:
+        found.show(inner.begin, f'begins task {inner.begin.begun_root}, for which task {task} stops {on}')
+        goes_on = f'task {task} goes on where task {inner.begin.begun_root} ends, '
+        goes_on += f'behind line {inner.end.number}.' if inner.end else 'which is not in the file.'
+    if inner.end:
+        found.show(inner.end, f'ends task {inner.begin.begun_root}; task {task} goes on behind it')
+    found.say(f'Task {root.begun_root}, the innermost root of thread {record.thread} here, is one of region {parallel}, which'
+              f' task {task} began inside another region (line {inner.fork.number}); {goes_on}')
+
+
+def inner_region(trace, root):
+    """The region of the initial or implicit task that this record begins, where a task began it that is no initial one; or
+    None."""
+    fork = fork_of(trace, root)
+    begun_by = fork and is_made(trace, fork.forked[0])
+    if begun_by is None or begun_by.begun_initial is not None:
+        return None
+    begin = end = None
+    for it, walk in walked(trace, fork.thread):
+        if begin is None and it.seq > fork.seq and begins_inside(it, walk, *fork.forked):
+            begin = it
+        elif begin is not None and it.ended_root == begin.begun_root:
+            end = it
+            break
+    return Inner(fork, begin, end)
+
+
+def begins_inside(record, walk, task, parallel):
+    """Whether a root begins, which may be of this region, while this task runs."""
+    is_of_region = record.joined is None or record.joined.parallel == parallel
+    return record.begun_root is not None and walk.current == task and is_of_region
+
+
+def fork_of(trace, root):
+    """The record that begins the region of this root; of an initial task the last parallel_begin by the task that it
+    stops; or None."""
+    if root.joined:
+        return first(it for it in trace.called('parallel_begin') if it.forked[1] == root.joined.parallel)
+    walk, _ = walk_before(trace, root)
+    return last_of(begun_there(trace, root, walk.current)) if walk.roots else None
+
+
+def begun_there(trace, record, task):
+    """Yields the earlier records of the record's thread by which the task begins regions."""
+    earlier = trace.of_thread(record.thread, last=record.number - 1)
+    return (it for it in earlier if it.forked and it.forked[0] == task)
+
+
 def lines_of(shown, place_of=lambda code: None):
     """Records as lines, each with the part that it has, and its place in the sources where that is known."""
     lines = []
@@ -211,11 +284,19 @@ def open_region(trace, record):
     return trace.record(opened[-1]) if opened else None
 
 
+def walked(trace, thread, last=None):
+    """Yields the records of the thread, up to the line `last`, each with the state of the thread before it."""
+    walk = AT_START
+    for it in trace.of_thread(thread, last):
+        yield it, walk
+        walk = after_record(walk, it)
+
+
 def walk_before(trace, record):
     """The state of the record's thread before it, and the record that began each of its open roots."""
     walk, begins = AT_START, {}
-    for it in trace.of_thread(record.thread, last=record.number - 1):
-        walk = after_record(walk, it)
+    for it, before in walked(trace, record.thread, record.number - 1):
+        walk = after_record(before, it)
         if it.begun_root is not None:
             begins[it.begun_root] = it
     return walk, begins
@@ -223,14 +304,18 @@ def walk_before(trace, record):
 
 def previous_in_thread(trace, record):
     """The record before it in its thread, or None."""
-    found = None
-    for found in trace.of_thread(record.thread, last=record.number - 1):
-        pass
-    return found
+    return last_of(trace.of_thread(record.thread, last=record.number - 1))
 
 
 def first(records):
     return next(iter(records), None)
+
+
+def last_of(records):
+    found = None
+    for found in records:
+        pass
+    return found
 
 
 def is_made(trace, task):
@@ -490,6 +575,29 @@ def nested_parallel(found, trace, record):
     else:
         found.say(f'Thread {record.thread} has an open root, task {innermost(walk)}, so another one cannot begin here: the'
                   ' region is inside another one, or an implicit_task that ends was not recorded.')
+    found.say('A file of version 1 or 2 has no parallel region inside another one; one of version 3 may.')
+
+
+def region_nesting(found, trace, record):
+    """Which region the task that runs there would have to begin, and which it begins."""
+    walk, begins = walk_before(trace, record)
+    root, task, thread = innermost(walk), walk.current, record.thread
+    found.show(begins[root], f'begins task {root}, the innermost open root of thread {thread}')
+    own = [*begun_there(trace, record, task)]
+    for it in own[-MOST_SHOWN:]:
+        found.show(it, f'task {task} begins region {it.forked[1]} on thread {thread}')
+    found.say(f'Thread {thread} has an open root, task {root}, and runs task {task} here, so a root that begins here must be'
+              f' one of a region that task {task} began on thread {thread} before.')
+    if record.begun_initial is not None:
+        found.say(f'The initial task {record.begun_initial} begins here, as one of a teams construct does, and task {task}'
+                  f' began no region on thread {thread} before.')
+        return
+    parallel = record.joined.parallel
+    fork = first(it for it in trace.called('parallel_begin') if it.forked[1] == parallel)
+    found.show(fork, f'begins region {parallel}')
+    behind = ', behind this record' if fork.thread == thread and fork.seq > record.seq else ''
+    found.say(f'Task {record.begun_root} is a member of region {parallel}, which task {fork.forked[0]} began on thread '
+              f'{fork.thread} (line {fork.number}){behind}.')
 
 
 def deps_place(found, trace, record):
@@ -573,8 +681,13 @@ def moved_or_turn_gap(found, trace, record):
     (turn_gap if trace.tells_turns else moved)(found, trace, record)
 
 
+def nested_parallel_or_region_nesting(found, trace, record):
+    (region_nesting if record.nests else nested_parallel)(found, trace, record)
+
+
 CAUSES = (seq_gap, created_twice, rootless, not_current, moved_or_turn_gap, status_order, region_order, team_short,
-          nested_parallel, deps_place, share_wrong, entry_twice, length_ahead, length_back, no_order, target_task)
+          nested_parallel_or_region_nesting, deps_place, share_wrong, entry_twice, length_ahead, length_back, no_order,
+          target_task)
 
 
 # Files that cannot be read
@@ -626,6 +739,6 @@ def unended(found, trace):
 
 UNREADABLE = {
     1: unreadable('The input failed before this line was read.'), 2: unreadable('Memory ran out.'),
-    3: unreadable('Line 1 must be {"format":"task-credit-audit","version":1}, or the same with version 2.'),
+    3: unreadable('Line 1 must be {"format":"task-credit-audit","version":1}, or the same with version 2 or 3.'),
     4: line_too_long, 5: not_json, 6: field, 7: field, 8: unended,
     9: unreadable('The input asked to be read again too often.')}

@@ -90,5 +90,5 @@ def faults_of(text, version=1):
     value = value_of(text)
     if not isinstance(value, dict):
         return ['the line is not an object']
-    record = whole['$defs']['with_turns' if version == 2 else 'record']
+    record = whole['$defs']['with_turns' if version >= 2 else 'record']
     return [*dict.fromkeys(Checker(whole).faults(record, value, 'the line'))]

@@ -19,6 +19,7 @@ pre { white-space: pre-wrap; background: #f6f6f6; padding: 8px; }
 .lane { fill: #fafafa; stroke: #ddd; }
 .bar { fill: #9db8d9; stroke: #5b7da8; }
 .bar.root { fill: #e4e4e4; stroke: #bbb; }
+.region { fill: none; stroke: #7a4fa3; stroke-dasharray: 5 2; }
 .bar.lit { fill: #f2a33c; stroke: #a85f00; stroke-width: 2; }
 .wait { stroke: #5a9a5a; stroke-width: 4; }
 .wait.lit { stroke: #c62828; }
@@ -41,7 +42,8 @@ KEY = '''<p class="key"><span><i style="background:#e4e4e4"></i>an initial or im
 <span><i style="background:#5a9a5a;height:4px"></i>a wait</span>
 <span><i style="background:#c62828"></i>the named record</span>
 <span><span style="color:#888">&rarr;</span>a dependence</span><span><span style="color:#5a9a5a">&rarr;</span>a wait for a
-child</span></p>'''
+child</span>%s</p>'''
+KEY_OF_REGION = '<span><i style="border:1px dashed #7a4fa3"></i>a region inside another</span>'
 
 
 def chosen(file, found):
@@ -64,6 +66,8 @@ class Sheet:
         self.width, self.height = LEFT + STEP * (len(records) + 1), TOP + LANE * len(self.threads) + 10
         self.shown = {it.number for _, it in found.shown}
         self.made, self.ends = {}, {it.finish[0]: it for it in records if it.finish}
+        self.forks = {it.forked[1]: it for it in records if it.forked}
+        self.not_initial = {it.made for it in records if it.made is not None and it.begun_initial is None}
         for it in records:
             if it.creation:
                 self.made.setdefault(it.creation[0], []).append(it)
@@ -85,7 +89,43 @@ class Sheet:
         for thread in self.threads:
             self.add('rect', class_='lane', x=0, y=self.top(thread), width=self.width, height=LANE - 8)
             self.add('text', f'thread {thread}', x=8, y=self.top(thread) + 28)
-            self.bars([it for it in self.records if it.thread == thread])
+            own = [it for it in self.records if it.thread == thread]
+            self.regions(own)
+            self.bars(own)
+
+    def regions(self, own):
+        """A frame around each root of a region that is inside another, from its begin to its end or the last record."""
+        walk, opened = AT_START, []
+        for it in own:
+            if it.begun_root is not None:
+                opened.append((it, self.fork_of(it, own, walk), walk.current))
+            elif it.ended_root is not None and opened:
+                self.region(*opened.pop(), it, len(opened))
+            walk = after_record(walk, it)
+        while opened and own:
+            self.region(*opened.pop(), own[-1], len(opened))
+
+    def fork_of(self, root, own, walk):
+        """The record that begins the region of this root, where a task of these records does that which is no initial
+        one; else None."""
+        if root.joined:
+            fork = self.forks.get(root.joined.parallel)
+        else:
+            begun = [it for it in own if it.forked and it.forked[0] == walk.current and it.number < root.number]
+            fork = begun[-1] if begun and walk.roots else None
+        return fork if root.nests and fork and fork.forked[0] in self.not_initial else None
+
+    def region(self, begin, fork, outer, end, depth):
+        if fork is None:
+            return
+        task, parallel = fork.forked
+        title = f'region {parallel}, begun by task {task} on line {fork.number}'
+        if outer is not None:
+            ends = end.ended_root == begin.begun_root
+            title += f'; task {outer} goes on behind line {end.number}' if ends else f'; task {outer} does not go on here'
+        left, inset = self.left[begin.number] - 5, 2 * min(depth, 5)
+        self.add('rect', f'<title>{title}</title>', class_='region', x=left, y=self.top(begin.thread) + 1 + inset,
+                 width=self.left[end.number] - left + 5, height=LANE - 10 - 2 * inset, rx=4)
 
     def bars(self, own):
         """What the thread runs, from each record to the one where it changes."""
@@ -189,9 +229,9 @@ def page(file, found):
     order = ''
     if found.order:
         order = f'<p>{escape(found.order.sentence)}</p>\n' + as_they_stand(lines_of_order(found.order))
-    told = ''.join(f'<p>{escape(it)}</p>\n' for it in found.sentences)
+    told, nests = ''.join(f'<p>{escape(it)}</p>\n' for it in found.sentences), any(it.nests for it in records)
     return (f'<!DOCTYPE html>\n<html lang="en"><head><meta charset="utf-8"><title>{escape(found.answer)}</title>'
             f'<style>{STYLE}</style></head><body>\n<h1>{escape(found.answer)}</h1>\n{told}'
-            f'<p>Records from left to right in an order that they allow; the first and the last may be left out.</p>{KEY}'
+            f'<p>Records from left to right in an order that they allow; the first and the last may be left out.</p>{KEY % (KEY_OF_REGION * nests)}'
             f'<div class="sheet">{Sheet(records, found).text()}</div>\n{as_they_stand(lines_of(found.shown))}{order}'
             f'<script>{SCRIPT}</script>\n</body></html>\n')

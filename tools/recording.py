@@ -19,10 +19,11 @@ CHANGED = {
                       ' tells the first only, are added, on a thread of their own',
     'helpers_without_task': '{count} hidden helper threads began a region in no task; each is given an initial task',
 }
+NESTS = '; a file of version 3 (TASKAUDIT_VERSION=3) has them'
 NOT_AUDITED = {
-    'nested': '{count} parallel regions inside others: the file is malformed (NestedParallel or NotCurrent)',
-    'teams': '{count} teams constructs: not audited, the file is malformed',
-    'target': '{count} target tasks: not audited, the file is malformed',
+    'nested': '{count} parallel regions inside others: the file is malformed (NestedParallel or NotCurrent)' + NESTS,
+    'teams': '{count} teams constructs: not audited, the file is malformed' + NESTS,
+    'target': '{count} target tasks: not audited, the file is malformed' + NESTS,
 }
 # Only a file with turns can say where a task resumes.
 MOVED = '{count} times a task went on on another thread (untied tasks)'

@@ -13,11 +13,11 @@ TASKS = ('task', 'child', 'prior', 'next', 'root')
 
 class Record(SimpleNamespace):
     """A record: its line number, the text and the value of the line, and what it says (the module Records of
-    docs/MODEL.md), in a file of version 2 its turns too."""
+    docs/MODEL.md), from version 2 of a file on its turns too. It nests in a file of version 3."""
 
-    def __init__(self, number, text, value, tells_turns):
-        super().__init__(**{**dict.fromkeys(RECORDS_SAY), **said_by(value, tells_turns)})
-        self.number, self.text, self.value = number, text, value
+    def __init__(self, number, text, value, version):
+        super().__init__(**{**dict.fromkeys(RECORDS_SAY), **said_by(value, version >= 2)})
+        self.number, self.text, self.value, self.nests = number, text, value, version == 3
         self.thread, self.seq, self.seen = value['thread'], value['seq'], value['seen']
 
     def tasks(self):
@@ -60,7 +60,7 @@ class Trace:
 
     @cached_property
     def tells_turns(self):
-        return self.version == 2
+        return self.version >= 2
 
     @cached_property
     def has_escapes(self):
@@ -96,13 +96,13 @@ class Trace:
             if last is not None and number > last:
                 return
             if number > 1:
-                yield Record(number, text.decode(), json.loads(text), self.tells_turns)
+                yield Record(number, text.decode(), json.loads(text), self.version)
 
     def among(self, is_wanted):
         """Yields the records of the lines whose numbers are wanted."""
         for number, text in self.lines():
             if number > 1 and is_wanted(number):
-                yield Record(number, text.decode().rstrip(), json.loads(text), self.tells_turns)
+                yield Record(number, text.decode().rstrip(), json.loads(text), self.version)
 
     def record(self, number):
         return next(self.among(lambda it: it == number))

@@ -73,9 +73,10 @@ root_ends (Some x) initial roots same = ap (drop 1) same
 root_ends None (Some y) roots same = ap (drop 1) same
 root_ends None None roots same = ap (drop 1) same
 
-roots_next : (walk : Walk) (s : Standing) (body : Body) → is_outside s body ≡ true
-    → walk.roots ≡ open_roots s → (after_body walk body).roots ≡ open_roots (next_standing s body)
-roots_next walk s (ImplicitTask Begin actual index given parallel task) outside same =
+-- the roots are the same ones whether regions may lie inside others or not
+roots_next : (nests : Bool) (walk : Walk) (s : Standing) (body : Body) → is_outside s body ≡ true
+    → walk.roots ≡ open_roots s → (after_body nests walk body).roots ≡ open_roots (next_standing s body)
+roots_next nests walk s (ImplicitTask Begin actual index given parallel task) outside same =
     begins (has_flag given.0 flag.initial) outside
   where
     begins : (b : Bool)
@@ -87,15 +88,17 @@ roots_next walk s (ImplicitTask Begin actual index given parallel task) outside 
     begins false free =
         let none = (and_parts (not (is_some s.member)) true free).0 in
         member_begins s.member s.initial walk.roots task none same
-roots_next walk s (ImplicitTask End actual index given parallel task) outside same =
+roots_next nests walk s (ImplicitTask End actual index given parallel task) outside same =
     root_ends s.member s.initial walk.roots same
-roots_next walk s (TaskSchedule status turns prior next claimed) outside same = kept (demands_next status)
+roots_next nests walk s (TaskSchedule status turns prior next claimed) outside same =
+    kept (demands_next status)
   where
     kept : (b : Bool)
-        → (if b then record { roots = walk.roots; current = next } else walk).roots ≡ open_roots s
+        → (if b then record { roots = walk.roots; outer = walk.outer; current = next } else walk).roots
+        ≡ open_roots s
     kept true = same
     kept false = same
-roots_next walk s _ outside same = same
+roots_next nests walk s _ outside same = same
 
 initial_next : (s : Standing) (body : Body) (task : ℕ) → (next_standing s body).initial ≡ Some task
     → (begun_initial body ≡ Some task) ⊎ (s.initial ≡ Some task)
@@ -135,8 +138,8 @@ roots_along thread own (suc k) orderly low =
     let outside = allowed_outside (standing_of (take k own)) r.body (orderly k r is).allowed in
     ap (λ l. (fold after_record threads.at_start l).roots) (next_place own k r is)
     ∙ ap (λ (w : Walk). w.roots) (fold_push after_record threads.at_start (take k own) r)
-    ∙ roots_next (fold after_record threads.at_start (take k own)) (standing_of (take k own)) r.body outside
-    before
+    ∙ roots_next r.nests (fold after_record threads.at_start (take k own)) (standing_of (take k own)) r.body
+    outside before
     ∙ ap open_roots (sym (standing_next own k r is))
 
 -- the initial task of a standing was begun by a record
@@ -295,13 +298,13 @@ none_open (Some x) initial free = absurd (none-some x (sym free))
 
 not_nested : (closed : ClosedView) (i : ℕ) → AreClosed closed → HaveOwnThreads closed.buffers
     → IsFreeOf (gathered closed.buffers) CreatedTwice → IsNested (gathered closed.buffers) i → ⊥
-not_nested closed i are apart free (forked_inside task parallel forks other) =
+not_nested closed i are apart free (forked_inside task parallel barred forks other) =
     let (r, is, forks_it) = get_at forked (gathered closed.buffers) i (task, parallel) forks in
     let from = from_buffer closed.buffers i r is in
     let outside = outside_of closed i r are from in
     let begun = outside_forked (stood closed i r from) r.body task parallel outside forks_it in
     other (initial_stands closed i r task from begun)
-not_nested closed i are apart free (joined_inside m walk outer joins (r, is, walk_is) top member) =
+not_nested closed i are apart free (joined_inside m walk outer barred joins (r, is, walk_is) top member) =
     let from = from_buffer closed.buffers i r is in
     let s = stood closed i r from in
     let joins_it = sym (at_get joined (gathered closed.buffers) i r is) ∙ joins in
@@ -310,7 +313,7 @@ not_nested closed i are apart free (joined_inside m walk outer joins (r, is, wal
     let begun = no_member_top s.member s.initial outer none (sym (ap (λ l. slice_get l 0) roots) ∙ top) in
     let is_initial = initial_stands closed i r outer from begun in
     initial_no_member (gathered closed.buffers) outer free is_initial member
-not_nested closed i are apart free (initial_inside task walk begins (r, is, walk_is) some) =
+not_nested closed i are apart free (initial_inside task walk barred begins (r, is, walk_is) some) =
     let from = from_buffer closed.buffers i r is in
     let s = stood closed i r from in
     let begins_it = sym (at_get begun_initial (gathered closed.buffers) i r is) ∙ begins in

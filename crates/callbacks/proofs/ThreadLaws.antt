@@ -1,6 +1,6 @@
 -- What the records of a gathered trace show one by one: their numbers in their threads, no task on a device,
 -- and that each could stand in a trace.
-use Rattle.std.proofs.Common.{Bool, ◌≡◌, ◌∙◌, ℕ, true, false, length, take, Some, refl, sym, ap, inr}
+use Rattle.std.proofs.Common.{Bool, ◌≡◌, ◌∙◌, ℕ, true, false, length, take, Some, refl, sym, ap, inl, inr}
 use Rattle.std.specs.Prelude.{◌==◌, ◌&&◌, All, is_some, count_by}
 use Rattle.std.specs.Option.{option_map_or}
 use Rattle.std.proofs.lemmas.Bool.{and_parts, and_from, not-true, both_ways}
@@ -12,7 +12,7 @@ use Rattle.ompt_events.specs.Flags as flag
 use Rattle.ompt_events.specs.Flags.{has_flag}
 use Rattle.ompt_events.specs.Records.{made, flags}
 use Rattle.ompt_events.specs.Causes.{HasSeqGap, MakesTarget, IsFreeOf, seq_gap, target_task}
-use Rattle.ompt_events.specs.Traces.{IsSoundIn, IsInRange, IsTraceOf}
+use Rattle.ompt_events.specs.Traces.{IsSoundIn, NestsIn, IsInRange, IsTraceOf}
 use Rattle.ompt_events.proofs.PlaceLemmas.{at_get, get_at}
 use Rattle.recorder.specs.declared.standing.Standing.{Standing}
 use Rattle.recorder.specs.Standing.{is_in_place, runs_its_task, ends_innermost, is_outside, is_on_host}
@@ -64,7 +64,7 @@ not_on_host body task bits host makes given device =
 
 makes_no_target : (closed : ClosedView) (i : ℕ) → AreClosed closed → MakesTarget (gathered closed.buffers) i
     → ⊥
-makes_no_target closed i are (task, bits, makes, given, device) =
+makes_no_target closed i are (task, bits, barred, makes, given, device) =
     let (r, is, makes_it) = get_at made (gathered closed.buffers) i task makes in
     let from = from_buffer closed.buffers i r is in
     let stood = standing_of (take from.place from.buffer.records) in
@@ -82,6 +82,10 @@ pub all_sound : (closed : ClosedView) → AreClosed closed
 all_sound closed are = all_from_get (λ (r : Record). IsSoundIn 2 r.body) (gathered closed.buffers)
     (λ i r is. (follows_of closed i r are (from_buffer closed.buffers i r is)).sound)
 
+all_unnested : (closed : ClosedView) → AreClosed closed → All (NestsIn 2) (gathered closed.buffers)
+all_unnested closed are = all_from_get (NestsIn 2) (gathered closed.buffers)
+    (λ i r is. (follows_of closed i r are (from_buffer closed.buffers i r is)).no_nesting)
+
 all_in_range : (closed : ClosedView) → AreClosed closed → All IsInRange (gathered closed.buffers)
 all_in_range closed are = all_from_get IsInRange (gathered closed.buffers)
     (λ i r is. (follows_of closed i r are (from_buffer closed.buffers i r is)).in_range)
@@ -90,7 +94,7 @@ all_in_range closed are = all_from_get IsInRange (gathered closed.buffers)
 pub gathered_trace : (closed : ClosedView) → AreClosed closed → IsWithinLimits (gathered closed.buffers)
     → IsTraceOf 2 (gathered closed.buffers)
 gathered_trace closed are within = record {
-  known = inr refl;
+  known = inr (inl refl);
   is_trace = record {
     few_records = within.0;
     few_tasks = within.1;
@@ -98,4 +102,5 @@ gathered_trace closed are within = record {
     in_range = all_in_range closed are;
   };
   turns = λ i d inside. (all_sound closed are i d inside).1;
+  nesting = all_unnested closed are;
 }

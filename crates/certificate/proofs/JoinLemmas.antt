@@ -4,7 +4,7 @@ use Rattle.std.proofs.Common.{Err, arith, refl, sym, ap, ◌∙◌, subst, appen
 use Rattle.std.specs.Prelude.{All, IfSome, OnOk}
 use Rattle.std.specs.Result.{result_err}
 use Rattle.ompt_events.specs.declared.records.Record.{Record}
-use Rattle.ompt_events.specs.Traces.{TraceView, IsSoundIn}
+use Rattle.ompt_events.specs.Traces.{TraceView, FitsIn}
 use Rattle.lines.specs.declared.cause.ReadCause.{ReadCause}
 use Rattle.lines.specs.declared.cause.ReadCause.TheVariants.{Device, Memory, Header, LineTooLong}
 use Rattle.lines.specs.declared.cause.ReadCause.TheVariants.{NotJson, Field, Limit, Unended}
@@ -151,7 +151,7 @@ piece_lines n count old new piece (Ok u) keeps same = λ bytes judged.
 
 -- the records of a piece can stand in the file
 pub piece_sound : (version : ℕ) (bytes : List ℕ) (rs : List Record) (fault : Option ReadCause)
-    → AreRecordsOf version bytes rs fault → All (λ r. IsSoundIn version r.body) rs
+    → AreRecordsOf version bytes rs fault → All (FitsIn version) rs
 piece_sound version bytes rs fault read =
     let lines = lines_of version bytes rs fault read in
     BeginsWithRecords-sound version rs bytes lines.later lines.begins

@@ -9,7 +9,7 @@ use Rattle.std.proofs.lemmas.List.Sums.{sum_by_push}
 use Rattle.std.proofs.lemmas.List.Elements.{All-cons}
 use Rattle.ompt_events.specs.declared.records.Record.{Record}
 use Rattle.ompt_events.specs.Records.{made}
-use Rattle.ompt_events.specs.Traces.{TraceView, IsSoundIn, tasks_in}
+use Rattle.ompt_events.specs.Traces.{TraceView, FitsIn, tasks_in}
 use Rattle.lines.specs.declared.cause.ReadCause.{ReadCause}
 use Rattle.lines.specs.declared.cause.ReadCause.TheVariants.{Device, Memory, Header, LineTooLong}
 use Rattle.lines.specs.declared.cause.ReadCause.TheVariants.{NotJson, Field, Limit, Unended}
@@ -227,12 +227,12 @@ BeginsWithRecords-length version (r ∷ rs) bytes later now =
       BeginsWithRecords-length version rs now.0 later now.2,
     )
 
--- the records that lines stand for are sound
+-- the records that lines stand for can be in a trace
 pub BeginsWithRecords-sound : (version : ℕ) (rs : List Record) (bytes later : List ℕ)
-    → BeginsWithRecords version rs later bytes → All (λ r. IsSoundIn version r.body) rs
+    → BeginsWithRecords version rs later bytes → All (FitsIn version) rs
 BeginsWithRecords-sound version [] bytes later same = λ k d h. absurd (omega arith)
 BeginsWithRecords-sound version (r ∷ rs) bytes later now =
-    All-cons (λ (x : Record). IsSoundIn version x.body) r rs
+    All-cons (FitsIn version) r rs
     (line_says-sound version now.1.line r (sym now.1.says))
     (BeginsWithRecords-sound version rs now.0 later now.2)
 

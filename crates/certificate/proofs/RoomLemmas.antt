@@ -9,7 +9,7 @@ use Rattle.std.proofs.lemmas.List.Elements.{All-append}
 use Rattle.ompt_events.specs.declared.records.Record.{Record}
 use Rattle.ompt_events.specs.Records.{made}
 use Rattle.ompt_events.specs.Limits.{max_records, max_tasks}
-use Rattle.ompt_events.specs.Traces.{IsSoundIn, HasItsTurns, IsInRange, IsSound, tasks_in}
+use Rattle.ompt_events.specs.Traces.{FitsIn, HasItsTurns, NestsIn, IsInRange, IsSound, tasks_in}
 use Rattle.certificate.specs.Files.{has_room}
 use Rattle.certificate.specs.Keeping.{IsTraceKept, HaveRoom}
 use Rattle.lines.proofs.RecordLemmas.{both-first}
@@ -53,10 +53,10 @@ HaveRoom-length before (r ∷ rs) few have =
 -- many records more at a time
 pub IsTraceKept-append : (version : ℕ) (before rs : List Record) (tasks more : ℕ)
     → IsTraceKept version before tasks
-    → All (λ r. IsSoundIn version r.body) rs → All IsInRange rs → more ≡ tasks_in rs
+    → All (FitsIn version) rs → All IsInRange rs → more ≡ tasks_in rs
     → length before + length rs ≤ max_records → tasks + more ≤ max_tasks
     → IsTraceKept version (before ++ rs) (tasks + more)
-IsTraceKept-append version before rs tasks more kept sound in_range counted few few_tasks =
+IsTraceKept-append version before rs tasks more kept fits in_range counted few few_tasks =
     let both : tasks_in (before ++ rs) ≡ tasks_in before + tasks_in rs =
     sum_by-append (λ (x : Record). cond (is_some (made x.body)) 1 0) before rs in
     record {
@@ -67,12 +67,13 @@ IsTraceKept-append version before rs tasks more kept sound in_range counted few 
           few_tasks = omega (arith, both, kept.counted);
           sound =
               All-append (λ (x : Record). IsSound x.body) before rs kept.trace.is_trace.sound
-              (λ k d h. (sound k d h).0);
+              (λ k d h. (fits k d h).0.0);
           in_range = All-append IsInRange before rs kept.trace.is_trace.in_range in_range;
         };
         turns =
             All-append (λ (x : Record). HasItsTurns version x.body) before rs kept.trace.turns
-            (λ k d h. (sound k d h).1);
+            (λ k d h. (fits k d h).0.1);
+        nesting = All-append (NestsIn version) before rs kept.trace.nesting (λ k d h. (fits k d h).1);
       };
       counted = omega (arith, both, kept.counted);
     }

@@ -290,6 +290,7 @@ told_thread table r = by (turns_told table r.thread r.body)
         → (option_map_or
         (λ (turns : Turns). record {
           thread = r.thread;
+          nests = r.nests;
           seq = r.seq;
           seen = r.seen;
           body = telling turns r.body;
@@ -309,6 +310,7 @@ told_begins table r = by r.body refl
         (option_map_or
         (λ (turns : Turns). record {
           thread = r.thread;
+          nests = r.nests;
           seq = r.seq;
           seen = r.seen;
           body = telling turns body;
@@ -329,6 +331,7 @@ told_not table r still = by r.body refl still
         (option_map_or
         (λ (turns : Turns). record {
           thread = r.thread;
+          nests = r.nests;
           seq = r.seq;
           seen = r.seen;
           body = telling turns body;

@@ -4,7 +4,7 @@ use Rattle.std.proofs.Common.{Option, Some, None, Result, Ok, Err, true, false, 
 use Rattle.std.proofs.Common.{◌∙◌, subst, inl, inr, eqb-true, eq-eqb, length-append}
 use Rattle.std.specs.Prelude.{nat_le, ◌==◌, IfSome, ok_or, option_and_then}
 use Rattle.ompt_events.specs.declared.records.Record.{Record}
-use Rattle.ompt_events.specs.Traces.{TraceView}
+use Rattle.ompt_events.specs.Traces.{IsKnown, TraceView}
 use Rattle.ompt_events.specs.Limits.{max_records}
 use Rattle.serde_json.specs.Data.{Data}
 use Rattle.lines.specs.declared.cause.ReadCause.{ReadCause}
@@ -215,14 +215,17 @@ header_says-range newest line version says = by_value (value_of line) says
     by_value None e = absurd (ok_not_err version Header e)
     by_value (Some d) e = by_object d (by_version (version_in format_name newest d) e)
 
-pub header_says-known : (newest : ℕ) (line : List ℕ) (version : ℕ) → newest ≤ 2
-    → Ok version ≡ header_says newest line → (version ≡ 1) ⊎ (version ≡ 2)
+pub header_says-known : (newest : ℕ) (line : List ℕ) (version : ℕ) → newest ≤ 3
+    → Ok version ≡ header_says newest line → IsKnown version
 header_says-known newest line version few says =
     let range = header_says-range newest line version says in
     let low = range.0 in
     let high = range.1 in
     elim (cases_lt 1 version) [
-      | inl more ↦ inr (omega arith)
+      | inl more ↦ elim (cases_lt 2 version) [
+        | inl most ↦ inr (inr (omega arith))
+        | inr two ↦ inr (inl (omega arith))
+      ]
       | inr one ↦ inl (omega arith)
     ]
 

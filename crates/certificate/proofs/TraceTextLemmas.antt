@@ -9,7 +9,7 @@ use Rattle.std.proofs.lemmas.List.Sums.{sum_by-cons, sum_by-append}
 use Rattle.ompt_events.specs.declared.records.Record.{Record}
 use Rattle.ompt_events.specs.Records.{made}
 use Rattle.ompt_events.specs.Limits.{max_records, max_tasks}
-use Rattle.ompt_events.specs.Traces.{TraceView, tasks_in, IsTrace}
+use Rattle.ompt_events.specs.Traces.{IsKnown, TraceView, tasks_in, IsTrace}
 use Rattle.certificate.specs.TraceTexts.{ended_lines}
 use Rattle.lines.specs.Limits.{max_line}
 use Rattle.lines.specs.RecordLines.{header_says}
@@ -114,9 +114,10 @@ trace_said-trace newest version header line rs says short unbroken all trace =
     trace.few_records trace.few_tasks
 
 -- a version that is known
-version-range : (version : ℕ) → (version ≡ 1) ⊎ (version ≡ 2) → (1 ≤ version) × (version ≤ 2)
+version-range : (version : ℕ) → IsKnown version → (1 ≤ version) × (version ≤ 3)
 version-range version (inl one) = (omega (arith, one), omega (arith, one))
-version-range version (inr two) = (omega (arith, two), omega (arith, two))
+version-range version (inr (inl two)) = (omega (arith, two), omega (arith, two))
+version-range version (inr (inr three)) = (omega (arith, three), omega (arith, three))
 
 pub trace_said-text : (newest : ℕ) (trace : TraceView) → trace.version ≤ newest
     → IsTraceOf trace.version trace.records → trace_said newest (trace_text trace) ≡ Ok trace
@@ -130,7 +131,7 @@ trace_said-text newest trace known is =
     (λ k d h.
     let written =
     IsWritten-sound version (get_or rs k d) (is.is_trace.in_range k d h)
-    (is.is_trace.sound k d h, is.turns k d h) in
+    ((is.is_trace.sound k d h, is.turns k d h), is.nesting k d h) in
     IsLineOf-plain version (data_of (get_or rs k d)) 3 (get_or rs k d) written.plain (omega arith)
     written.short written.says)
     is.is_trace

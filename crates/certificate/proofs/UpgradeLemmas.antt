@@ -1,13 +1,16 @@
--- Records that are told their turns are a trace of version 2, and an upgrade.
+-- Records that are told their turns are a trace of version 2, and an upgrade; and a trace of version 2 is one
+-- of version 3.
 use Rattle.std.proofs.Common.{◌≡◌, ◌≢◌, ◌∙◌, ℕ, ◌<◌, ◌≤◌, ◌+◌, ◌-◌, ◌^◌, suc, List, [], ◌∷◌, length, take}
-use Rattle.std.proofs.Common.{get_or, Option, Some, None, Bool, true, false, cond, refl, sym, ap, subst}
+use Rattle.std.proofs.Common.{get_or, map, Option, Some, None, Bool, true, false, cond, refl, sym, ap, subst}
 use Rattle.std.proofs.Common.{arith, inl, inr}
 use Rattle.std.specs.Prelude.{slice_get, slice_set, is_some, sum_by, filter, ◌==◌, if◌then◌else◌}
 use Rattle.std.specs.Option.{option_map_or}
 use Rattle.std.specs.BTreeMap.{BTreeMap}
 use Rattle.std.proofs.lemmas.Bool.{cases_eq, cases_lt}
-use Rattle.std.proofs.lemmas.List.{length-set, get_or-set_same, get_or-set_other, take-set, take-set-le}
+use Rattle.std.proofs.lemmas.List.{length-map, length-set, get_or-set_same, get_or-set_other, take-set}
+use Rattle.std.proofs.lemmas.List.{take-set-le}
 use Rattle.std.proofs.lemmas.List.Sums.{sum_by-cons}
+use Rattle.std.proofs.lemmas.List.Elements.{All-map}
 use Rattle.std.proofs.lemmas.Option.{same_Some, slice_get_within, slice_get-get_or, slice_get_past}
 use Rattle.std.proofs.lemmas.Option.{get_or_from_slice_get}
 use Rattle.ompt_events.specs.declared.records.Record.{Record}
@@ -16,9 +19,10 @@ use Rattle.ompt_events.specs.declared.records.Body.TheVariants.{TaskSchedule}
 use Rattle.ompt_events.specs.declared.records.Turns.{Turns}
 use Rattle.ompt_events.specs.Records.{made, started, running}
 use Rattle.ompt_events.specs.Limits.{max_records}
-use Rattle.ompt_events.specs.Traces.{IsSound, IsInRange, BodyInRange, IsTraceOf, HasItsTurns, tasks_in}
+use Rattle.ompt_events.specs.Traces.{IsSound, IsInRange, BodyInRange, IsTraceOf, HasItsTurns, NestsIn}
+use Rattle.ompt_events.specs.Traces.{tasks_in}
 use Rattle.ompt_events.specs.Turns.{turn_in, turn_at}
-use Rattle.ompt_events.specs.Upgrades.{IsUpgrade, turn_counted, telling, body_upgraded}
+use Rattle.ompt_events.specs.Upgrades.{IsUpgrade, turn_counted, telling, body_upgraded, nesting}
 use Rattle.certificate.specs.declared.task_turns.TaskTurns.{TaskTurns}
 use Rattle.certificate.specs.TaskTurns.{noted, turns_told, told_by, turn_ended, AreTurnsNoted, AreEnded}
 use Rattle.certificate.specs.TaskTurns.{IsUpgradedUpTo}
@@ -82,7 +86,7 @@ turn_here now n prior s table within ended runs =
 
 -- the record with this body in place of its own
 abbrev with_body : Record → Body → Record
-with_body r body = record { thread = r.thread; seq = r.seq; seen = r.seen; body = body }
+with_body r body = record { thread = r.thread; nests = r.nests; seq = r.seq; seen = r.seen; body = body }
 
 -- what is told is what the upgrade says
 told_is : (old now : List Record) (n : ℕ) (r : Record) (table : BTreeMap ℕ TaskTurns) → n < length now
@@ -289,7 +293,7 @@ same_sum f (x ∷ xs) (y ∷ ys) many alike =
 pub trace_of_two : (old new : List Record) (n : ℕ) → IsTraceOf 1 old → length new ≤ n
     → IsUpgradedUpTo old n new → IsTraceOf 2 new
 trace_of_two old new n trace past up = record {
-  known = inr refl;
+  known = inr (inl refl);
   is_trace = record {
     few_records = let many = up.all in let few = trace.is_trace.few_records in omega (arith, many, few);
     few_tasks = rw same_tasks trace.is_trace.few_tasks;
@@ -297,6 +301,12 @@ trace_of_two old new n trace past up = record {
     in_range = λ i d within. up.in_range i (get_or new i d) (slice_get-get_or new i d within);
   };
   turns = λ i d within. (of i d within).turns;
+  nesting = λ i d within.
+      let many = up.all in
+      let there : i < length old = omega (arith, within, many) in
+      nests i (get_or old i d) (get_or new i d) (slice_get-get_or old i d there)
+      (slice_get-get_or new i d within)
+      ∙ trace.nesting i d there;
 }
   where
     upgrade : IsUpgrade old new
@@ -316,6 +326,11 @@ trace_of_two old new n trace past up = record {
         (subst (λ (q : Record). IsSound q.body) here (trace.is_trace.sound i r within))
         (subst (λ (q : Record). HasItsTurns 1 q.body) here (trace.turns i r within)))
 
+    nests : (i : ℕ) (r s : Record) → slice_get old i ≡ Some r → slice_get new i ≡ Some s → s.nests ≡ r.nests
+    nests i r s stands now =
+        ap (λ (q : Record). q.nests)
+        (same_Some s (with_body r (body_upgraded old new i r.body)) (sym now ∙ upgrade.each i r stands))
+
     of : (i : ℕ) (d : Record) → (within : i < length new)
         → IsKeptAs (get_or old i d).body (get_or new i d).body
     of i d within =
@@ -327,3 +342,30 @@ trace_of_two old new n trace past up = record {
     same_tasks =
         same_sum (λ (r : Record). cond {A = ℕ} (is_some (made r.body)) 1 0) old new up.all
         (λ i x y there now. ap (λ b. cond {A = ℕ} b 1 0) (kept i x y there now).makes)
+
+-- ---- version 3
+
+tasks_relabelled : (rs : List Record) → tasks_in (map nesting rs) ≡ tasks_in rs
+tasks_relabelled [] = refl
+tasks_relabelled (r ∷ rs) =
+    let makes : Record → ℕ = λ q. cond (is_some (made q.body)) 1 0 in
+    sum_by-cons makes (nesting r) (map nesting rs) ∙ ap (λ n. makes r + n) (tasks_relabelled rs)
+    ∙ sym (sum_by-cons makes r rs)
+
+-- the records of a trace of version 2 are in version 3 a trace
+pub trace_of_three : (rs : List Record) → IsTraceOf 2 rs → IsTraceOf 3 (map nesting rs)
+trace_of_three rs trace = record {
+  known = inr (inr refl);
+  is_trace = record {
+    few_records = omega (arith, trace.is_trace.few_records, length-map rs nesting);
+    few_tasks = omega (arith, trace.is_trace.few_tasks, tasks_relabelled rs);
+    sound = All-map (λ (r : Record). IsSound r.body) nesting rs trace.is_trace.sound;
+    in_range =
+        All-map IsInRange nesting rs
+        (λ i d within.
+        let one = trace.is_trace.in_range i d within in
+        record { thread = one.thread; seq = one.seq; seen = one.seen; body = one.body });
+  };
+  turns = All-map (λ (r : Record). HasItsTurns 3 r.body) nesting rs trace.turns;
+  nesting = All-map (NestsIn 3) nesting rs (λ i d within. refl);
+}

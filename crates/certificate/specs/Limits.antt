@@ -7,4 +7,4 @@ max_turns = 10000
 
 -- the newest version of the format that the program reads
 abbrev pub newest_version : ℕ
-newest_version = 2
+newest_version = 3

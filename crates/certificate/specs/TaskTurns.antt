@@ -86,7 +86,13 @@ turns_told table thread body = None
 abbrev pub told_by : BTreeMap ℕ TaskTurns → Record → Record
 told_by table r =
     option_map_or
-    (λ turns. record { thread = r.thread; seq = r.seq; seen = r.seen; body = telling turns r.body })
+    (λ turns. record {
+      thread = r.thread;
+      nests = r.nests;
+      seq = r.seq;
+      seen = r.seen;
+      body = telling turns r.body;
+    })
     (turns_told table r.thread r.body) r
 
 -- the first n records are upgraded, and the others are as they were
@@ -94,6 +100,7 @@ pub record IsUpgradedUpTo (old : List Record) (n : ℕ) (now : List Record) : Ty
   pub all : length now ≡ length old
   pub each : (i : ℕ) (r : Record) → i < n → slice_get old i ≡ Some r → slice_get now i ≡ Some (record {
     thread = r.thread;
+    nests = r.nests;
     seq = r.seq;
     seen = r.seen;
     body = body_upgraded old now i r.body;

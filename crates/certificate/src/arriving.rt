@@ -1,9 +1,9 @@
 //! The trace of the lines so far, while its records arrive in lists: those of the last lists wait to be moved
 //! behind the others.
-ghost use Rattle.std.specs.Prelude.{◌≡◌, ◌+◌, ◌≤◌, ◌⊎◌, List, [], length, All, IfOk, IsTrue};
+ghost use Rattle.std.specs.Prelude.{◌≡◌, ◌+◌, ◌≤◌, List, [], length, All, IfOk, IsTrue};
 ghost use Rattle.ompt_events.specs.declared.records.Record.{Record as SpecRecord};
 ghost use Rattle.ompt_events.specs.Limits.{max_records, max_tasks};
-ghost use Rattle.ompt_events.specs.Traces.{IsInRange, IsSoundIn, tasks_in};
+ghost use Rattle.ompt_events.specs.Traces.{IsKnown, FitsIn, IsInRange, tasks_in};
 ghost use Rattle.std.specs.Result.{result_map_both};
 ghost use Rattle.lines.specs.RecordLines.{IsSaid, header_says};
 ghost use Rattle.certificate.specs.Files.{no_trace, with_header, has_room};
@@ -64,7 +64,7 @@ impl Arriving {
 
     /// Begins a trace of this version.
     fn begin(&mut self, version: u32)
-        requires { (version ≡ 1) ⊎ (version ≡ 2) }
+        requires { IsKnown version }
         ensures { self.new ≡ record { version = version; records = [] } }
     {
         self.records.clear();
@@ -99,7 +99,7 @@ impl Arriving {
         records: Vec<Record>,
         tasks: usize,
     ) -> (usize, Option<ReadCause>)
-        requires sound { All (λ r. IsSoundIn self.old.version r.body) records.items }
+        requires fits { All (FitsIn self.old.version) records.items }
         requires in_range { All IsInRange records.items }
         requires counted { tasks ≡ tasks_in records.items }
         ensures first { KeepsFirst self.old records.items result.0 result.1 self.new }

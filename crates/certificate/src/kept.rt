@@ -1,7 +1,7 @@
 //! The trace of the lines so far.
-ghost use Rattle.std.specs.Prelude.{◌≡◌, ◌⊎◌, [], Ok, Err};
+ghost use Rattle.std.specs.Prelude.{◌≡◌, [], Ok, Err};
 ghost use Rattle.std.specs.Result.{result_map_both};
-ghost use Rattle.ompt_events.specs.Traces.{IsSoundIn};
+ghost use Rattle.ompt_events.specs.Traces.{IsKnown, FitsIn};
 ghost use Rattle.lines.specs.RecordLines.{IsSaid};
 ghost use Rattle.certificate.specs.Files.{no_trace, with_record};
 
@@ -44,7 +44,7 @@ impl Kept {
 
     /// Begins a trace of this version.
     pub(crate) fn begin(&mut self, version: u32)
-        requires { (version ≡ 1) ⊎ (version ≡ 2) }
+        requires { IsKnown version }
         ensures { self.new ≡ record { version = version; records = [] } }
     {
         self.records.clear();
@@ -62,7 +62,7 @@ impl Kept {
     /// Adds the record. Fails with `Limit` if the trace is full, or out of memory.
     #[inline(always)]
     pub(crate) fn keep(&mut self, event: Record) -> Result<(), ReadCause>
-        requires { IsSoundIn self.old.version event.body }
+        requires { FitsIn self.old.version event }
         ensures { IsSaid (result_map_both (λ _. self.new) (λ e. e) result)
             (with_record self.old (Ok event)) }
     {

@@ -2,7 +2,7 @@
 //! their contracts are the laws.
 ghost use Rattle.std.specs.Prelude.{◌≡◌, ◌≤◌, ◌↔◌, ℕ, List, Ok, Err};
 ghost use Rattle.ompt_events.specs.declared.records.Record.{Record};
-ghost use Rattle.ompt_events.specs.Traces.{TraceView, IsTraceOf, IsSoundIn};
+ghost use Rattle.ompt_events.specs.Traces.{TraceView, IsTraceOf, FitsIn};
 ghost use Rattle.certificate.specs.declared.faults.ReadFault.{ReadFault};
 ghost use Rattle.lines.specs.RecordLines.{line_says};
 ghost use Rattle.certificate.specs.TraceTexts.{trace_text};
@@ -35,10 +35,10 @@ pub fn first_fault_is_said()
 /// The record of a line of a file may be in a trace of the file's version.
 pub fn lines_are_sound()
     ensures { (version : ℕ) (line : List ℕ) (event : Record)
-        → line_says version line ≡ Ok event → IsSoundIn version event.body }
+        → line_says version line ≡ Ok event → FitsIn version event }
 {}
 
-/// The text of a trace of either version is a file that stands for this trace and no other, if its version
+/// The text of a trace of any version is a file that stands for this trace and no other, if its version
 /// is read.
 pub fn text_stands_for_its_trace()
     ensures { (newest : ℕ) (trace : TraceView) → trace.version ≤ newest

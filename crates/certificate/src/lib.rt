@@ -1,10 +1,10 @@
-//! The trace file, of version 1 or 2 of its format: a reader of it from any source, and traces and plain
+//! The trace file, of version 1, 2 or 3 of its format: a reader of it from any source, and traces and plain
 //! bytes written to any sink. Read `device`, `faults`, `reading` and `writing` for what a caller sees, and
 //! `laws` for what follows of a file. `window` has the bytes of a source that no line has yet, and `kept`
 //! the trace so far; the crate `lines` reads and writes each line. `reading_on` reads on several workers: by
 //! `blocks`, cut into `pieces` that are judged side by side; `ahead` is what the calling thread has in hand
-//! meanwhile, and `arriving` the trace so far. `upgrading` makes a trace of version 2 of one of version 1, by
-//! what `task_turns` notes of each task.
+//! meanwhile, and `arriving` the trace so far. `upgrading` makes a trace of a newer version of an older one; of
+//! one of version 1 by what `task_turns` notes of each task.
 #![tactic(auto)]
 
 mod ahead;
@@ -34,5 +34,5 @@ pub use reading_on::{read_blocks, read_on};
 pub use script_reading::read_script;
 pub use scripts::{Script, Step};
 pub use streams::{FromRead, StdRead, StdWrite, ToWrite};
-pub use upgrading::upgrade;
+pub use upgrading::{to_version_3, upgrade, upgrade_to};
 pub use writing::{write, write_bytes};

@@ -22,7 +22,7 @@ use std::alloc::Global;
 pub(crate) const LAST_LINE: u32 = 2 + MAX_RECORDS as u32;
 
 /// The newest version of the format that [`read`] takes.
-pub const NEWEST_VERSION: u32 = 2;
+pub const NEWEST_VERSION: u32 = 3;
 
 /// Reads a trace file of a version up to [`NEWEST_VERSION`] to its end. Fails at the first faulty line, if
 /// the source fails, or out of memory; then it is not defined how far the source was read. Has a buffer of
@@ -44,9 +44,10 @@ pub fn read<S: Source>(alloc: Global, source: &mut S) -> Result<Trace, ReadFault
     read_to(alloc, NEWEST_VERSION, source)
 }
 
-/// Reads a file of a version up to `newest`: 1, or 2 for files that may have turns. Fails as [`read`] does.
+/// Reads a file of a version up to `newest`: 1, 2 for files that may have turns, or 3 for files in which parallel
+/// regions may also lie inside others. Fails as [`read`] does.
 pub fn read_to<S: Source>(alloc: Global, newest: u32, source: &mut S) -> Result<Trace, ReadFault>
-    requires { (1 ≤ newest) × (newest ≤ 2) }
+    requires { (1 ≤ newest) × (newest ≤ 3) }
 
     // The trace that the bytes stand for, their first fault, or a failure of the device or of memory.
     ensures file { IfSome (S.remaining source.old)
@@ -100,7 +101,7 @@ fn read_line<S: Source>(
     kept: &mut Kept,
     scratch: &mut Scratch,
 ) -> Result<bool, ReadCause>
-    requires newest { newest ≤ 2 }
+    requires newest { newest ≤ 3 }
     requires line { 1 ≤ line }
     requires turns { turns.old ≤ MAX_TURNS }
     ensures after { (known : Option (List ℕ)) → IsBetween (traces newest) known line kept.old window.old
@@ -134,7 +135,7 @@ fn read_other_line<S: Source>(
     kept: &mut Kept,
     scratch: &mut Scratch,
 ) -> Result<bool, ReadCause>
-    requires newest { newest ≤ 2 }
+    requires newest { newest ≤ 3 }
     requires line { 1 ≤ line }
     requires turns { turns.old ≤ MAX_TURNS }
     ensures after { (known : Option (List ℕ)) → IsBetween (traces newest) known line kept.old window.old
@@ -193,7 +194,7 @@ fn take_text(
     kept: &mut Kept,
     scratch: &mut Scratch,
 ) -> Result<(), ReadCause>
-    requires { newest ≤ 2 }
+    requires { newest ≤ 3 }
     ensures { IsSaid (result_map_both (λ _. kept.new) (λ e. e) result)
         (text_adds newest line kept.old text.now) }
 {
@@ -213,7 +214,7 @@ fn take_header(
     kept: &mut Kept,
     scratch: &mut Scratch,
 ) -> Result<(), ReadCause>
-    requires { newest ≤ 2 }
+    requires { newest ≤ 3 }
     ensures { IsSaid (result_map_both (λ _. kept.new) (λ e. e) result)
         (with_header (header_says newest text.now)) }
 {

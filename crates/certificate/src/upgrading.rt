@@ -1,12 +1,13 @@
-//! Version 2 of a trace of version 1. A first pass over the records notes on which thread each task runs,
-//! and which tasks are initial or implicit ones; a second one writes its turns into each record, in place.
-ghost use Rattle.std.specs.Prelude.{ℕ, ◌≡◌, ◌<◌, ◌^◌, length, Some, IfOk, IfErr, IsSome};
+//! A trace in a newer version. From version 1 to 2 a first pass over the records notes on which thread each
+//! task runs, and which tasks are initial or implicit ones; a second one writes its turns into each record, in
+//! place. From version 2 to 3 the records stay the same.
+ghost use Rattle.std.specs.Prelude.{ℕ, ◌≡◌, ◌<◌, ◌≤◌, ◌^◌, length, Some, IfOk, IfErr, IsSome};
 ghost use Rattle.std.specs.Ordering.{nat_cmp};
 ghost use Rattle.std.specs.BTreeMap.{get};
 ghost use Rattle.ompt_events.specs.Records.{started};
 ghost use Rattle.ompt_events.specs.Traces.{IsTraceOf};
-ghost use Rattle.ompt_events.specs.Upgrades.{MovesNowhere, IsUpgrade, telling};
-ghost use Rattle.certificate.specs.Upgrading.{IsUpgraded, IsRefusal};
+ghost use Rattle.ompt_events.specs.Upgrades.{MovesNowhere, IsUpgrade, IsRelabelled, telling};
+ghost use Rattle.certificate.specs.Upgrading.{IsUpgraded, IsInVersion3, IsUpgradedTo, IsRefusal};
 ghost use Rattle.certificate.specs.TaskTurns.{noted, with_turn, turns_told, told_by, AreHomesNoted};
 
 use crate::faults::UpgradeFault;
@@ -16,7 +17,7 @@ use std::alloc::Global;
 use std::collections::BTreeMap;
 
 /// Returns the trace in version 2: the same records, with turns in each record after which a task runs next.
-/// A trace of version 2 is returned as it is. Fails with `Moved` and the place of the first record after
+/// A trace of version 2 or 3 is returned as it is. Fails with `Moved` and the place of the first record after
 /// which a task runs that ran on another thread before, or out of memory; then the trace is returned as it
 /// was.
 pub fn upgrade(alloc: Global, trace: Trace) -> Result<Trace, (Trace, UpgradeFault)>
@@ -24,13 +25,49 @@ pub fn upgrade(alloc: Global, trace: Trace) -> Result<Trace, (Trace, UpgradeFaul
     ensures back { IfErr result (λ refusal. refusal.0 ≡ trace) }
     ensures refused { IfErr result (λ refusal. (trace.version ≡ 1) × IsRefusal trace.records refusal.1) }
 {
-    if trace.version() == 2 {
+    if trace.version() != 1 {
         return Ok(trace);
     }
     match find_homes(alloc, trace.records()) {
         Ok(table) => Ok(tell_all(trace.into_records(), table)),
         Err(fault) => Err((trace, fault)),
     }
+}
+
+/// Returns the trace in this version, 2 or 3, if its own is older, and else as it is. Fails as [`upgrade`] does,
+/// and then returns the trace as it was.
+pub fn upgrade_to(alloc: Global, version: u32, trace: Trace) -> Result<Trace, (Trace, UpgradeFault)>
+    requires { (2 ≤ version) × (version ≤ 3) }
+    ensures upgraded { IfOk result (IsUpgradedTo version trace) }
+    ensures back { IfErr result (λ refusal. refusal.0 ≡ trace) }
+    ensures refused { IfErr result (λ refusal. (trace.version ≡ 1) × IsRefusal trace.records refusal.1) }
+{
+    match upgrade(alloc, trace) {
+        Ok(upgraded) if version == 2 => Ok(upgraded),
+        Ok(upgraded) => Ok(to_version_3(upgraded)),
+        Err(refusal) => Err(refusal),
+    }
+}
+
+/// Returns a trace of version 2 in version 3, in which parallel regions may lie inside others: the records stay
+/// the same. Any other trace is returned as it is. Takes no memory.
+pub fn to_version_3(trace: Trace) -> Trace
+    ensures { IsInVersion3 trace result }
+{
+    if trace.version() != 2 {
+        return trace;
+    }
+    Trace::from_parts(3, relabelled(trace.into_records()))
+}
+
+/// Returns the records in version 3.
+fn relabelled(mut records: Vec<Record>) -> Vec<Record>
+    ensures { IsRelabelled records.items result.items }
+{
+    for at in 0..records.len() {
+        records[at].nests = true;
+    }
+    records
 }
 
 /// Returns on which thread each task runs, and its first turn.

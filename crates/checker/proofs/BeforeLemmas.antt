@@ -396,7 +396,7 @@ pub found_bounds : (ordered : OrderedView) (i : ℕ) (own makers here all : List
 found_bounds ordered i own makers here all is within threads earlier to_makers to_awaited kept closed before =
     let rs = ordered.ledger.run.records in
     let facts : EachAwaitsOne rs = is.ledger.suspended.facts in
-    let rise : IsFreeOf rs LengthBack = is.well_formed LengthBack (14, omega arith, refl) in
+    let rise : IsFreeOf rs LengthBack = is.well_formed LengthBack (15, omega arith, refl) in
     closed_bounds rs i all facts rise threads (record {
       before = before i (here_before rs i own makers here within facts earlier to_makers to_awaited);
       own = λ a less same. kept a (to_awaited.kept a (to_makers.kept a (earlier.earlier a less same)));

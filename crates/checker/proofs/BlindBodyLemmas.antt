@@ -1,5 +1,5 @@
 -- More that records say of all but turns.
-use Rattle.std.proofs.Common.{ℕ, refl}
+use Rattle.std.proofs.Common.{ℕ, Bool, refl}
 use Rattle.ompt_events.specs.declared.records.Body.TheVariants.{TaskSchedule}
 use Rattle.ompt_events.specs.declared.names.Status.TheVariants.{EarlyFulfill, LateFulfill, Switch}
 use Rattle.ompt_events.specs.declared.names.Status.TheVariants.{TaskwaitComplete, Yield}
@@ -59,9 +59,9 @@ blind_suspended (TaskSchedule Yield turns prior next claimed) = refl
 blind_suspended (TaskSchedule Switch turns prior next claimed) = refl
 blind_suspended _ = refl
 
-pub blind_walk : (walk : Walk) → IsBlind (after_body walk)
-blind_walk walk (TaskSchedule status turns prior next claimed) = refl
-blind_walk walk _ = refl
+pub blind_walk : (nests : Bool) (walk : Walk) → IsBlind (after_body nests walk)
+blind_walk nests walk (TaskSchedule status turns prior next claimed) = refl
+blind_walk nests walk _ = refl
 
 pub blind_moves : (task : ℕ) → IsBlind (moves_by task)
 blind_moves task (TaskSchedule status turns prior next claimed) = refl

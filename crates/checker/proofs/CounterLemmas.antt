@@ -304,4 +304,4 @@ pub task_counter : (view : ClearView) (i task : ℕ) (order : List ℕ) → IsCl
     → IsCounterOrderBy (by_task view.run.records) i task order
 task_counter view i task order clear =
     counter_by (by_task view.run.records) i task order (shows_none view.run.records clear.well_formed)
-    (clear.well_formed LengthBack (14, omega arith, refl))
+    (clear.well_formed LengthBack (15, omega arith, refl))

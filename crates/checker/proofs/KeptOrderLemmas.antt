@@ -1,37 +1,38 @@
 -- Where no record shows a cause, what happens before what keeps each task's own order: along one thread by
 -- the order of the thread, and from one thread to another by the suspension that ends each turn and the
 -- record that begins the next one.
-use Rattle.std.proofs.Common.{◌≡◌, ◌≢◌, ◌∙◌, ℕ, zero, suc, ◌<◌, ◌+◌, ◌-◌, List, length, Option, Some, None}
+use Rattle.std.proofs.Common.{◌≡◌, ◌≢◌, ◌∙◌, ℕ, zero, suc, ◌<◌, ◌+◌, ◌-◌, List, length, Some}
 use Rattle.std.proofs.Common.{Bool, true, false, refl, sym, ap, subst, arith, inl, inr, ◌⊎◌}
-use Rattle.std.proofs.lemmas.Bool.{cases_eq, cases_order, false≢true, eqb-true}
-use Rattle.std.specs.Prelude.{◌==◌, ◌&&◌, not, is_some, option_map}
-use Rattle.std.specs.Option.{option_map_or}
+use Rattle.std.proofs.lemmas.Bool.{cases_eq, cases_order}
+use Rattle.std.specs.Prelude.{is_some, option_map}
 use Rattle.ompt_events.specs.declared.records.Record.{Record}
 use Rattle.ompt_events.specs.declared.cause.Cause.TheVariants.{CreatedTwice, NotCurrent, TurnGap, StatusOrder}
 use Rattle.ompt_events.specs.Records.{begun_root, running, started, stopped, next_turn, begun_turn}
 use Rattle.ompt_events.specs.Records.{suspended_turn, told_turns}
-use Rattle.ompt_events.specs.Places.{at, thread_at, places, is_own}
+use Rattle.ompt_events.specs.Places.{at, thread_at, is_own}
 use Rattle.ompt_events.specs.Tree.{IsRoot}
-use Rattle.ompt_events.specs.Traces.{IsTraceOf, IsSound, HasItsTurns}
+use Rattle.ompt_events.specs.Traces.{IsTrace, IsTraceOf, IsSound}
 use Rattle.ompt_events.specs.Turns.{turn_at, own_place}
-use Rattle.ompt_events.specs.States.{is_task, is_on, home_of, has_moved}
+use Rattle.ompt_events.specs.States.{is_on, home_of, has_moved}
 use Rattle.ompt_events.specs.HappensBefore.{IsStart, thread_order, resumption, program, HappensBefore, step}
 use Rattle.ompt_events.specs.HappensBefore.{chain}
-use Rattle.ompt_events.specs.Causes.{IsFreeOf, BeginsTurn, runs, is_root, turn_gap, falling, missing}
-use Rattle.ompt_events.proofs.PlaceLemmas.{at_get, at_within, get_at, contains_place, is_the_task, the_task}
+use Rattle.ompt_events.specs.Causes.{IsFreeOf, turn_gap, falling}
+use Rattle.ompt_events.proofs.PlaceLemmas.{at_get, at_within, get_at, is_the_task, the_task}
 use Rattle.ompt_events.proofs.ListLemmas.{all_get}
 use Rattle.ompt_events.proofs.TurnLemmas.{begun_started, start_starts, start_first, first_version_tells_none}
 use Rattle.task_tree.proofs.OwnOrderLemmas.{own_order}
 use Rattle.task_tree.proofs.RisingLemmas.{untold_rise}
 use Rattle.task_tree.proofs.SuspendedLemmas.{Suspended, suspended_parts, told_right, begun_told, begun_once}
-use Rattle.task_states.proofs.OriginLemmas.{found_some}
+use Rattle.task_tree.proofs.SuspendedLemmas.{TellsStarts}
 use Rattle.checker.specs.Readings.{by_task}
 use Rattle.checker.specs.Verdicts.{ShowsNone}
-use Rattle.checker.proofs.AwaitsOneLemmas.{starts_told}
+use Rattle.checker.proofs.TurnWalkLemmas.{first_or_told}
 use Rattle.checker.proofs.UpgradeWalkLemmas.{StaysAtHome, one_home, runs_home, same_or_not}
 use Rattle.checker.proofs.UpgradeableLemmas.{moves_nowhere}
-use Rattle.checker.proofs.TurnEndLemmas.{told_or_never, suspended_in}
-use Rattle.checker.proofs.OwnTurnLemmas.{OwnTurn, own_turn, none_after_stop, later_turn_later}
+use Rattle.checker.proofs.TurnEndLemmas.{suspended_in}
+use Rattle.checker.proofs.OngoingLemmas.{HasOrderlyTurns, IsNoRoot, begun_before, begun_earlier}
+use Rattle.checker.proofs.OngoingLemmas.{none_after_stop, at_home, moved_away}
+use Rattle.checker.proofs.OwnTurnLemmas.{OwnTurn, own_turn, later_turn_later}
 use Rattle.checker.proofs.OwnTurnLemmas.{root_own, root_next}
 
 -- ---- what happens before what
@@ -52,15 +53,12 @@ on_one_thread : (rs : List Record) (a b : ℕ) → a < b → b < length rs → t
     → HappensBefore rs a b
 on_one_thread rs a b less within same = step (program (thread_order less within same))
 
--- ---- a task that moves, in a trace of version 2
+-- ---- a task that moves
 
 -- what is known of the trace, and of a task that begins as no root and runs on more than one thread
 record HasMoved (rs : List Record) (task : ℕ) : Type 0 where
-  trace : IsTraceOf 2 rs
-  current : IsFreeOf rs NotCurrent
-  gap : IsFreeOf rs TurnGap
-  ordered : IsFreeOf rs StatusOrder
-  not_root : IsRoot rs task → ⊥
+  facts : HasOrderlyTurns rs
+  not_root : IsNoRoot rs task
   moves : has_moved rs task ≡ true
 
 begun_of : (rs : List Record) (i task : ℕ) → at started rs i ≡ Some task
@@ -71,35 +69,16 @@ begun_of rs i task starts =
       at_get begun_turn rs i r stands ∙ ap (option_map {U = ℕ × ℕ} (λ t. (t, next_turn r.body))) is,
     )
 
-begins_cases : (rs : List Record) (k task turn : ℕ) → BeginsTurn rs k task turn
-    → (at begun_turn rs k ≡ Some (task, turn)) ⊎ IsRoot rs task
-begins_cases rs k task turn (runs is) = inl is
-begins_cases rs k task _ (is_root is) = inr (k, is)
-
--- the turn before one that begins begins too
-begun_before : (rs : List Record) (task turn e : ℕ) → HasMoved rs task
-    → at begun_turn rs e ≡ Some (task, turn + 1) → (c : ℕ) × (at begun_turn rs c ≡ Some (task, turn))
-begun_before rs task turn e known begins = elim (told_or_never begun_turn rs task turn) [
-  | inl found ↦ found
-  | inr never ↦
-      absurd
-      (known.gap e
-      (turn_gap
-      (missing task turn (begun_told rs e task (turn + 1) known.trace begins, begins)
-      (λ k is. elim (begins_cases rs k task turn is) [
-        | inl there ↦ never k there
-        | inr root ↦ known.not_root root
-      ]))))
-]
-
-begun_earlier : (rs : List Record) (task turn d late e : ℕ) → HasMoved rs task → turn + d ≡ late
-    → at begun_turn rs e ≡ Some (task, late) → (c : ℕ) × (at begun_turn rs c ≡ Some (task, turn))
-begun_earlier rs task turn zero late e known sum begins =
-    let same : late ≡ turn = omega (arith, sum) in (e, begins ∙ ap (λ t. Some (task, t)) same)
-begun_earlier rs task turn (suc d) late e known sum begins =
-    let next : late ≡ (turn + d) + 1 = omega (arith, sum) in
-    let (c, there) = begun_before rs task (turn + d) e known (begins ∙ ap (λ t. Some (task, t)) next) in
-    begun_earlier rs task turn d (turn + d) c known refl there
+-- what is known of a trace without a cause that tells its turns
+orderly : (rs : List Record) → IsTrace rs → TellsStarts rs → ShowsNone (by_task rs) → HasOrderlyTurns rs
+orderly rs trace told none = record {
+  sound = trace.sound;
+  told = told;
+  once = λ n. none n CreatedTwice;
+  current = λ n. none n NotCurrent;
+  gap = λ n. none n TurnGap;
+  ordered = λ n. none n StatusOrder;
+}
 
 -- the end of a turn: a record of the task in the turn. The next turn begins there, or at a record that this
 -- one happens before
@@ -113,19 +92,20 @@ record TurnEnd (rs : List Record) (task turn e : ℕ) : Type 0 where
 turn_end : (rs : List Record) (task turn c e : ℕ) → HasMoved rs task → at begun_turn rs c ≡ Some (task, turn)
     → at begun_turn rs e ≡ Some (task, turn + 1) → TurnEnd rs task turn e
 turn_end rs task turn c e known begins resumes =
-    let (a, suspends) = suspended_in rs task turn c e known.ordered known.moves begins resumes in
+    let (a, suspends) = suspended_in rs task turn c e known.facts.ordered known.moves begins resumes in
     let (r, stands, is) = get_at suspended_turn rs a (task, turn) suspends in
     let fits : IsSound r.body =
-    all_get (λ (q : Record). IsSound q.body) rs a r known.trace.is_trace.sound stands in
-    let turned : HasItsTurns 2 r.body =
-    all_get (λ (q : Record). HasItsTurns 2 q.body) rs a r known.trace.turns stands in
+    all_get (λ (q : Record). IsSound q.body) rs a r known.facts.sound stands in
+    let turned : is_some (told_turns r.body) ≡ is_some (started r.body) =
+    all_get (λ (q : Record). is_some (told_turns q.body) ≡ is_some (started q.body)) rs a r known.facts.told
+    stands in
     let parts : Suspended r.body task turn = suspended_parts r.body task turn fits.next turned is in
     record {
       place = a;
       runs_there = at_get running rs a r stands ∙ parts.runs;
       stops = at_get stopped rs a r stands ∙ parts.stops;
       in_turn =
-          sym (told_right rs a parts.told known.gap (at_get told_turns rs a r stands ∙ parts.tells))
+          sym (told_right rs a parts.told known.facts.gap (at_get told_turns rs a r stands ∙ parts.tells))
           ∙ parts.turn_told;
       next = elim (cases_eq a e) [
         | inl same ↦ inl same
@@ -143,7 +123,7 @@ turn_end rs task turn c e known begins resumes =
 same_begin : (rs : List Record) (task i k : ℕ) → HasMoved rs task → (one : OwnTurn rs i task)
     → (other : OwnTurn rs k task) → turn_at rs i ≡ turn_at rs k → one.known.place ≡ other.known.place
 same_begin rs task i k known one other same =
-    begun_once rs known.trace known.gap task (turn_at rs i) one.known.place other.known.place
+    begun_once rs known.facts.told known.facts.gap task (turn_at rs i) one.known.place other.known.place
     one.known.begins (other.known.begins ∙ ap (λ t. Some (task, t)) (sym same))
 
 same_thread : (rs : List Record) (task i k : ℕ) → (one : OwnTurn rs i task) → (other : OwnTurn rs k task)
@@ -155,12 +135,14 @@ same_thread rs task i k one other same =
 own_before_next : (rs : List Record) (task i e : ℕ) → HasMoved rs task → at running rs i ≡ Some task
     → at begun_turn rs e ≡ Some (task, turn_at rs i + 1) → IsBefore rs i e
 own_before_next rs task i e known is resumes =
-    let own = own_turn rs i task known.current known.not_root is in
+    let own = own_turn rs i task known.facts.current known.not_root is in
     let end = turn_end rs task (turn_at rs i) own.known.place e known own.known.begins resumes in
-    let stop = own_turn rs end.place task known.current known.not_root end.runs_there in
+    let stop = own_turn rs end.place task known.facts.current known.not_root end.runs_there in
     let same = same_begin rs task i end.place known own stop (sym end.in_turn) in
     let low =
-    none_after_stop rs task end.place i known.current known.not_root end.stops stop is own same in
+    none_after_stop rs task (turn_at rs i) end.place i stop.known.place known.facts known.not_root end.stops
+    (stop.known.begins ∙ ap (λ t. Some (task, t)) end.in_turn) stop.known.earlier
+    (stop.on ∙ sym stop.known.on) is refl in
     let to_end : IsBefore rs i end.place = elim (cases_eq i end.place) [
       | inl there ↦ inl there
       | inr apart ↦
@@ -183,9 +165,9 @@ begin_before_next : (rs : List Record) (task turn c e : ℕ) → HasMoved rs tas
     → at begun_turn rs c ≡ Some (task, turn) → at begun_turn rs e ≡ Some (task, turn + 1) → IsBefore rs c e
 begin_before_next rs task turn c e known begins resumes =
     let end = turn_end rs task turn c e known begins resumes in
-    let stop = own_turn rs end.place task known.current known.not_root end.runs_there in
+    let stop = own_turn rs end.place task known.facts.current known.not_root end.runs_there in
     let same : c ≡ stop.known.place =
-    begun_once rs known.trace known.gap task turn c stop.known.place begins
+    begun_once rs known.facts.told known.facts.gap task turn c stop.known.place begins
     (stop.known.begins ∙ ap (λ t. Some (task, t)) end.in_turn) in
     both_before rs c end.place e
     (inr
@@ -199,12 +181,14 @@ begins_rise : (rs : List Record) (task turn d late c e : ℕ) → HasMoved rs ta
 begins_rise rs task turn zero late c e known sum begins later =
     let same : late ≡ turn = omega (arith, sum) in
     inl
-    (begun_once rs known.trace known.gap task turn c e begins (later ∙ ap (λ t. Some (task, t)) same))
+    (begun_once rs known.facts.told known.facts.gap task turn c e begins
+    (later ∙ ap (λ t. Some (task, t)) same))
 begins_rise rs task turn (suc d) late c e known sum begins later =
     let next : late ≡ (turn + d) + 1 = omega (arith, sum) in
     let resumes : at begun_turn rs e ≡ Some (task, (turn + d) + 1) =
     later ∙ ap (λ t. Some (task, t)) next in
-    let (b, there) = begun_before rs task (turn + d) e known resumes in
+    let (b, there) =
+    begun_before rs task (turn + d) e known.facts.told known.facts.gap known.not_root resumes in
     both_before rs c b e (begins_rise rs task turn d (turn + d) c b known refl begins there)
     (begin_before_next rs task (turn + d) b e known there resumes)
 
@@ -212,11 +196,13 @@ begins_rise rs task turn (suc d) late c e known sum begins later =
 earlier_turn_before : (rs : List Record) (task i k : ℕ) → HasMoved rs task → at running rs i ≡ Some task
     → at running rs k ≡ Some task → turn_at rs i < turn_at rs k → HappensBefore rs i k
 earlier_turn_before rs task i k known one other less =
-    let own = own_turn rs k task known.current known.not_root other in
+    let own = own_turn rs k task known.facts.current known.not_root other in
     let e = own.known.place in
     let d = turn_at rs k - (turn_at rs i + 1) in
     let sum : (turn_at rs i + 1) + d ≡ turn_at rs k = omega (arith, less) in
-    let (b, there) = begun_earlier rs task (turn_at rs i + 1) d (turn_at rs k) e known sum own.known.begins in
+    let (b, there) =
+    begun_earlier rs task (turn_at rs i + 1) d (turn_at rs k) e known.facts.told known.facts.gap
+    known.not_root sum own.known.begins in
     then_before rs i e k
     (both_before rs i b e (own_before_next rs task i b known one there)
     (begins_rise rs task (turn_at rs i + 1) d (turn_at rs k) b e known sum there own.known.begins))
@@ -224,42 +210,16 @@ earlier_turn_before rs task i k known one other less =
 
 -- ---- which tasks move
 
--- the task runs next there, as turns tell, and not at its home
-abbrev is_away : List Record → ℕ → ℕ → Bool
-is_away rs task i =
-    is_task task (at started rs i) && is_some (at told_turns rs i) && not (is_on rs (home_of rs task) i)
-
-at_home : (home on : Option ℕ) → option_map_or (λ h. option_map_or (λ t. t == h) on false) home false ≡ true
-    → on ≡ home
-at_home None on is = absurd (false≢true is)
-at_home (Some h) None is = absurd (false≢true is)
-at_home (Some h) (Some t) is = ap Some (eqb-true t h is)
-
 -- a task that runs next on two threads
-moved_between : (rs : List Record) (task a b : ℕ) → IsTraceOf 2 rs → at started rs a ≡ Some task
+moved_between : (rs : List Record) (task a b : ℕ) → TellsStarts rs → at started rs a ≡ Some task
     → at started rs b ≡ Some task → thread_at rs a ≢ thread_at rs b → has_moved rs task ≡ true
-moved_between rs task a b trace one other apart =
+moved_between rs task a b tells one other apart =
     by (is_on rs (home_of rs task) a) (is_on rs (home_of rs task) b) refl refl
   where
-    told : (i : ℕ) → at started rs i ≡ Some task → is_some (at told_turns rs i) ≡ true
-    told i starts = some (at told_turns rs i) (starts_told rs i task trace starts)
-      where
-        some : {X : Type 0} (o : Option X) → o ≢ None → is_some o ≡ true
-        some None not_none = absurd (not_none refl)
-        some (Some x) not_none = refl
-
-    away : (i : ℕ) → at started rs i ≡ Some task → is_on rs (home_of rs task) i ≡ false
-        → has_moved rs task ≡ true
-    away i starts off =
-        found_some (is_away rs task) (places rs) i (contains_place rs i (at_within started rs i task starts))
-        (ap (λ c. c && is_some (at told_turns rs i) && not (is_on rs (home_of rs task) i))
-        (the_task task (at started rs i) starts)
-        ∙ ap (λ c. c && not (is_on rs (home_of rs task) i)) (told i starts) ∙ ap not off)
-
     by : (p q : Bool) → is_on rs (home_of rs task) a ≡ p → is_on rs (home_of rs task) b ≡ q
         → has_moved rs task ≡ true
-    by false q e f = away a one e
-    by true false e f = away b other f
+    by false q e f = moved_away rs task a tells one e
+    by true false e f = moved_away rs task b tells other f
     by true true e f =
         absurd
         (apart
@@ -282,10 +242,9 @@ own_on_thread : (version : ℕ) (rs : List Record) (task i k : ℕ) → IsTraceO
 own_on_thread version rs task i k trace gap one other same less =
     elim ((own_order rs i k (at_within running rs i task one) (at_within running rs k task other)).0 less) [
       | inr (turn, before) ↦ before
-      | inl lower ↦ elim trace.known [
-        | inr second ↦
-            later_turn_later rs task i k (subst (λ v. IsTraceOf v rs) second trace) gap one other same lower
-        | inl first ↦ first_version (subst (λ v. IsTraceOf v rs) first trace) lower
+      | inl lower ↦ elim (first_or_told version rs trace) [
+        | inr told ↦ later_turn_later rs task i k told gap one other same lower
+        | inl first ↦ first_version first lower
       ]
     ]
   where
@@ -309,9 +268,9 @@ own_kept version rs task i k trace none is_one is_other less =
       | inl same ↦
           on_one_thread rs i k
           (own_on_thread version rs task i k trace (λ n. none n TurnGap) one other same less) within same
-      | inr apart ↦ elim trace.known [
-        | inl first ↦ absurd (apart (at_one_home (subst (λ v. IsTraceOf v rs) first trace) (rootless apart)))
-        | inr second ↦ elsewhere (subst (λ v. IsTraceOf v rs) second trace) (rootless apart) apart
+      | inr apart ↦ elim (first_or_told version rs trace) [
+        | inl first ↦ absurd (apart (at_one_home first (rootless apart)))
+        | inr told ↦ elsewhere told (rootless apart) apart
       ]
     ]
   where
@@ -339,19 +298,16 @@ own_kept version rs task i k trace none is_one is_other less =
         runs_home rs task i own.known.place stays one starts
         ∙ sym (runs_home rs task k own.known.place stays other starts)
 
-    elsewhere : IsTraceOf 2 rs → (IsRoot rs task → ⊥) → thread_at rs i ≢ thread_at rs k
+    elsewhere : TellsStarts rs → (IsRoot rs task → ⊥) → thread_at rs i ≢ thread_at rs k
         → HappensBefore rs i k
-    elsewhere second not_root apart =
+    elsewhere told not_root apart =
         let a = own_turn rs i task (λ n. none n NotCurrent) not_root one in
         let b = own_turn rs k task (λ n. none n NotCurrent) not_root other in
         let known : HasMoved rs task = record {
-          trace = second;
-          current = λ n. none n NotCurrent;
-          gap = λ n. none n TurnGap;
-          ordered = λ n. none n StatusOrder;
+          facts = orderly rs trace.is_trace told none;
           not_root = not_root;
           moves =
-              moved_between rs task a.known.place b.known.place second
+              moved_between rs task a.known.place b.known.place told
               (begun_started rs a.known.place task (turn_at rs i) a.known.begins)
               (begun_started rs b.known.place task (turn_at rs k) b.known.begins)
               (λ same. apart (a.on ∙ sym a.known.on ∙ same ∙ b.known.on ∙ sym b.on));
@@ -370,24 +326,22 @@ start_on_thread : (version : ℕ) (rs : List Record) (task i k : ℕ) → IsTrac
 start_on_thread version rs task i k trace gap start starts apart same = elim (cases_order i k) [
   | inl is ↦ absurd (apart is)
   | inr (inl before) ↦ before
-  | inr (inr after) ↦ elim trace.known [
+  | inr (inr after) ↦ elim (first_or_told version rs trace) [
     | inl first ↦
-        absurd
-        (start_first rs i task (first_version_tells_none rs (subst (λ v. IsTraceOf v rs) first trace)) start k
-        after starts)
-    | inr second ↦ absurd (falls (subst (λ v. IsTraceOf v rs) second trace) after)
+        absurd (start_first rs i task (first_version_tells_none rs first) start k after starts)
+    | inr told ↦ absurd (falls told after)
   ]
 ]
   where
-    falls : IsTraceOf 2 rs → k < i → ⊥
-    falls second after =
+    falls : TellsStarts rs → k < i → ⊥
+    falls told after =
         let (turn, begins) = begun_of rs k task starts in
         elim (cases_eq turn 0) [
           | inl zero_turn ↦ start.first k after (begins ∙ ap (λ t. Some (task, t)) zero_turn)
           | inr later ↦
               gap i
               (turn_gap
-              (falling task 0 k turn (begun_told rs i task 0 second start.starts, start.starts) after
+              (falling task 0 k turn (begun_told rs i task 0 told start.starts, start.starts) after
               (sym same) begins (omega (arith, later))))
         ]
 
@@ -401,29 +355,24 @@ start_kept version rs task i k trace none start starts other =
           on_one_thread rs i k
           (start_on_thread version rs task i k trace (λ n. none n TurnGap) start starts other same)
           (at_within started rs k task starts) same
-      | inr apart ↦ elim trace.known [
+      | inr apart ↦ elim (first_or_told version rs trace) [
         | inl first ↦
             absurd
-            (apart
-            (one_home rs task i k (moves_nowhere rs (subst (λ v. IsTraceOf v rs) first trace) none)
-            (start_starts rs i task start) starts))
-        | inr second ↦ elsewhere (subst (λ v. IsTraceOf v rs) second trace) apart
+            (apart (one_home rs task i k (moves_nowhere rs first none) (start_starts rs i task start) starts))
+        | inr told ↦ elsewhere told apart
       ]
     ]
   where
-    elsewhere : IsTraceOf 2 rs → thread_at rs i ≢ thread_at rs k → HappensBefore rs i k
-    elsewhere second apart =
+    elsewhere : TellsStarts rs → thread_at rs i ≢ thread_at rs k → HappensBefore rs i k
+    elsewhere told apart =
         let (turn, begins) = begun_of rs k task starts in
         let known : HasMoved rs task = record {
-          trace = second;
-          current = λ n. none n NotCurrent;
-          gap = λ n. none n TurnGap;
-          ordered = λ n. none n StatusOrder;
+          facts = orderly rs trace.is_trace told none;
           not_root = λ (root : IsRoot rs task).
               let next = λ (n : ℕ) (is : at started rs n ≡ Some task).
               (root_next rs n task root.0 (λ m. none m CreatedTwice) (λ m. none m NotCurrent) root.1 is).1 in
               apart (sym (next i (start_starts rs i task start)) ∙ next k starts);
-          moves = moved_between rs task i k second (start_starts rs i task start) starts apart;
+          moves = moved_between rs task i k told (start_starts rs i task start) starts apart;
         } in
         elim (begins_rise rs task 0 turn turn i k known (omega arith) start.starts begins) [
           | inl same ↦ absurd (other same)

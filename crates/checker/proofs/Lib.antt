@@ -12,6 +12,9 @@ mod MergingLemmas
 mod EarlierLemmas
 mod FrontLemmas
 mod ScheduleLemmas
+mod TurnWalkLemmas
+mod OngoingLemmas
+mod HomeMoveLemmas
 mod AwaitsOneLemmas
 mod SuspensionLemmas
 mod InOrderLemmas
@@ -20,8 +23,10 @@ mod LateLemmas
 mod PhaseLemmas
 mod VerdictLemmas
 mod BlindBodyLemmas
+mod MappedLemmas
 mod TwinLemmas
 mod TwinCauseLemmas
+mod FlatTwinLemmas
 mod TwinMoveLemmas
 mod TwinStepLemmas
 mod UpgradeLemmas
@@ -29,6 +34,9 @@ mod UpgradeWalkLemmas
 mod UpgradeTurnLemmas
 pub mod ReadingLemmas
 mod UpgradeVerdictLemmas
+mod RelabelledLemmas
+mod RelabelledWalkLemmas
+mod RelabelledVerdictLemmas
 mod BeforeLemmas
 mod DecidingLemmas
 mod ShareLemmas

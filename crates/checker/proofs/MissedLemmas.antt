@@ -293,6 +293,6 @@ rejected view i why clear found = record {
   unfinished = found.unfinished;
   missed =
       first_missed (by_task view.run.records) view.order i (task_of why) (of_tasks view.run.records)
-      (clear.well_formed LengthBack (14, omega arith, refl)) clear.linearization found.unfinished;
+      (clear.well_formed LengthBack (15, omega arith, refl)) clear.linearization found.unfinished;
   reason = found.reason;
 }

@@ -2,25 +2,27 @@
 -- cause at its first record.
 use Rattle.std.proofs.Common.{◌≡◌, ◌∙◌, ℕ, zero, suc, ◌<◌, ◌≤◌, List, [], ◌∷◌, length, get_or, refl, sym, ap}
 use Rattle.std.proofs.Common.{subst, arith, inl, inr, ◌⊎◌, add-one}
-use Rattle.std.proofs.lemmas.Bool.{cases_order}
+use Rattle.std.proofs.lemmas.Bool.{cases_order, false≢true}
 use Rattle.std.proofs.lemmas.Option.{same_Some}
 use Rattle.std.proofs.lemmas.List.{take_all, take_more_same}
 use Rattle.std.proofs.lemmas.List.Sorted.{length_permutation}
-use Rattle.std.specs.Prelude.{⊤, take, slice_index}
+use Rattle.std.specs.Prelude.{⊤, ◌==◌, take, slice_index}
 use Rattle.ompt_events.specs.declared.records.Record.{Record}
 use Rattle.ompt_events.specs.declared.cause.Cause.{Cause}
 use Rattle.ompt_events.specs.declared.cause.Cause.TheVariants.{SeqGap, CreatedTwice, Rootless, NotCurrent}
 use Rattle.ompt_events.specs.declared.cause.Cause.TheVariants.{Moved, TurnGap, StatusOrder, RegionOrder}
-use Rattle.ompt_events.specs.declared.cause.Cause.TheVariants.{TeamShort, NestedParallel, DepsPlace}
-use Rattle.ompt_events.specs.declared.cause.Cause.TheVariants.{ShareWrong, EntryTwice, LengthAhead}
-use Rattle.ompt_events.specs.declared.cause.Cause.TheVariants.{LengthBack, NoOrder, TargetTask}
+use Rattle.ompt_events.specs.declared.cause.Cause.TheVariants.{TeamShort, NestedParallel, RegionNesting}
+use Rattle.ompt_events.specs.declared.cause.Cause.TheVariants.{DepsPlace, ShareWrong, EntryTwice}
+use Rattle.ompt_events.specs.declared.cause.Cause.TheVariants.{LengthAhead, LengthBack, NoOrder, TargetTask}
 use Rattle.ompt_events.specs.CauseNames.{cause_number}
 use Rattle.ompt_events.specs.Records.{created}
 use Rattle.ompt_events.specs.Places.{at}
 use Rattle.ompt_events.specs.Traces.{IsTraceOf}
 use Rattle.ompt_events.specs.Linearization.{IsLinearization, IsFirstReady, IsGreedy}
-use Rattle.ompt_events.specs.Causes.{HasCause, moved}
+use Rattle.ompt_events.specs.Causes.{HasCause, moved, nested_parallel, region_nesting}
 use Rattle.ompt_events.proofs.TurnLemmas.{first_version_tells_none, free_of_gaps}
+use Rattle.task_states.proofs.NestingLemmas.{nests_all, nested_within, flat_nested, misnested_within}
+use Rattle.task_states.proofs.NestingLemmas.{misnested_nests}
 use Rattle.checker.specs.declared.verdict.Verdict.{Verdict}
 use Rattle.checker.specs.declared.verdict.Verdict.TheVariants.{Yes, No, Malformed}
 use Rattle.checker.specs.declared.verdict.Why.{Why}
@@ -28,7 +30,7 @@ use Rattle.checker.specs.declared.verdict.Why.TheVariants.{Unfinished, Predecess
 use Rattle.checker.specs.Readings.{Reading, by_task, by_file}
 use Rattle.checker.specs.Verdicts.{IsLeastShown, IsFirstSo, IsRejected, IsReason, IsVerdictBy, task_of}
 use Rattle.checker.specs.Search.{IsOfRecords}
-use Rattle.checker.proofs.AwaitsOneLemmas.{starts_told}
+use Rattle.checker.proofs.TurnWalkLemmas.{first_or_told, starts_told}
 use Rattle.checker.proofs.ReadingLemmas.{of_tasks, of_file}
 
 -- ---- one order
@@ -111,13 +113,27 @@ one_no reading i k why other of one another =
 
 -- ---- one cause
 
--- the causes with one number: Moved and TurnGap have the same one
-data IsNumbered (cause : Cause) : Cause → Type 0 where
-  same_cause : {other : Cause} → cause ≡ other → IsNumbered cause other
-  moved_or_gap : {other : Cause} → cause ≡ Moved → other ≡ TurnGap → IsNumbered cause other
-  gap_or_moved : {other : Cause} → cause ≡ TurnGap → other ≡ Moved → IsNumbered cause other
+-- two causes with one number, of which no version of the file has both
+data AreRivals (cause other : Cause) : Type 0 where
+  moved_or_gap : cause ≡ Moved → other ≡ TurnGap → AreRivals cause other
+  nested_or_nesting : cause ≡ NestedParallel → other ≡ RegionNesting → AreRivals cause other
 
--- the cause with a number, which for 5 is Moved
+one_rival : (first cause other : Cause) → AreRivals first cause → AreRivals first other → cause ≡ other
+one_rival first cause other (moved_or_gap is gap) (moved_or_gap is' gap') = gap ∙ sym gap'
+one_rival first cause other (moved_or_gap is gap) (nested_or_nesting is' nesting) =
+    let number = ap cause_number (sym is ∙ is') in absurd (omega (arith, number))
+one_rival first cause other (nested_or_nesting is nesting) (moved_or_gap is' gap) =
+    let number = ap cause_number (sym is ∙ is') in absurd (omega (arith, number))
+one_rival first cause other (nested_or_nesting is nesting) (nested_or_nesting is' nesting') =
+    nesting ∙ sym nesting'
+
+-- the causes with one number
+data IsNumbered (cause other : Cause) : Type 0 where
+  same_cause : cause ≡ other → IsNumbered cause other
+  rivals : AreRivals cause other → IsNumbered cause other
+  rivals_back : AreRivals other cause → IsNumbered cause other
+
+-- the cause with a number: for 5 it is Moved, for 9 NestedParallel
 abbrev numbered : List Cause
 numbered =
     SeqGap ∷ SeqGap ∷ CreatedTwice ∷ Rootless ∷ NotCurrent ∷ Moved ∷ StatusOrder ∷ RegionOrder ∷ TeamShort
@@ -127,25 +143,32 @@ numbered =
 abbrev of_number : ℕ → Cause
 of_number n = get_or numbered n SeqGap
 
-number_tells : (cause : Cause) → (cause ≡ of_number (cause_number cause)) ⊎ (cause ≡ TurnGap)
-number_tells TurnGap = inr refl
+number_tells : (cause : Cause)
+    → (cause ≡ of_number (cause_number cause)) ⊎ AreRivals (of_number (cause_number cause)) cause
+number_tells TurnGap = inr (moved_or_gap refl refl)
+number_tells RegionNesting = inr (nested_or_nesting refl refl)
 number_tells _ = inl refl
 
 one_number : (cause other : Cause) → cause_number cause ≡ cause_number other → IsNumbered cause other
 one_number cause other same = elim (number_tells cause) [
   | inl is ↦ elim (number_tells other) [
     | inl is_too ↦ same_cause (is ∙ ap of_number same ∙ sym is_too)
-    | inr gap ↦ moved_or_gap (is ∙ ap of_number (same ∙ ap cause_number gap)) gap
+    | inr rival ↦ rivals (subst (λ c. AreRivals c other) (sym (is ∙ ap of_number same)) rival)
   ]
-  | inr gap ↦ elim (number_tells other) [
-    | inl is ↦ gap_or_moved gap (is ∙ ap of_number (sym same ∙ ap cause_number gap))
-    | inr gap_too ↦ same_cause (gap ∙ sym gap_too)
+  | inr rival ↦ elim (number_tells other) [
+    | inl is ↦ rivals_back (subst (λ c. AreRivals c cause) (sym (is ∙ ap of_number (sym same))) rival)
+    | inr rival_too ↦
+        same_cause
+        (one_rival (of_number (cause_number cause)) cause other rival
+        (subst (λ c. AreRivals c other) (ap of_number (sym same)) rival_too))
   ]
 ]
 
--- no record shows Moved where another shows TurnGap
+-- of two such causes only one is shown
 abbrev ShowsOne : Reading → Type 0
-ShowsOne reading = (i k : ℕ) → reading.shows i Moved → reading.shows k TurnGap → ⊥
+ShowsOne reading =
+    (i k : ℕ) (cause other : Cause) → AreRivals cause other → reading.shows i cause → reading.shows k other
+    → ⊥
 
 one_least : (reading : Reading) (i k : ℕ) (cause : Cause) → IsLeastShown reading i cause
     → IsLeastShown reading k cause → i ≡ k
@@ -168,12 +191,8 @@ one_malformed reading i k cause other shows one another =
     by (same_cause same) =
         let there : IsLeastShown reading k cause = subst (IsLeastShown reading k) (sym same) another in
         ap (λ n. Malformed n cause) (one_least reading i k cause one there) ∙ ap (Malformed k) same
-    by (moved_or_gap moves gap) =
-        absurd
-        (shows i k (subst (reading.shows i) moves one.shown) (subst (reading.shows k) gap another.shown))
-    by (gap_or_moved gap moves) =
-        absurd
-        (shows k i (subst (reading.shows k) moves another.shown) (subst (reading.shows i) gap one.shown))
+    by (rivals are) = absurd (shows i k cause other are one.shown another.shown)
+    by (rivals_back are) = absurd (shows k i other cause are another.shown one.shown)
 
 -- ---- one verdict
 
@@ -198,23 +217,49 @@ one_verdict reading (Malformed i cause) (No k why) of shows one another =
 one_verdict reading (Malformed i cause) (Malformed k cause') of shows one another =
     one_malformed reading i k cause cause' shows one another
 
--- in version 1 no record gives turns, and in version 2 each at which a task runs next does
-version_shows_one : (version : ℕ) (rs : List Record) → IsTraceOf version rs → (i k : ℕ)
+-- in version 1 no record gives turns, and from version 2 on each at which a task runs next does
+moved_or_gapped : (version : ℕ) (rs : List Record) → IsTraceOf version rs → (i k : ℕ)
     → HasCause rs i Moved → HasCause rs k TurnGap → ⊥
-version_shows_one version rs trace i k (moved (task, j, explicit, starts, below, before, apart, none)) gap =
-    elim trace.known [
-      | inl first ↦
-          let told = first_version_tells_none rs (subst (λ v. IsTraceOf v rs) first trace) in
-          free_of_gaps rs told k gap
-      | inr second ↦ starts_told rs i task (subst (λ v. IsTraceOf v rs) second trace) starts none
+moved_or_gapped version rs trace i k (moved (task, j, explicit, starts, below, before, apart, none)) gap =
+    elim (first_or_told version rs trace) [
+      | inl first ↦ free_of_gaps rs (first_version_tells_none rs first) k gap
+      | inr told ↦ starts_told rs i task told starts none
     ]
+
+-- and no region lies inside another in a version where each may
+nested_or_misnested : (version : ℕ) (rs : List Record) → IsTraceOf version rs → (i k : ℕ)
+    → HasCause rs i NestedParallel → HasCause rs k RegionNesting → ⊥
+nested_or_misnested version rs trace i k (nested_parallel nested) (region_nesting misnested) =
+    let flat = nests_all rs (version == 3) i trace.nesting (nested_within rs i nested) in
+    let nests = nests_all rs (version == 3) k trace.nesting (misnested_within rs k misnested) in
+    false≢true (sym (flat_nested rs i nested) ∙ flat ∙ sym nests ∙ misnested_nests rs k misnested)
+
+-- what a reading shows of these causes the records have
+version_shows_one : (version : ℕ) (reading : Reading) → IsTraceOf version reading.records
+    → ((i : ℕ) → reading.shows i Moved → HasCause reading.records i Moved)
+    → ((i : ℕ) → reading.shows i TurnGap → HasCause reading.records i TurnGap)
+    → ((i : ℕ) → reading.shows i NestedParallel → HasCause reading.records i NestedParallel)
+    → ((i : ℕ) → reading.shows i RegionNesting → HasCause reading.records i RegionNesting)
+    → ShowsOne reading
+version_shows_one version reading trace has_moved has_gap has_nested has_nesting i k cause other
+    (moved_or_gap moves gap) one another =
+    moved_or_gapped version reading.records trace i k (has_moved i (subst (reading.shows i) moves one))
+    (has_gap k (subst (reading.shows k) gap another))
+version_shows_one version reading trace has_moved has_gap has_nested has_nesting i k cause other
+    (nested_or_nesting nested nesting) one another =
+    nested_or_misnested version reading.records trace i k (has_nested i (subst (reading.shows i) nested one))
+    (has_nesting k (subst (reading.shows k) nesting another))
 
 pub one_by_task : (version : ℕ) (rs : List Record) (verdict other : Verdict) → IsTraceOf version rs
     → IsVerdictBy (by_task rs) verdict → IsVerdictBy (by_task rs) other → verdict ≡ other
 one_by_task version rs verdict other trace one another =
-    one_verdict (by_task rs) verdict other (of_tasks rs) (version_shows_one version rs trace) one another
+    one_verdict (by_task rs) verdict other (of_tasks rs)
+    (version_shows_one version (by_task rs) trace (λ i is. is) (λ i is. is) (λ i is. is) (λ i is. is)) one
+    another
 
 pub one_by_file : (version : ℕ) (rs : List Record) (verdict other : Verdict) → IsTraceOf version rs
     → IsVerdictBy (by_file rs) verdict → IsVerdictBy (by_file rs) other → verdict ≡ other
 one_by_file version rs verdict other trace one another =
-    one_verdict (by_file rs) verdict other (of_file rs) (version_shows_one version rs trace) one another
+    one_verdict (by_file rs) verdict other (of_file rs)
+    (version_shows_one version (by_file rs) trace (λ i is. is) (λ i is. is) (λ i is. is) (λ i is. is)) one
+    another

@@ -1,29 +1,23 @@
 -- On which thread the records of a task are, and in which order there: each of them comes after the record of
--- its thread that began its turn, and none comes after the suspension that ends it.
-use Rattle.std.proofs.Common.{◌≡◌, ◌≢◌, ◌∙◌, ℕ, ◌<◌, ◌≤◌, ◌+◌, List, [], ◌∷◌, ◌++◌, Option, Some, None, Bool}
-use Rattle.std.proofs.Common.{true, false, cond, refl, sym, ap, subst, arith, inl, inr}
+-- its thread that began its turn.
+use Rattle.std.proofs.Common.{◌≡◌, ◌≢◌, ◌∙◌, ℕ, ◌<◌, ◌≤◌, ◌+◌, List, [], ◌∷◌, ◌++◌, Option, Some, None}
+use Rattle.std.proofs.Common.{cond, refl, sym, ap, subst, arith, inl, inr}
 use Rattle.std.proofs.lemmas.Bool.{cases_eq, cases_lt, eq-eqb, ne_eqb}
 use Rattle.std.proofs.lemmas.Option.{none-some, same_Some}
 use Rattle.std.proofs.lemmas.List.Sums.{fold-append}
-use Rattle.std.specs.Prelude.{◌==◌, slice_get, option_and_then, option_map, fold, take}
+use Rattle.std.specs.Prelude.{◌==◌, slice_get, option_and_then, option_map}
 use Rattle.std.specs.Option.{option_map_or}
 use Rattle.ompt_events.specs.declared.records.Record.{Record}
-use Rattle.ompt_events.specs.declared.records.Body.{Body}
-use Rattle.ompt_events.specs.declared.records.Body.TheVariants.{TaskSchedule}
 use Rattle.ompt_events.specs.declared.cause.Cause.TheVariants.{CreatedTwice, NotCurrent, TurnGap}
-use Rattle.ompt_events.specs.Names.{demands_next}
-use Rattle.ompt_events.specs.Records.{begun_root, running, started, stopped, next_turn, begun_turn}
+use Rattle.ompt_events.specs.Records.{begun_root, running, started, next_turn, begun_turn}
 use Rattle.ompt_events.specs.Places.{at, thread_at}
 use Rattle.ompt_events.specs.Tree.{IsRoot}
-use Rattle.ompt_events.specs.Threads.{Walk, at_start, after_body, after_record, walk_of}
 use Rattle.ompt_events.specs.Turns.{turn_after, turn_in, turn_at}
-use Rattle.ompt_events.specs.Traces.{IsTraceOf}
 use Rattle.ompt_events.specs.Causes.{IsFreeOf}
 use Rattle.ompt_events.proofs.PlaceLemmas.{get_at}
-use Rattle.ompt_events.proofs.EveryLemmas.{every_weaker}
-use Rattle.task_tree.proofs.SuspendedLemmas.{runs_there, part_of, part_keeps, turn_here}
-use Rattle.checker.proofs.AwaitsOneLemmas.{after_current, turn_greatest}
-use Rattle.checker.proofs.UpgradeWalkLemmas.{BeganOn, running_from, root_from, walk_from, begun_once}
+use Rattle.task_tree.proofs.SuspendedLemmas.{part_of, part_keeps, turn_here, TellsStarts}
+use Rattle.checker.proofs.TurnWalkLemmas.{turn_greatest}
+use Rattle.checker.proofs.UpgradeWalkLemmas.{running_from, root_from, begun_once}
 
 -- ---- the last start on a thread
 
@@ -125,23 +119,23 @@ turn_known rs thread task n =
         ]
 
 -- along a thread no turn of a task falls
-turn_rises : (rs : List Record) (thread task m n : ℕ) → IsTraceOf 2 rs → IsFreeOf rs TurnGap → m ≤ n
+turn_rises : (rs : List Record) (thread task m n : ℕ) → TellsStarts rs → IsFreeOf rs TurnGap → m ≤ n
     → turn_in task (part_of rs thread m) ≤ turn_in task (part_of rs thread n)
-turn_rises rs thread task m n trace gap low = of (turn_known rs thread task m)
+turn_rises rs thread task m n told gap low = of (turn_known rs thread task m)
   where
     of : TurnKnown rs thread m task (turn_in task (part_of rs thread m))
         → turn_in task (part_of rs thread m) ≤ turn_in task (part_of rs thread n)
     of (not_begun none zero_turn) = omega (arith, zero_turn)
     of (is_begun known) =
         let e = known.earlier in
-        turn_greatest rs thread task trace gap n known.place (turn_in task (part_of rs thread m))
+        turn_greatest rs thread task told gap n known.place (turn_in task (part_of rs thread m))
         (omega (arith, e, low)) known.on known.begins
 
 -- of two records of a task on one thread the one in the later turn is later in the file
-pub later_turn_later : (rs : List Record) (task i k : ℕ) → IsTraceOf 2 rs → IsFreeOf rs TurnGap
+pub later_turn_later : (rs : List Record) (task i k : ℕ) → TellsStarts rs → IsFreeOf rs TurnGap
     → at running rs i ≡ Some task → at running rs k ≡ Some task → thread_at rs i ≡ thread_at rs k
     → turn_at rs i < turn_at rs k → i < k
-later_turn_later rs task i k trace gap one other same less = elim (cases_lt i k) [
+later_turn_later rs task i k told gap one other same less = elim (cases_lt i k) [
   | inl before ↦ before
   | inr after ↦
       let (r, stands, runs) = get_at running rs i task one in
@@ -153,7 +147,7 @@ later_turn_later rs task i k trace gap one other same less = elim (cases_lt i k)
       let here : turn_at rs i ≡ turn_in task (part_of rs r.thread i) = turn_here rs i task r stands runs in
       let there : turn_at rs k ≡ turn_in task (part_of rs r.thread k) =
       turn_here rs k task q stands' runs' ∙ ap (λ t. turn_in task (part_of rs t k)) threads in
-      let rises = turn_rises rs r.thread task k i trace gap after in
+      let rises = turn_rises rs r.thread task k i told gap after in
       absurd (omega (arith, here, there, rises, less))
 ]
 
@@ -209,117 +203,3 @@ root_own rs i task s once current begins runs =
       | inr (k, below, starts, there) ↦
           (root_next rs k task s once current begins starts).1 ∙ there ∙ sym from.on
     ]
-
--- ---- after a suspension
-
-next_runs : (walk : Walk) (b : Body) (task : ℕ) → stopped b ≡ Some task
-    → (after_body walk b).current ≡ started b
-next_runs walk (TaskSchedule status turns prior next claimed) task stops = by (demands_next status) stops
-  where
-    by : (d : Bool) → cond d (Some prior) None ≡ Some task
-        → (cond d (record { roots = walk.roots; current = next }) walk).current ≡ next
-    by true is = refl
-    by false is = absurd (none-some task is)
-next_runs walk _ task stops = absurd (none-some task stops)
-
--- a record of the thread from a on, before n, starts the task
-pub record StartsAgain (rs : List Record) (thread a n task : ℕ) : Type 0 where
-  pub place : ℕ
-  pub not_before : a ≤ place
-  pub earlier : place < n
-  pub on : thread_at rs place ≡ Some thread
-  pub starts : at started rs place ≡ Some task
-
-again_more : (rs : List Record) (thread a n task : ℕ) → StartsAgain rs thread a n task
-    → StartsAgain rs thread a (n + 1) task
-again_more rs thread a n task again = record {
-  place = again.place;
-  not_before = again.not_before;
-  earlier = let e = again.earlier in omega arith;
-  on = again.on;
-  starts = again.starts;
-}
-
--- a thread that has stopped a task runs it only after another start of it
-runs_again : (rs : List Record) (thread a task : ℕ) → (IsRoot rs task → ⊥) → thread_at rs a ≡ Some thread
-    → at stopped rs a ≡ Some task → (n : ℕ) → a < n
-    → (walk_of thread (take n rs)).current ≡ Some task → StartsAgain rs thread a n task
-runs_again rs thread a task not_root on stops n =
-    part_keeps rs thread P (λ below. absurd (omega (arith, below))) own other n
-  where
-    P : ℕ → List Record → Type 0
-    P m l = a < m → (fold after_record at_start l).current ≡ Some task → StartsAgain rs thread a m task
-
-    other : (m : ℕ) → thread_at rs m ≢ Some thread → P m (part_of rs thread m)
-        → P (m + 1) (part_of rs thread m)
-    other m apart before below runs = elim (cases_eq a m) [
-      | inl same ↦ absurd (apart (ap (thread_at rs) (sym same) ∙ on))
-      | inr less ↦ again_more rs thread a m task (before (omega (arith, below, less)) runs)
-    ]
-
-    own : (m : ℕ) (r : Record) → slice_get rs m ≡ Some r → r.thread ≡ thread → P m (part_of rs thread m)
-        → P (m + 1) (part_of rs thread m ++ r ∷ [])
-    own m r stands same before below runs = elim (cases_eq a m) [
-      | inl here ↦
-          starts_here
-          (sym (next_runs walk r.body task (stops_here here)) ∙ now)
-      | inr less ↦
-          after_current (λ t. t ≡ task → StartsAgain rs thread a (m + 1) task) walk r.body
-          (λ t begins is.
-          absurd
-          (not_root
-          (m, ap (option_and_then (λ (q : Record). begun_root q.body)) stands ∙ begins ∙ ap Some is)))
-          (λ t starts is. starts_here (starts ∙ ap Some is))
-          (every_weaker (BeganOn rs thread m) (λ t. t ≡ task → StartsAgain rs thread a (m + 1) task)
-          (λ t began is. absurd (not_root (began.0, began.2 ∙ ap Some is))) walk.roots
-          (walk_from rs thread m).roots)
-          (λ t current is.
-          again_more rs thread a m task (before (omega (arith, below, less)) (current ∙ ap Some is)))
-          task now refl
-    ]
-      where
-        walk : Walk
-        walk = walk_of thread (take m rs)
-
-        now : (after_body walk r.body).current ≡ Some task
-        now =
-            sym
-            (ap (λ (w : Walk). w.current) (fold-append after_record at_start (part_of rs thread m) (r ∷ [])))
-            ∙ runs
-
-        stops_here : a ≡ m → stopped r.body ≡ Some task
-        stops_here here =
-            sym (ap (option_and_then (λ (q : Record). stopped q.body)) stands)
-            ∙ ap (at stopped rs) (sym here) ∙ stops
-
-        starts_here : started r.body ≡ Some task → StartsAgain rs thread a (m + 1) task
-        starts_here starts = record {
-          place = m;
-          not_before = omega (arith, below);
-          earlier = omega arith;
-          on = ap (option_map (λ (q : Record). q.thread)) stands ∙ ap Some same;
-          starts = ap (option_and_then (λ (q : Record). started q.body)) stands ∙ starts;
-        }
-
--- no record of the task in the turn that a record of its thread stops comes after that
-pub none_after_stop : (rs : List Record) (task a i : ℕ) → IsFreeOf rs NotCurrent → (IsRoot rs task → ⊥)
-    → at stopped rs a ≡ Some task → (stop : OwnTurn rs a task) → at running rs i ≡ Some task
-    → (own : OwnTurn rs i task) → own.known.place ≡ stop.known.place → i ≤ a
-none_after_stop rs task a i current not_root stops stop runs own same = elim (cases_lt a i) [
-  | inr before ↦ before
-  | inl after ↦
-      let (r, stands, is) = get_at running rs i task runs in
-      let threads : stop.thread ≡ own.thread =
-      same_Some stop.thread own.thread
-      (sym stop.known.on ∙ ap (thread_at rs) (sym same) ∙ own.known.on) in
-      let r_thread : r.thread ≡ own.thread =
-      same_Some r.thread own.thread (sym (ap (option_map (λ (q : Record). q.thread)) stands) ∙ own.on) in
-      let again =
-      runs_again rs own.thread a task not_root (stop.on ∙ ap Some threads) stops i after
-      (subst (λ t. (walk_of t (take i rs)).current ≡ Some task) r_thread
-      (runs_there rs i task r current stands is)) in
-      let e = stop.known.earlier in
-      let low = again.not_before in
-      absurd
-      (own.known.last again.place (omega (arith, same, e, low)) again.earlier again.on again.starts)
-]

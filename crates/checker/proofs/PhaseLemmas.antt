@@ -14,7 +14,7 @@ use Rattle.ompt_events.specs.declared.fault.Fault.{Fault}
 use Rattle.ompt_events.specs.declared.fault.Fault.TheVariants.{Memory, Malformed}
 use Rattle.ompt_events.specs.declared.cause.Cause.TheVariants.{NotCurrent, Moved, TurnGap, StatusOrder}
 use Rattle.ompt_events.specs.declared.cause.Cause.TheVariants.{RegionOrder, TeamShort, NestedParallel}
-use Rattle.ompt_events.specs.declared.cause.Cause.TheVariants.{DepsPlace, ShareWrong}
+use Rattle.ompt_events.specs.declared.cause.Cause.TheVariants.{RegionNesting, DepsPlace, ShareWrong}
 use Rattle.ompt_events.specs.CauseNames.{cause_number, all_causes, before}
 use Rattle.ompt_events.specs.Causes.{HasCause, IsFreeOf, Shows, ShowsNowhere}
 use Rattle.ompt_events.specs.Faults.{IsFault, IsShownFault}
@@ -207,11 +207,13 @@ teams_clear rs own of clear whole =
     (only_clear rs TeamShort (own_free rs own TeamShort of_teams of whole))
 
 pub edges_clear : (rs : List Record) (own : OwnView) → IsOwnOf rs own → IsFreeOf rs NestedParallel
-    → IsFreeOf rs DepsPlace → IsFreeOf own.run.records ShareWrong → IsClear rs edge_causes
-edges_clear rs own of flat placed claims =
-    one_clear rs NestedParallel (DepsPlace ∷ ShareWrong ∷ []) flat
+    → IsFreeOf rs RegionNesting → IsFreeOf rs DepsPlace → IsFreeOf own.run.records ShareWrong
+    → IsClear rs edge_causes
+edges_clear rs own of flat inside placed claims =
+    one_clear rs NestedParallel (RegionNesting ∷ DepsPlace ∷ ShareWrong ∷ []) flat
+    (one_clear rs RegionNesting (DepsPlace ∷ ShareWrong ∷ []) inside
     (one_clear rs DepsPlace (ShareWrong ∷ []) placed
-    (only_clear rs ShareWrong (own_free rs own ShareWrong of_claims of claims)))
+    (only_clear rs ShareWrong (own_free rs own ShareWrong of_claims of claims))))
 
 -- two views of a run in its tasks' own order with the same run and the same places are the same
 pub same_own : (own other : OwnView) → own.run ≡ other.run → own.places ≡ other.places → own ≡ other

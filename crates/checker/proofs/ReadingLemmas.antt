@@ -337,8 +337,8 @@ clear_entries view clear =
     own_entries rs view.own clear.one.of_file
     (none CreatedTwice (1, omega arith, refl)) (none TurnGap (5, omega arith, refl))
     (none StatusOrder (6, omega arith, refl))
-    (none EntryTwice (12, omega arith, refl)) (none LengthAhead (13, omega arith, refl))
-    (claims_right rs view.own clear.one.of_file clear.one.is_own (none ShareWrong (11, omega arith, refl)))
+    (none EntryTwice (13, omega arith, refl)) (none LengthAhead (14, omega arith, refl))
+    (claims_right rs view.own clear.one.of_file clear.one.is_own (none ShareWrong (12, omega arith, refl)))
 
 -- what the phases give is a trace without a cause, and the least lengths at which its tasks' credit is held
 pub clear_and_known : (view : SoundView) (order : List ℕ) (known : KnownView) → IsSoundView view

@@ -81,10 +81,10 @@ told_or_never f rs task turn = elim (told_below f rs task turn (length rs)) [
 -- ---- states in which a task cannot start
 
 -- no state, or one in which the task does not start
-abbrev CannotStart : Option State → Type 0
+abbrev pub CannotStart : Option State → Type 0
 CannotStart o = option_and_then start_state_of o ≡ None
 
-abbrev state_then : Nature → Option State → List (ℕ × Move) → Option State
+abbrev pub state_then : Nature → Option State → List (ℕ × Move) → Option State
 state_then nature o moves = fold (state_after nature) o moves
 
 started_cannot : (b : Bool) (o : Option State)
@@ -100,15 +100,16 @@ started_cannot true (Some state.Detached) = refl
 started_cannot true (Some state.Done) = refl
 
 -- a task that has started cannot start
-start_cannot : (nature : Nature) (o : Option State) (i : ℕ) → CannotStart (state_after nature o (i, Started))
+pub start_cannot : (nature : Nature) (o : Option State) (i : ℕ)
+    → CannotStart (state_after nature o (i, Started))
 start_cannot nature o i = started_cannot (may nature Started) o
 
-no_start : (b : Bool) (o : Option State) → CannotStart o
+pub no_start : (b : Bool) (o : Option State) → CannotStart o
     → cond b (option_and_then (λ s. move_state s Started) o) None ≡ None
 no_start true o cannot = cannot
 no_start false o cannot = refl
 
-abbrev suspends : Status → Bool
+abbrev pub suspends : Status → Bool
 suspends status.Yield = true
 suspends status.Switch = true
 suspends _ = false
@@ -123,7 +124,7 @@ kept_state status.Switch s on cannot = absurd (true≢false on)
 kept_state _ _ on cannot = refl
 
 -- nor can it after what does not suspend it
-stopped_cannot : (nature : Nature) (o : Option State) (i : ℕ) (how : Status) → suspends how ≡ false
+pub stopped_cannot : (nature : Nature) (o : Option State) (i : ℕ) (how : Status) → suspends how ≡ false
     → CannotStart o → CannotStart (state_after nature o (i, Stopped how))
 stopped_cannot nature o i how on cannot = by (may nature (Stopped how)) o cannot
   where
@@ -134,7 +135,7 @@ stopped_cannot nature o i how on cannot = by (may nature (Stopped how)) o cannot
     by true (Some s) cannot' = kept_state how s on cannot'
 
 -- after a move that is not allowed there is no state
-after_none : (nature : Nature) (moves : List (ℕ × Move)) → state_then nature None moves ≡ None
+pub after_none : (nature : Nature) (moves : List (ℕ × Move)) → state_then nature None moves ≡ None
 after_none nature [] = refl
 after_none nature (move ∷ moves) =
     ap (λ o. state_then nature o moves) (none (may nature move.1)) ∙ after_none nature moves
@@ -370,7 +371,7 @@ first_allowed rs task (suc n) free =
       not_allowed = none;
     }))
 
-all_allowed : (rs : List Record) (task : ℕ) → IsFreeOf rs StatusOrder
+pub all_allowed : (rs : List Record) (task : ℕ) → IsFreeOf rs StatusOrder
     → state_of (nature_of rs task) (all_moves_of rs task) ≢ None
 all_allowed rs task free =
     subst (λ l. state_of (nature_of rs task) l ≢ None)

@@ -1,5 +1,5 @@
 -- Two lists of records that say the same of all but turns show the same causes, but for those that are of
--- turns, of states and of orders.
+-- turns, of walks, of states and of orders.
 use Rattle.std.proofs.Common.{◌≡◌, ◌∙◌, ℕ, List, Bool, cond, refl, sym, ap, subst, arith, ◌+◌}
 use Rattle.std.specs.Prelude.{take, filter, is_some, Contains, ◌==◌, count_by}
 use Rattle.ompt_events.specs.declared.records.Record.{Record}
@@ -7,9 +7,9 @@ use Rattle.ompt_events.specs.declared.records.Body.{Body}
 use Rattle.ompt_events.specs.declared.cause.Cause.{Cause}
 use Rattle.ompt_events.specs.declared.cause.Cause.TheVariants.{SeqGap, CreatedTwice, Rootless, NotCurrent}
 use Rattle.ompt_events.specs.declared.cause.Cause.TheVariants.{Moved, TurnGap, StatusOrder, RegionOrder}
-use Rattle.ompt_events.specs.declared.cause.Cause.TheVariants.{TeamShort, NestedParallel, DepsPlace}
-use Rattle.ompt_events.specs.declared.cause.Cause.TheVariants.{ShareWrong, EntryTwice, LengthAhead}
-use Rattle.ompt_events.specs.declared.cause.Cause.TheVariants.{LengthBack, NoOrder, TargetTask}
+use Rattle.ompt_events.specs.declared.cause.Cause.TheVariants.{TeamShort, NestedParallel, RegionNesting}
+use Rattle.ompt_events.specs.declared.cause.Cause.TheVariants.{DepsPlace, ShareWrong, EntryTwice}
+use Rattle.ompt_events.specs.declared.cause.Cause.TheVariants.{LengthAhead, LengthBack, NoOrder, TargetTask}
 use Rattle.ompt_events.specs.Records.{made, created, forked, region_named, running, ended_root, started}
 use Rattle.ompt_events.specs.Records.{wait_completed, named, begun_initial, joined, dependences}
 use Rattle.ompt_events.specs.Records.{created_with_deps, finish, flags}
@@ -24,7 +24,8 @@ use Rattle.ompt_events.specs.Causes.{forked_inside, joined_inside, initial_insid
 use Rattle.ompt_events.specs.Causes.{AreFollowed, HasMisplacedDeps, stray, missing, RepeatsEntry, entries_in}
 use Rattle.ompt_events.specs.Causes.{IsAhead, entry, ledger_length, known_after, MakesTarget, seq_gap}
 use Rattle.ompt_events.specs.Causes.{created_twice, forked_twice, rootless, not_current, nested_parallel}
-use Rattle.ompt_events.specs.Causes.{deps_place, entry_twice, length_ahead, target_task}
+use Rattle.ompt_events.specs.Causes.{deps_place, entry_twice, length_ahead, target_task, region_nesting}
+use Rattle.ompt_events.specs.Causes.{HasBegun, IsMisnested, other_region, other_league}
 use Rattle.task_tree.specs.Renaming.{untold}
 use Rattle.task_tree.proofs.BlindLemmas.{blind_running, blind_begun_initial, blind_joined, blind_created}
 use Rattle.task_tree.proofs.BlindLemmas.{blind_dependences, blind_finish}
@@ -111,13 +112,12 @@ twin_rootless rs ss i twins (no_region parallel names none) =
 
 -- ---- the walk along a thread
 
-pub twin_walk : (rs ss : List Record) (thread : ℕ) → AreTwins rs ss → walk_of thread rs ≡ walk_of thread ss
-twin_walk rs ss thread twins =
-    twin_fold after_record (λ walk r. blind_walk walk r.body) at_start (filter on rs) (filter on ss)
-    (twins_filter on (λ r. refl) rs ss twins)
-  where
-    on : Record → Bool
-    on r = r.thread == thread
+-- each thread has the same walk before each record
+abbrev pub HaveSameWalks : List Record → List Record → Type 0
+HaveSameWalks rs ss = (thread n : ℕ) → walk_of thread (take n rs) ≡ walk_of thread (take n ss)
+
+pub same_walks_back : (rs ss : List Record) → HaveSameWalks rs ss → HaveSameWalks ss rs
+same_walks_back rs ss walks thread n = sym (walks thread n)
 
 twin_misfit : (rs ss : List Record) (walk : Walk) (b c : Body) → AreTwins rs ss → untold b ≡ untold c
     → Misfits rs walk b → Misfits ss walk c
@@ -133,14 +133,14 @@ twin_misfit rs ss walk b c twins same (other_parent task i parent completes crea
     (moved_creation (reordered (twin_renaming rs ss twins)) i parent task creates) apart
 
 -- the walk before the record and before its twin
-walk_before : (rs ss : List Record) (i : ℕ) (r s : Record) → AreTwins rs ss → blank r ≡ blank s
+pub walk_before : (rs ss : List Record) (i : ℕ) (r s : Record) → HaveSameWalks rs ss → blank r ≡ blank s
     → walk_of r.thread (take i rs) ≡ walk_of s.thread (take i ss)
-walk_before rs ss i r s twins same =
-    twin_walk (take i rs) (take i ss) r.thread (twins_take rs ss i twins)
-    ∙ ap (λ t. walk_of t (take i ss)) (ap (λ (q : Record). q.thread) same)
+walk_before rs ss i r s walks same =
+    walks r.thread i ∙ ap (λ t. walk_of t (take i ss)) (ap (λ (q : Record). q.thread) same)
 
-pub twin_misfits : (rs ss : List Record) (i : ℕ) → AreTwins rs ss → MisfitsAt rs i → MisfitsAt ss i
-twin_misfits rs ss i twins is =
+pub twin_misfits : (rs ss : List Record) (i : ℕ) → AreTwins rs ss → HaveSameWalks rs ss → MisfitsAt rs i
+    → MisfitsAt ss i
+twin_misfits rs ss i twins walks is =
     let r : Record = is.the_record in
     let other = twin_of rs ss i r twins is.stands in
     let s : Record = other.0 in
@@ -149,37 +149,20 @@ twin_misfits rs ss i twins is =
       the_record = s;
       stands = other.1;
       misfits =
-          subst P (walk_before rs ss i r s twins other.2)
+          subst P (walk_before rs ss i r s walks other.2)
           (twin_misfit rs ss (walk_of r.thread (take i rs)) r.body s.body twins (twin_body r s other.2)
           is.misfits);
     }
 
-twin_not_current : (rs ss : List Record) (i : ℕ) → AreTwins rs ss → IsNotCurrent rs i → IsNotCurrent ss i
-twin_not_current rs ss i twins is = record {
-  misfits = twin_misfits rs ss i twins is.misfits;
+pub twin_not_current : (rs ss : List Record) (i : ℕ) → AreTwins rs ss → HaveSameWalks rs ss
+    → HasCause rs i NotCurrent → HasCause ss i NotCurrent
+twin_not_current rs ss i twins walks (not_current is) = not_current (record {
+  misfits = twin_misfits rs ss i twins walks is.misfits;
   first =
       λ k below same there.
       is.first k below (twin_thread rs ss k twins ∙ same ∙ sym (twin_thread rs ss i twins))
-      (twin_misfits ss rs k (twins_back rs ss twins) there);
-}
-
-twin_walk_at : (rs ss : List Record) (i : ℕ) (walk : Walk) → AreTwins rs ss → IsWalkAt rs i walk
-    → IsWalkAt ss i walk
-twin_walk_at rs ss i walk twins (r, stands, is) =
-    let other = twin_of rs ss i r twins stands in
-    (other.0, other.1, is ∙ walk_before rs ss i r other.0 twins other.2)
-
-twin_nested : (rs ss : List Record) (i : ℕ) → AreTwins rs ss → IsNested rs i → IsNested ss i
-twin_nested rs ss i twins (forked_inside task parallel forks none) =
-    forked_inside task parallel (twin_says forked blind_forked (task, parallel) rs ss i twins forks)
-    (λ is. none (moved_initial (reordered (twin_renaming ss rs (twins_back rs ss twins))) task is))
-twin_nested rs ss i twins (joined_inside m walk outer joins stands innermost member) =
-    joined_inside m walk outer (twin_says joined blind_joined m rs ss i twins joins)
-    (twin_walk_at rs ss i walk twins stands) innermost
-    (moved_member (reordered (twin_renaming rs ss twins)) outer member)
-twin_nested rs ss i twins (initial_inside task walk begins stands some) =
-    initial_inside task walk (twin_says begun_initial blind_begun_initial task rs ss i twins begins)
-    (twin_walk_at rs ss i walk twins stands) some
+      (twin_misfits ss rs k (twins_back rs ss twins) (same_walks_back rs ss walks) there);
+})
 
 -- ---- dependences
 
@@ -242,21 +225,14 @@ twin_known rs ss i twins =
     (ap is_some (twin_at finish blind_finish rs ss i twins))
     ∙ ap (λ n. cond (is_some (at finish ss i)) (n + 1) n) (twin_seen rs ss i twins)
 
--- ---- target tasks
-
-twin_target : (rs ss : List Record) (i : ℕ) → AreTwins rs ss → MakesTarget rs i → MakesTarget ss i
-twin_target rs ss i twins (task, bits, makes, has, target) = (
-  task,
-  bits,
-  twin_says made blind_made task rs ss i twins makes,
-  twin_says flags blind_flags bits rs ss i twins has,
-  target,
-)
-
 -- ---- all of these
 
--- the cause is of what records say beside turns, and of no state or order
+-- the cause is of what records say beside turns, and of no walk, state or order
 abbrev pub IsBlindCause : Cause → Type 0
+IsBlindCause NotCurrent = ⊥
+IsBlindCause NestedParallel = ⊥
+IsBlindCause RegionNesting = ⊥
+IsBlindCause TargetTask = ⊥
 IsBlindCause Moved = ⊥
 IsBlindCause TurnGap = ⊥
 IsBlindCause StatusOrder = ⊥
@@ -272,16 +248,16 @@ twin_cause rs ss i CreatedTwice blind twins (created_twice is) =
 twin_cause rs ss i CreatedTwice blind twins (forked_twice is) =
     forked_twice (twin_forked_again rs ss i twins is)
 twin_cause rs ss i Rootless blind twins (rootless is) = rootless (twin_rootless rs ss i twins is)
-twin_cause rs ss i NotCurrent blind twins (not_current is) = not_current (twin_not_current rs ss i twins is)
 twin_cause rs ss i RegionOrder blind twins has = (renamed_order (twin_renaming rs ss twins) i).0 has
 twin_cause rs ss i TeamShort blind twins has = (renamed_short (twin_renaming rs ss twins) i).0 has
-twin_cause rs ss i NestedParallel blind twins (nested_parallel is) =
-    nested_parallel (twin_nested rs ss i twins is)
 twin_cause rs ss i DepsPlace blind twins (deps_place is) = deps_place (twin_misplaced rs ss i twins is)
 twin_cause rs ss i ShareWrong blind twins has = (renamed_share (twin_renaming rs ss twins) i).0 has
 twin_cause rs ss i EntryTwice blind twins (entry_twice is) = entry_twice (twin_repeats rs ss i twins is)
 twin_cause rs ss i LengthAhead blind twins (length_ahead is) = length_ahead (twin_ahead rs ss i twins is)
-twin_cause rs ss i TargetTask blind twins (target_task is) = target_task (twin_target rs ss i twins is)
+twin_cause rs ss i NotCurrent blind twins has = absurd blind
+twin_cause rs ss i NestedParallel blind twins has = absurd blind
+twin_cause rs ss i RegionNesting blind twins has = absurd blind
+twin_cause rs ss i TargetTask blind twins has = absurd blind
 twin_cause rs ss i Moved blind twins has = absurd blind
 twin_cause rs ss i TurnGap blind twins has = absurd blind
 twin_cause rs ss i StatusOrder blind twins has = absurd blind

@@ -1,26 +1,26 @@
--- Two lists of records that say the same of all but turns.
-use Rattle.std.proofs.Common.{◌≡◌, ◌∙◌, ℕ, ◌+◌, List, [], ◌∷◌, length, Option, Some, None, Bool, true, false}
-use Rattle.std.proofs.Common.{refl, sym, ap, arith, map, cond}
+-- Two lists of records that say the same of all but turns. What their versions say of nesting may differ.
+use Rattle.std.proofs.Common.{◌≡◌, ◌∙◌, ℕ, List, length, Option, Some, None, Bool, false}
+use Rattle.std.proofs.Common.{refl, sym, ap, arith}
 use Rattle.std.specs.Prelude.{slice_get, option_map, option_and_then, take, filter, fold, count_by, is_some}
 use Rattle.std.specs.List.{find}
 use Rattle.std.specs.Option.{option_map_or}
-use Rattle.std.proofs.lemmas.Bool.{true≢false, false≢true}
-use Rattle.std.proofs.lemmas.Option.{slice_get-map, none-some, same_Some}
-use Rattle.std.proofs.lemmas.List.{take-map, length-map}
+use Rattle.std.proofs.lemmas.Option.{none-some, same_Some}
 use Rattle.ompt_events.specs.declared.records.Record.{Record}
 use Rattle.ompt_events.specs.declared.records.Body.{Body}
 use Rattle.ompt_events.specs.declared.records.Body.TheVariants.{TaskSchedule}
 use Rattle.ompt_events.specs.Places.{at, thread_at, seen_at}
 use Rattle.task_tree.specs.Renaming.{untold, SayAlike, IsRenaming}
 use Rattle.task_tree.proofs.BlindLemmas.{IsBlind, blind_at}
+use Rattle.checker.proofs.MappedLemmas.{AreSameBy, IsUnchanged, get_by, read_by, long_by, take_by, filter_by}
+use Rattle.checker.proofs.MappedLemmas.{fold_by, count_same, found_by}
 
--- the record without turns
+-- the record without turns, and without what its version says of nesting
 abbrev pub blank : Record → Record
-blank r = record { thread = r.thread; seq = r.seq; seen = r.seen; body = untold r.body }
+blank r = record { thread = r.thread; nests = false; seq = r.seq; seen = r.seen; body = untold r.body }
 
--- the lists are the same without turns
+-- the lists are the same without these
 abbrev pub AreTwins : List Record → List Record → Type 0
-AreTwins rs ss = map blank rs ≡ map blank ss
+AreTwins rs ss = AreSameBy blank rs ss
 
 pub twins_back : (rs ss : List Record) → AreTwins rs ss → AreTwins ss rs
 twins_back rs ss twins = sym twins
@@ -29,19 +29,12 @@ twins_back rs ss twins = sym twins
 
 pub twin_get : (rs ss : List Record) (i : ℕ) → AreTwins rs ss
     → option_map blank (slice_get rs i) ≡ option_map blank (slice_get ss i)
-twin_get rs ss i twins =
-    sym (slice_get-map blank rs i) ∙ ap (λ l. slice_get l i) twins ∙ slice_get-map blank ss i
+twin_get rs ss i twins = get_by blank rs ss i twins
 
 -- what is read of a record whatever turns it tells is the same at each place
-pub twin_read : {X : Type 0} (f : Record → X) → ((r : Record) → f (blank r) ≡ f r)
-    → (rs ss : List Record) (i : ℕ) → AreTwins rs ss
-    → option_map f (slice_get rs i) ≡ option_map f (slice_get ss i)
-twin_read {X} f blind rs ss i twins =
-    sym (through (slice_get rs i)) ∙ ap (option_map f) (twin_get rs ss i twins) ∙ through (slice_get ss i)
-  where
-    through : (o : Option Record) → option_map f (option_map blank o) ≡ option_map f o
-    through None = refl
-    through (Some r) = ap Some (blind r)
+pub twin_read : {X : Type 0} (f : Record → X) → IsUnchanged blank f → (rs ss : List Record) (i : ℕ)
+    → AreTwins rs ss → option_map f (slice_get rs i) ≡ option_map f (slice_get ss i)
+twin_read f blind rs ss i twins = read_by blank f blind rs ss i twins
 
 pub twin_thread : (rs ss : List Record) (i : ℕ) → AreTwins rs ss → thread_at rs i ≡ thread_at ss i
 twin_thread rs ss i twins = twin_read (λ (r : Record). r.thread) (λ r. refl) rs ss i twins
@@ -100,62 +93,26 @@ twin_of rs ss i r twins stands = by (slice_get ss i) refl
 -- ---- lists
 
 pub twins_long : (rs ss : List Record) → AreTwins rs ss → length rs ≡ length ss
-twins_long rs ss twins = sym (length-map rs blank) ∙ ap length twins ∙ length-map ss blank
+twins_long rs ss twins = long_by blank rs ss twins
 
 pub twins_take : (rs ss : List Record) (n : ℕ) → AreTwins rs ss → AreTwins (take n rs) (take n ss)
-twins_take rs ss n twins = sym (take-map blank n rs) ∙ ap (take n) twins ∙ take-map blank n ss
+twins_take rs ss n twins = take_by blank rs ss n twins
 
-kept_blank : (here there : Bool) (r : Record) (kept passed : List Record) → here ≡ there
-    → kept ≡ map blank passed → cond here (blank r ∷ kept) kept ≡ map blank (cond there (r ∷ passed) passed)
-kept_blank true true r kept passed same rest = ap (λ l. blank r ∷ l) rest
-kept_blank false false r kept passed same rest = rest
-kept_blank true false r kept passed same rest = absurd (true≢false same)
-kept_blank false true r kept passed same rest = absurd (false≢true same)
+pub twins_filter : (p : Record → Bool) → IsUnchanged blank p → (rs ss : List Record) → AreTwins rs ss
+    → AreTwins (filter p rs) (filter p ss)
+twins_filter p blind rs ss twins = filter_by blank p blind rs ss twins
 
-filter_blank : (p : Record → Bool) → ((r : Record) → p (blank r) ≡ p r) → (rs : List Record)
-    → filter p (map blank rs) ≡ map blank (filter p rs)
-filter_blank p blind [] = refl
-filter_blank p blind (r ∷ rs) =
-    kept_blank (p (blank r)) (p r) r (filter p (map blank rs)) (filter p rs) (blind r)
-    (filter_blank p blind rs)
+pub twin_fold : {X : Type 0} (f : X → Record → X) → ((x : X) → IsUnchanged blank (f x)) → (x : X)
+    → (rs ss : List Record) → AreTwins rs ss → fold f x rs ≡ fold f x ss
+twin_fold f blind x rs ss twins = fold_by blank f blind x rs ss twins
 
-pub twins_filter : (p : Record → Bool) → ((r : Record) → p (blank r) ≡ p r) → (rs ss : List Record)
-    → AreTwins rs ss → AreTwins (filter p rs) (filter p ss)
-twins_filter p blind rs ss twins =
-    sym (filter_blank p blind rs) ∙ ap (filter p) twins ∙ filter_blank p blind ss
+pub twin_count : (p : Record → Bool) → IsUnchanged blank p → (rs ss : List Record) → AreTwins rs ss
+    → count_by p rs ≡ count_by p ss
+twin_count p blind rs ss twins = count_same blank p blind rs ss twins
 
-fold_blank : {X : Type 0} (f : X → Record → X) → ((x : X) (r : Record) → f x (blank r) ≡ f x r)
-    → (x : X) (rs : List Record) → fold f x (map blank rs) ≡ fold f x rs
-fold_blank f blind x [] = refl
-fold_blank f blind x (r ∷ rs) = ap (λ y. fold f y (map blank rs)) (blind x r) ∙ fold_blank f blind (f x r) rs
-
-pub twin_fold : {X : Type 0} (f : X → Record → X) → ((x : X) (r : Record) → f x (blank r) ≡ f x r)
-    → (x : X) (rs ss : List Record) → AreTwins rs ss → fold f x rs ≡ fold f x ss
-twin_fold f blind x rs ss twins =
-    sym (fold_blank f blind x rs) ∙ ap (fold f x) twins ∙ fold_blank f blind x ss
-
-pub twin_count : (p : Record → Bool) → ((r : Record) → p (blank r) ≡ p r) → (rs ss : List Record)
-    → AreTwins rs ss → count_by p rs ≡ count_by p ss
-twin_count p blind rs ss twins =
-    twin_fold (λ (n : ℕ) r. n + cond (p r) 1 0) (λ n r. ap (λ b. n + cond b 1 0) (blind r)) 0 rs ss twins
-
-found_blank : (p : Record → Bool) → ((r : Record) → p (blank r) ≡ p r) → (rs : List Record)
-    → is_some (find p (map blank rs)) ≡ is_some (find p rs)
-found_blank p blind [] = refl
-found_blank p blind (r ∷ rs) = by (p (blank r)) (p r) (blind r) (found_blank p blind rs)
-  where
-    by : (here there : Bool) → here ≡ there → is_some (find p (map blank rs)) ≡ is_some (find p rs)
-        → is_some (cond here (Some (blank r)) (find p (map blank rs)))
-        ≡ is_some (cond there (Some r) (find p rs))
-    by true true same rest = refl
-    by false false same rest = rest
-    by true false same rest = absurd (true≢false same)
-    by false true same rest = absurd (false≢true same)
-
-pub twin_found : (p : Record → Bool) → ((r : Record) → p (blank r) ≡ p r) → (rs ss : List Record)
-    → AreTwins rs ss → is_some (find p rs) ≡ is_some (find p ss)
-twin_found p blind rs ss twins =
-    sym (found_blank p blind rs) ∙ ap (λ l. is_some (find p l)) twins ∙ found_blank p blind ss
+pub twin_found : (p : Record → Bool) → IsUnchanged blank p → (rs ss : List Record) → AreTwins rs ss
+    → is_some (find p rs) ≡ is_some (find p ss)
+twin_found p blind rs ss twins = found_by blank p blind rs ss twins
 
 -- ---- what is read of records
 

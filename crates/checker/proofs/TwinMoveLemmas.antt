@@ -23,18 +23,18 @@ use Rattle.checker.proofs.TwinLemmas.{AreTwins, blank, twins_long, twin_found, t
 
 -- ---- lists that are read at each place
 
-filter_same : (p q : ℕ → Bool) → ((i : ℕ) → p i ≡ q i) → (is : List ℕ) → filter p is ≡ filter q is
+pub filter_same : (p q : ℕ → Bool) → ((i : ℕ) → p i ≡ q i) → (is : List ℕ) → filter p is ≡ filter q is
 filter_same p q same [] = refl
 filter_same p q same (i ∷ is) =
     ap (λ l. cond (p i) (i ∷ l) l) (filter_same p q same is)
     ∙ ap (λ b. cond b (i ∷ filter q is) (filter q is)) (same i)
 
-find_same : (p q : ℕ → Bool) → ((i : ℕ) → p i ≡ q i) → (is : List ℕ) → find p is ≡ find q is
+pub find_same : (p q : ℕ → Bool) → ((i : ℕ) → p i ≡ q i) → (is : List ℕ) → find p is ≡ find q is
 find_same p q same [] = refl
 find_same p q same (i ∷ is) =
     ap (λ o. cond (p i) (Some i) o) (find_same p q same is) ∙ ap (λ b. cond b (Some i) (find q is)) (same i)
 
-flat_same : {X : Type 0} (f g : ℕ → List X) → ((i : ℕ) → f i ≡ g i) → (is : List ℕ)
+pub flat_same : {X : Type 0} (f g : ℕ → List X) → ((i : ℕ) → f i ≡ g i) → (is : List ℕ)
     → flat_map f is ≡ flat_map g is
 flat_same f g same [] = refl
 flat_same f g same (i ∷ is) =
@@ -85,7 +85,7 @@ twin_home rs ss task twins =
     ∙ ap (λ o. cond (is_some (begun_on ss task)) (begun_on ss task) o)
     (thread_found started blind_started rs ss task twins)
 
-twin_on : (rs ss : List Record) (task i : ℕ) → AreTwins rs ss
+pub twin_on : (rs ss : List Record) (task i : ℕ) → AreTwins rs ss
     → is_on rs (home_of rs task) i ≡ is_on ss (home_of ss task) i
 twin_on rs ss task i twins =
     ap (λ home. is_on rs home i) (twin_home rs ss task twins)
@@ -95,7 +95,7 @@ twin_on rs ss task i twins =
 -- ---- its moves
 
 -- what is read of a record by its body is the same where that does not ask for turns
-read_same : {X : Type 0} (f : Body → X) (none : X) → IsBlind f → (rs ss : List Record) (i : ℕ)
+pub read_same : {X : Type 0} (f : Body → X) (none : X) → IsBlind f → (rs ss : List Record) (i : ℕ)
     → AreTwins rs ss
     → option_map_or (λ (r : Record). f r.body) (slice_get rs i) none
     ≡ option_map_or (λ (r : Record). f r.body) (slice_get ss i) none
@@ -131,7 +131,8 @@ twin_early rs ss task i twins =
         said (TaskSchedule EarlyFulfill turns prior next claimed) = refl
         said _ = refl
 
-twin_moves_at : (rs ss : List Record) (task i : ℕ) → AreTwins rs ss → moves_at rs task i ≡ moves_at ss task i
+pub twin_moves_at : (rs ss : List Record) (task i : ℕ) → AreTwins rs ss
+    → moves_at rs task i ≡ moves_at ss task i
 twin_moves_at rs ss task i twins =
     ap (map (λ move. (i, move))) (read_same (moves_by task) [] (blind_moves task) rs ss i twins)
 
@@ -161,22 +162,28 @@ twin_places_of rs ss task twins =
     ap2 : (f : Bool → Bool → Bool) {a b c d : Bool} → a ≡ b → c ≡ d → f a c ≡ f b d
     ap2 f {a} {b} {c} {d} one other = ap (λ x. f x c) one ∙ ap (f b) other
 
--- where the task has not moved in either
+-- the moves of a task by its home
+pub twin_moves_of : (rs ss : List Record) (task : ℕ) → AreTwins rs ss → moves_of rs task ≡ moves_of ss task
+twin_moves_of rs ss task twins =
+    ap (λ l. flat_map (moves_at rs task) l) (twin_places_of rs ss task twins)
+    ∙ flat_same (moves_at rs task) (moves_at ss task) (λ i. twin_moves_at rs ss task i twins)
+    (places_of ss task)
+
+-- all its moves, where it has not moved in either
 twin_moves : (rs ss : List Record) (task : ℕ) → AreTwins rs ss → has_moved rs task ≡ false
     → has_moved ss task ≡ false → all_moves_of rs task ≡ all_moves_of ss task
 twin_moves rs ss task twins still at_home =
     ap (λ b. cond b (moved_moves rs task) (moves_of rs task)) still
-    ∙ ap (λ l. flat_map (moves_at rs task) l) (twin_places_of rs ss task twins)
-    ∙ flat_same (moves_at rs task) (moves_at ss task) (λ i. twin_moves_at rs ss task i twins)
-    (places_of ss task)
+    ∙ twin_moves_of rs ss task twins
     ∙ sym (ap (λ b. cond b (moved_moves ss task) (moves_of ss task)) at_home)
 
-pub twin_states : (rs ss : List Record) (i : ℕ) → AreTwins rs ss → ((task : ℕ) → has_moved rs task ≡ false)
-    → ((task : ℕ) → has_moved ss task ≡ false) → HasCause rs i StatusOrder → HasCause ss i StatusOrder
-twin_states rs ss i twins still at_home (status_order is) =
+-- the cause of states, where all moves of each task are the same
+pub same_states : (rs ss : List Record) (i : ℕ) → AreTwins rs ss
+    → ((task : ℕ) → all_moves_of rs task ≡ all_moves_of ss task) → HasCause rs i StatusOrder
+    → HasCause ss i StatusOrder
+same_states rs ss i twins all (status_order is) =
     let nature : nature_of rs is.task ≡ nature_of ss is.task = twin_nature rs ss is.task twins in
-    let moves : all_moves_of rs is.task ≡ all_moves_of ss is.task =
-    twin_moves rs ss is.task twins (still is.task) (at_home is.task) in
+    let moves : all_moves_of rs is.task ≡ all_moves_of ss is.task = all is.task in
     status_order (record {
       task = is.task;
       number = is.number;
@@ -193,3 +200,8 @@ twin_states rs ss i twins still at_home (status_order is) =
           ∙ ap (λ l. state_of (nature_of ss is.task) (take (is.number + 1) l)) moves)
           ∙ is.not_allowed;
     })
+
+pub twin_states : (rs ss : List Record) (i : ℕ) → AreTwins rs ss → ((task : ℕ) → has_moved rs task ≡ false)
+    → ((task : ℕ) → has_moved ss task ≡ false) → HasCause rs i StatusOrder → HasCause ss i StatusOrder
+twin_states rs ss i twins still at_home has =
+    same_states rs ss i twins (λ task. twin_moves rs ss task twins (still task) (at_home task)) has

@@ -1,6 +1,6 @@
 -- Two lists of records that say the same of all but turns have the same steps and orders, and the same tasks
--- are complete at each record, where the same records start tasks and a resumption is in file order on one
--- thread.
+-- are complete at each record, where the same records start tasks and a resumption in one is a step of the
+-- other.
 use Rattle.std.proofs.Common.{◌≡◌, ◌∙◌, ℕ, ◌<◌, List, [], ◌∷◌, length, sym, subst, arith, inl, inr}
 use Rattle.std.specs.Prelude.{◌↔◌, ⊤, take, slice_index, ◌++◌}
 use Rattle.std.specs.List.Sorted.{IsPermutation}
@@ -35,11 +35,11 @@ pub record IsLaterThere (rs : List Record) (a b : ℕ) : Type 0 where
   pub same_thread : thread_at rs a ≡ thread_at rs b
 
 -- the twin starts the same explicit tasks at the same records, and where one of these records resumes a
--- task, that is later on the same thread
+-- task, that is a step of the twin too
 pub record KeepsSteps (rs ss : List Record) : Type 0 where
   pub twins : AreTwins rs ss
   pub starts : (i task : ℕ) → IsExplicit rs task → IsStart rs i task → IsStart ss i task
-  pub resumes : (a b : ℕ) → IsResumption rs a b → IsLaterThere rs a b
+  pub resumes : (a b : ℕ) → IsResumption rs a b → IsProgramStep ss a b
 
 -- both ways
 pub record HaveSameSteps (rs ss : List Record) : Type 0 where
@@ -51,7 +51,7 @@ same_steps_back rs ss same = record { there = same.back; back = same.there }
 
 -- ---- steps
 
-later_step : (rs ss : List Record) (a b : ℕ) → AreTwins rs ss → IsLaterThere rs a b → IsProgramStep ss a b
+pub later_step : (rs ss : List Record) (a b : ℕ) → AreTwins rs ss → IsLaterThere rs a b → IsProgramStep ss a b
 later_step rs ss a b twins is =
     thread_order is.later (let long = twins_long rs ss twins in let inside = is.within in omega arith)
     (sym (twin_thread rs ss a twins) ∙ is.same_thread ∙ twin_thread rs ss b twins)
@@ -63,7 +63,7 @@ kept_program rs ss a b keeps (thread_order later within same) =
 kept_program rs ss a b keeps (creation task creates starts) =
     creation task (twin_says created blind_created task rs ss a keeps.twins creates)
     (keeps.starts b task (a, creates) starts)
-kept_program rs ss a b keeps (resumption is) = later_step rs ss a b keeps.twins (keeps.resumes a b is)
+kept_program rs ss a b keeps (resumption is) = keeps.resumes a b is
 kept_program rs ss a b keeps (discard task creates discards) =
     discard task (twin_says created blind_created task rs ss a keeps.twins creates)
     (twin_says discarded blind_discarded task rs ss b keeps.twins discards)

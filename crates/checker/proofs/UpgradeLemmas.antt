@@ -29,7 +29,8 @@ use Rattle.task_tree.specs.Renaming.{untold}
 use Rattle.task_states.proofs.OriginLemmas.{found_some, found_passes}
 use Rattle.task_tree.proofs.BlindLemmas.{blind_begun_root}
 use Rattle.checker.proofs.BlindBodyLemmas.{blind_started}
-use Rattle.checker.proofs.TwinLemmas.{AreTwins, blank, twin_says, twin_thread, twins_back}
+use Rattle.checker.proofs.TwinLemmas.{AreTwins, blank, twin_of, twin_says, twin_thread, twins_back}
+use Rattle.checker.proofs.FlatTwinLemmas.{AreFlat, AreFlatTwins}
 
 -- ---- all but turns
 
@@ -65,7 +66,8 @@ upgrade_twins rs ss upgrade =
       | inl (r, within, stands, read) ↦
           ap (option_map blank) stands
           ∙ sym
-          (ap (λ b. Some (record { thread = r.thread; seq = r.seq; seen = r.seen; body = b }))
+          (ap
+          (λ b. Some (record { thread = r.thread; nests = false; seq = r.seq; seen = r.seen; body = b }))
           (untold_upgraded rs ss i r.body))
           ∙ sym (ap (option_map blank) (upgrade.each i r stands))
       | inr (past, none) ↦
@@ -379,3 +381,23 @@ stays_unmoved rs ss i twins still (moved (task, k, explicit, starts, below, befo
       next_before = twin_says started blind_started task ss rs k (twins_back rs ss twins) before;
       elsewhere = λ same. elsewhere (sym (twin_thread rs ss k twins) ∙ same ∙ twin_thread rs ss i twins);
     })
+
+-- where no record lets regions lie inside others, none of the upgraded trace does
+pub upgrade_flat : (rs ss : List Record) → IsUpgrade rs ss → AreFlat rs → AreFlatTwins rs ss
+upgrade_flat rs ss upgrade flat = record { twins = twins; flat = flat; is_flat = other }
+  where
+    twins : AreTwins rs ss
+    twins = upgrade_twins rs ss upgrade
+
+    other : AreFlat ss
+    other i s stands =
+        let (r, there, alike) = twin_of ss rs i s (twins_back rs ss twins) stands in
+        let upgraded : Record = record {
+          thread = r.thread;
+          nests = r.nests;
+          seq = r.seq;
+          seen = r.seen;
+          body = body_upgraded rs ss i r.body;
+        } in
+        ap (λ (q : Record). q.nests) (same_Some s upgraded (sym stands ∙ upgrade.each i r there))
+        ∙ flat i r there

@@ -34,7 +34,7 @@ use Rattle.task_states.proofs.OriginLemmas.{found_some, found_passes, root_home,
 use Rattle.task_states.proofs.HomeLemmas.{has_not_moved, on_thread}
 use Rattle.checker.proofs.BlindBodyLemmas.{blind_suspended}
 use Rattle.checker.proofs.TwinLemmas.{AreTwins, twins_back, twin_says, twin_thread}
-use Rattle.checker.proofs.TwinStepLemmas.{IsLaterThere, HaveSameSteps}
+use Rattle.checker.proofs.TwinStepLemmas.{IsLaterThere, HaveSameSteps, later_step}
 use Rattle.checker.proofs.UpgradeLemmas.{upgrade_twins, counted_later, first_counted, starts_telling}
 use Rattle.checker.proofs.UpgradeLemmas.{begins_counted}
 use Rattle.checker.proofs.UpgradeWalkLemmas.{StaysAtHome, root_from, begun_once, one_home, runs_home}
@@ -355,6 +355,9 @@ upgrade_steps rs ss known = record {
   back = record {
     twins = twins_back rs ss (still_twins rs ss known);
     starts = λ i task explicit start. back_starts rs ss i task known start;
-    resumes = λ a b again. resumes_later rs ss a b known again;
+    resumes =
+        λ a b again.
+        later_step ss rs a b (twins_back rs ss (still_twins rs ss known))
+        (resumes_later rs ss a b known again);
   };
 }

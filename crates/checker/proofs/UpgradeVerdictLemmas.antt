@@ -1,11 +1,13 @@
 -- An upgraded trace has the verdict of the trace that it was made of, and the same counter orders.
-use Rattle.std.proofs.Common.{◌∙◌, ℕ, ◌<◌, ◌≤◌, List, Option, Some, None, refl, sym, arith, inl, inr}
+use Rattle.std.proofs.Common.{◌≡◌, ◌∙◌, ℕ, ◌<◌, ◌≤◌, false, List, Option, Some, None, refl, sym, arith}
+use Rattle.std.proofs.Common.{inl, inr}
 use Rattle.std.proofs.lemmas.Bool.{cases_lt}
 use Rattle.ompt_events.specs.declared.records.Record.{Record}
 use Rattle.ompt_events.specs.declared.cause.Cause.{Cause}
 use Rattle.ompt_events.specs.declared.cause.Cause.TheVariants.{SeqGap, CreatedTwice, Rootless, NotCurrent}
 use Rattle.ompt_events.specs.declared.cause.Cause.TheVariants.{Moved, TurnGap, StatusOrder, RegionOrder}
-use Rattle.ompt_events.specs.declared.cause.Cause.TheVariants.{TeamShort, NestedParallel, DepsPlace}
+use Rattle.ompt_events.specs.declared.cause.Cause.TheVariants.{TeamShort, NestedParallel, RegionNesting}
+use Rattle.ompt_events.specs.declared.cause.Cause.TheVariants.{DepsPlace}
 use Rattle.ompt_events.specs.declared.cause.Cause.TheVariants.{ShareWrong, EntryTwice, LengthAhead}
 use Rattle.ompt_events.specs.declared.cause.Cause.TheVariants.{LengthBack, NoOrder, TargetTask}
 use Rattle.ompt_events.specs.CauseNames.{cause_number}
@@ -14,6 +16,7 @@ use Rattle.ompt_events.specs.Turns.{TellsNoTurns}
 use Rattle.ompt_events.specs.Traces.{IsTraceOf}
 use Rattle.ompt_events.specs.Causes.{HasCause, Shows, IsFreeOf, turn_gap}
 use Rattle.ompt_events.specs.Upgrades.{MovesNowhere, IsUpgrade}
+use Rattle.ompt_events.proofs.ListLemmas.{all_get}
 use Rattle.ompt_events.proofs.TurnLemmas.{first_version_tells_none, free_of_gaps}
 use Rattle.task_tree.proofs.BlindLemmas.{blind_created}
 use Rattle.task_tree.proofs.RenamingLemmas.{renamed_covers, renamed_predecessor}
@@ -25,11 +28,12 @@ use Rattle.checker.specs.Counter.{IsCounterBy}
 use Rattle.checker.proofs.BlindBodyLemmas.{blind_started, blind_wait_completed}
 use Rattle.checker.proofs.TwinLemmas.{AreTwins, twins_back, twins_long, twin_says, twin_thread, twin_renaming}
 use Rattle.checker.proofs.TwinCauseLemmas.{twin_cause}
+use Rattle.checker.proofs.FlatTwinLemmas.{AreFlatTwins, flat_twins_back, flat_cause}
 use Rattle.checker.proofs.TwinMoveLemmas.{twin_states}
 use Rattle.checker.proofs.TwinStepLemmas.{HaveSameSteps, same_steps_back, kept_order, kept_greedy}
 use Rattle.checker.proofs.TwinStepLemmas.{kept_earliest, kept_behind, kept_no_order, kept_explicit}
 use Rattle.checker.proofs.TwinStepLemmas.{kept_complete_at, kept_complete_in}
-use Rattle.checker.proofs.UpgradeLemmas.{upgrade_twins, upgrade_gapless, stays_unmoved}
+use Rattle.checker.proofs.UpgradeLemmas.{upgrade_flat, upgrade_gapless, stays_unmoved}
 use Rattle.checker.proofs.UpgradeWalkLemmas.{StaysAtHome}
 use Rattle.checker.proofs.UpgradeTurnLemmas.{IsStillUpgrade, upgrade_steps, upgrade_rises, none_has_moved}
 use Rattle.checker.proofs.ReadingLemmas.{AreAlike, StartsExplicit, alike_back, alike_verdict, alike_counter}
@@ -40,6 +44,7 @@ use Rattle.checker.proofs.ReadingLemmas.{rising_alike, first_version_alike}
 -- the two traces have the same steps, in neither a task is elsewhere than at home, and no turns have a gap
 record AreSameRuns (rs ss : List Record) : Type 0 where
   steps : HaveSameSteps rs ss
+  flat : AreFlatTwins rs ss
   stays : StaysAtHome rs
   stay : StaysAtHome ss
   gapless : IsFreeOf rs TurnGap
@@ -48,6 +53,7 @@ record AreSameRuns (rs ss : List Record) : Type 0 where
 same_runs_back : (rs ss : List Record) → AreSameRuns rs ss → AreSameRuns ss rs
 same_runs_back rs ss same = record {
   steps = same_steps_back rs ss same.steps;
+  flat = flat_twins_back rs ss same.flat;
   stays = same.stay;
   stay = same.stays;
   gapless = same.no_gaps;
@@ -67,15 +73,16 @@ same_cause rs ss i NoOrder same has = kept_no_order rs ss i same.steps has
 same_cause rs ss i SeqGap same has = twin_cause rs ss i SeqGap tt same.steps.there.twins has
 same_cause rs ss i CreatedTwice same has = twin_cause rs ss i CreatedTwice tt same.steps.there.twins has
 same_cause rs ss i Rootless same has = twin_cause rs ss i Rootless tt same.steps.there.twins has
-same_cause rs ss i NotCurrent same has = twin_cause rs ss i NotCurrent tt same.steps.there.twins has
+same_cause rs ss i NotCurrent same has = flat_cause rs ss i NotCurrent tt same.flat has
 same_cause rs ss i RegionOrder same has = twin_cause rs ss i RegionOrder tt same.steps.there.twins has
 same_cause rs ss i TeamShort same has = twin_cause rs ss i TeamShort tt same.steps.there.twins has
-same_cause rs ss i NestedParallel same has = twin_cause rs ss i NestedParallel tt same.steps.there.twins has
+same_cause rs ss i NestedParallel same has = flat_cause rs ss i NestedParallel tt same.flat has
+same_cause rs ss i RegionNesting same has = flat_cause rs ss i RegionNesting tt same.flat has
 same_cause rs ss i DepsPlace same has = twin_cause rs ss i DepsPlace tt same.steps.there.twins has
 same_cause rs ss i ShareWrong same has = twin_cause rs ss i ShareWrong tt same.steps.there.twins has
 same_cause rs ss i EntryTwice same has = twin_cause rs ss i EntryTwice tt same.steps.there.twins has
 same_cause rs ss i LengthAhead same has = twin_cause rs ss i LengthAhead tt same.steps.there.twins has
-same_cause rs ss i TargetTask same has = twin_cause rs ss i TargetTask tt same.steps.there.twins has
+same_cause rs ss i TargetTask same has = flat_cause rs ss i TargetTask tt same.flat has
 
 starts_same : (rs ss : List Record) (i task : ℕ) → HaveSameSteps rs ss → StartsExplicit rs i task
     → StartsExplicit ss i task
@@ -126,24 +133,26 @@ pub record IsUpgradeOfFirst (rs ss : List Record) : Type 0 where
   pub still : MovesNowhere rs
   pub upgrade : IsUpgrade rs ss
 
-first_twins : (rs ss : List Record) → IsUpgradeOfFirst rs ss → AreTwins rs ss
-first_twins rs ss known = upgrade_twins rs ss known.upgrade
+first_twins : (rs ss : List Record) → IsUpgradeOfFirst rs ss → AreFlatTwins rs ss
+first_twins rs ss known =
+    upgrade_flat rs ss known.upgrade
+    (λ i r stands. all_get (λ (q : Record). q.nests ≡ false) rs i r known.trace.nesting stands)
 
 -- a cause with a number below 5 is shown in file order, and of what records say beside turns
-low_shown : (rs ss : List Record) (i : ℕ) (cause : Cause) → AreTwins rs ss → cause_number cause < 5
+low_shown : (rs ss : List Record) (i : ℕ) (cause : Cause) → AreFlatTwins rs ss → cause_number cause < 5
     → Shows rs i cause → Shows ss i cause
-low_shown rs ss i SeqGap twins low has = twin_cause rs ss i SeqGap tt twins has
-low_shown rs ss i CreatedTwice twins low has = twin_cause rs ss i CreatedTwice tt twins has
-low_shown rs ss i Rootless twins low has = twin_cause rs ss i Rootless tt twins has
-low_shown rs ss i NotCurrent twins low has = twin_cause rs ss i NotCurrent tt twins has
+low_shown rs ss i SeqGap twins low has = twin_cause rs ss i SeqGap tt twins.twins has
+low_shown rs ss i CreatedTwice twins low has = twin_cause rs ss i CreatedTwice tt twins.twins has
+low_shown rs ss i Rootless twins low has = twin_cause rs ss i Rootless tt twins.twins has
+low_shown rs ss i NotCurrent twins low has = flat_cause rs ss i NotCurrent tt twins has
 low_shown rs ss i _ twins low has = absurd (omega (arith, low))
 
-low_least : (rs ss : List Record) (i : ℕ) (cause : Cause) → AreTwins rs ss → cause_number cause < 5
+low_least : (rs ss : List Record) (i : ℕ) (cause : Cause) → AreFlatTwins rs ss → cause_number cause < 5
     → IsLeastShown (by_task rs) i cause → IsLeastShown (by_task ss) i cause
 low_least rs ss i cause twins low is =
-    let back : AreTwins ss rs = twins_back rs ss twins in
+    let back : AreFlatTwins ss rs = flat_twins_back rs ss twins in
     record {
-      within = let inside = is.within in let long = twins_long rs ss twins in omega arith;
+      within = let inside = is.within in let long = twins_long rs ss twins.twins in omega arith;
       shown = low_shown rs ss i cause twins low is.shown;
       first = λ k below shown. is.first k below (low_shown ss rs k cause back low shown);
       least =
@@ -155,9 +164,9 @@ low_least rs ss i cause twins low is =
 abbrev IsClearBelow : List Record → Type 0
 IsClearBelow rs = (i : ℕ) (cause : Cause) → cause_number cause < 5 → Shows rs i cause → ⊥
 
-clear_twin : (rs ss : List Record) → AreTwins rs ss → IsClearBelow rs → IsClearBelow ss
+clear_twin : (rs ss : List Record) → AreFlatTwins rs ss → IsClearBelow rs → IsClearBelow ss
 clear_twin rs ss twins clear i cause low shown =
-    clear i cause low (low_shown ss rs i cause (twins_back rs ss twins) low shown)
+    clear i cause low (low_shown ss rs i cause (flat_twins_back rs ss twins) low shown)
 
 still_twin : (rs ss : List Record) → AreTwins rs ss → MovesNowhere rs → MovesNowhere ss
 still_twin rs ss twins still i moves = still i (record {
@@ -198,8 +207,9 @@ clear_runs rs ss known clear =
       still,
       record {
         steps = upgrade_steps rs ss still;
+        flat = twins;
         stays = stays;
-        stay = clear_stays ss (still_twin rs ss twins known.still) (clear_twin rs ss twins clear);
+        stay = clear_stays ss (still_twin rs ss twins.twins known.still) (clear_twin rs ss twins clear);
         gapless = free_of_gaps rs untold;
         no_gaps = λ i has. no_gap rs ss i untold known.upgrade has;
       },
@@ -256,7 +266,7 @@ kept_verdict rs ss (Malformed i cause) known is = elim (cases_lt (cause_number c
 
 -- the other way round: what the upgraded trace does not show the old one does not
 clear_back : (rs ss : List Record) → IsUpgradeOfFirst rs ss → IsClearBelow ss → IsClearBelow rs
-clear_back rs ss known clear = clear_twin ss rs (twins_back rs ss (first_twins rs ss known)) clear
+clear_back rs ss known clear = clear_twin ss rs (flat_twins_back rs ss (first_twins rs ss known)) clear
 
 pub given_verdict : (rs ss : List Record) (verdict : Verdict) → IsUpgradeOfFirst rs ss → IsVerdict ss verdict
     → IsVerdict rs verdict
@@ -267,7 +277,7 @@ given_verdict rs ss (No i why) known is =
     back_verdict rs ss (No i why)
     (clear_alike rs ss known (clear_back rs ss known (none_below ss is.well_formed))) is
 given_verdict rs ss (Malformed i cause) known is = elim (cases_lt (cause_number cause) 5) [
-  | inl low ↦ low_least ss rs i cause (twins_back rs ss (first_twins rs ss known)) low is
+  | inl low ↦ low_least ss rs i cause (flat_twins_back rs ss (first_twins rs ss known)) low is
   | inr high ↦
       back_verdict rs ss (Malformed i cause)
       (clear_alike rs ss known (clear_back rs ss known (least_below ss i cause high is))) is

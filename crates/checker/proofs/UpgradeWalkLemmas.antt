@@ -1,7 +1,8 @@
 -- Where no record speaks for a task that its thread does not run, a task runs on the thread on which it
 -- began or ran next; so where no task moves, on one thread alone.
-use Rattle.std.proofs.Common.{◌≡◌, ◌≢◌, ◌∙◌, ℕ, ◌<◌, ◌+◌, List, [], ◌∷◌, ◌++◌, Option, Some, None, Bool, true}
-use Rattle.std.proofs.Common.{false, refl, sym, ap, subst, arith, inl, inr, ◌⊎◌}
+use Rattle.std.proofs.Common.{◌≡◌, ◌≢◌, ◌∙◌, ℕ, zero, suc, ◌<◌, ◌+◌, List, [], ◌∷◌, ◌++◌, Option, Some}
+use Rattle.std.proofs.Common.{None}
+use Rattle.std.proofs.Common.{get_or, drop, Bool, true, false, refl, sym, ap, subst, arith, inl, inr, ◌⊎◌}
 use Rattle.std.proofs.lemmas.Bool.{cases_eq, cases_order}
 use Rattle.std.proofs.lemmas.Option.{none-some, same_Some}
 use Rattle.std.proofs.lemmas.List.Sums.{fold_push}
@@ -15,7 +16,8 @@ use Rattle.ompt_events.specs.Names.{demands_next}
 use Rattle.ompt_events.specs.Records.{running, started, begun_root}
 use Rattle.ompt_events.specs.Places.{at, thread_at}
 use Rattle.ompt_events.specs.Tree.{IsRoot}
-use Rattle.ompt_events.specs.Threads.{Walk, at_start, after_body, after_record, walk_of, other_root}
+use Rattle.ompt_events.specs.Threads.{Walk, at_start, uncovered, after_body, after_record, walk_of}
+use Rattle.ompt_events.specs.Threads.{other_root}
 use Rattle.ompt_events.specs.Causes.{IsFreeOf}
 use Rattle.ompt_events.specs.Upgrades.{MovesNowhere}
 use Rattle.ompt_events.proofs.EveryLemmas.{Every, every_weaker, every_get, every_rest}
@@ -33,10 +35,15 @@ abbrev pub RanOnThread : List Record → ℕ → ℕ → ℕ → Type 0
 RanOnThread rs thread n task =
     (k : ℕ) × (k < n) × (at started rs k ≡ Some task) × (thread_at rs k ≡ Some thread)
 
--- the open roots of the walk began so, and so did the task that runs, or it ran next
+abbrev WasOn : List Record → ℕ → ℕ → ℕ → Type 0
+WasOn rs thread n task = BeganOn rs thread n task ⊎ RanOnThread rs thread n task
+
+-- the open roots of the walk began so, and so did the tasks that ran when they began and the one that runs,
+-- or they ran next
 pub record IsWalkFrom (rs : List Record) (thread n : ℕ) (walk : Walk) : Type 0 where
   pub roots : Every (BeganOn rs thread n) walk.roots
-  current : (task : ℕ) → walk.current ≡ Some task → BeganOn rs thread n task ⊎ RanOnThread rs thread n task
+  outer : (k task : ℕ) → get_or walk.outer k None ≡ Some task → WasOn rs thread n task
+  current : (task : ℕ) → walk.current ≡ Some task → WasOn rs thread n task
 
 -- what the record at n adds
 record AddsTo (rs : List Record) (thread n : ℕ) (b : Body) : Type 0 where
@@ -47,42 +54,76 @@ began_more : (rs : List Record) (thread n task : ℕ) → BeganOn rs thread n ta
     → BeganOn rs thread (n + 1) task
 began_more rs thread n task (k, below, begins, there) = (k, omega (arith, below), begins, there)
 
+was_more : (rs : List Record) (thread n task : ℕ) → WasOn rs thread n task → WasOn rs thread (n + 1) task
+was_more rs thread n task (inl began) = inl (began_more rs thread n task began)
+was_more rs thread n task (inr (k, below, starts, there)) = inr (k, omega (arith, below), starts, there)
+
 from_more : (rs : List Record) (thread n : ℕ) (walk : Walk) → IsWalkFrom rs thread n walk
     → IsWalkFrom rs thread (n + 1) walk
 from_more rs thread n walk from = record {
   roots =
       every_weaker (BeganOn rs thread n) (BeganOn rs thread (n + 1)) (began_more rs thread n) walk.roots
       from.roots;
-  current = λ task is. elim (from.current task is) [
-    | inl began ↦ inl (began_more rs thread n task began)
-    | inr (k, below, starts, there) ↦ inr (k, omega (arith, below), starts, there)
-  ];
+  outer = λ k task is. was_more rs thread n task (from.outer k task is);
+  current = λ task is. was_more rs thread n task (from.current task is);
 }
 
-after_from : (rs : List Record) (thread n : ℕ) (walk : Walk) (b : Body) → AddsTo rs thread n b
-    → IsWalkFrom rs thread (n + 1) walk → IsWalkFrom rs thread (n + 1) (after_body walk b)
-after_from rs thread n walk (ImplicitTask Begin actual index flags parallel root) adds from = record {
+-- what holds of the tasks that ran holds of them where a root begins or ends
+pub outer_pushed : (P : ℕ → Type 0) (current : Option ℕ) (outer : List (Option ℕ))
+    → ((task : ℕ) → current ≡ Some task → P task)
+    → ((k task : ℕ) → get_or outer k None ≡ Some task → P task)
+    → (k task : ℕ) → get_or (current ∷ outer) k None ≡ Some task → P task
+outer_pushed P current outer runs ran zero task is = runs task is
+outer_pushed P current outer runs ran (suc k) task is = ran k task is
+
+pub outer_dropped : (P : ℕ → Type 0) (outer : List (Option ℕ))
+    → ((k task : ℕ) → get_or outer k None ≡ Some task → P task)
+    → (k task : ℕ) → get_or (drop 1 outer) k None ≡ Some task → P task
+outer_dropped P [] ran k task is = ran k task is
+outer_dropped P (o ∷ os) ran k task is = ran (suc k) task is
+
+uncovered_from : (rs : List Record) (thread n : ℕ) (nests : Bool) (walk : Walk) → IsWalkFrom rs thread n walk
+    → (task : ℕ) → uncovered nests walk ≡ Some task → WasOn rs thread n task
+uncovered_from rs thread n true walk from task is = from.outer 0 task is
+uncovered_from rs thread n false walk from task is =
+    inl (every_get (BeganOn rs thread n) walk.roots 1 task from.roots is)
+
+after_from : (rs : List Record) (thread n : ℕ) (nests : Bool) (walk : Walk) (b : Body) → AddsTo rs thread n b
+    → IsWalkFrom rs thread (n + 1) walk → IsWalkFrom rs thread (n + 1) (after_body nests walk b)
+after_from rs thread n nests walk (ImplicitTask Begin actual index flags parallel root) adds from = record {
   roots = (adds.begins root refl, from.roots);
+  outer = outer_pushed (WasOn rs thread (n + 1)) walk.current walk.outer from.current from.outer;
   current =
       λ task is. inl (subst (BeganOn rs thread (n + 1)) (same_Some root task is) (adds.begins root refl));
 }
-after_from rs thread n walk (ImplicitTask End actual index flags parallel root) adds from = record {
+after_from rs thread n nests walk (ImplicitTask End actual index flags parallel root) adds from = record {
   roots = every_rest (BeganOn rs thread (n + 1)) walk.roots from.roots;
-  current = λ task is. inl (every_get (BeganOn rs thread (n + 1)) walk.roots 1 task from.roots is);
+  outer = outer_dropped (WasOn rs thread (n + 1)) walk.outer from.outer;
+  current = uncovered_from rs thread (n + 1) nests walk from;
 }
-after_from rs thread n walk (TaskSchedule status turns prior next claimed) adds from =
+after_from rs thread n nests walk (TaskSchedule status turns prior next claimed) adds from =
     by (demands_next status)
   where
     by : (d : Bool)
-        → IsWalkFrom rs thread (n + 1) (if d then (record { roots = walk.roots; current = next }) else walk)
-    by true = record { roots = from.roots; current = λ task is. inr (adds.starts task is) }
+        → IsWalkFrom rs thread (n + 1)
+        (if d then (record { roots = walk.roots; outer = walk.outer; current = next }) else walk)
+    by true = record {
+      roots = from.roots;
+      outer = from.outer;
+      current = λ task is. inr (adds.starts task is);
+    }
     by false = from
-after_from rs thread n walk _ adds from = from
+after_from rs thread n nests walk _ adds from = from
 
 pub walk_from : (rs : List Record) (thread n : ℕ) → IsWalkFrom rs thread n (walk_of thread (take n rs))
 walk_from rs thread n =
-    part_keeps rs thread P (record { roots = tt; current = λ task is. absurd (none-some task is) }) own
-    (λ m apart from. from_more rs thread m (walk_of thread (take m rs)) from) n
+    part_keeps rs thread P
+    (record {
+      roots = tt;
+      outer = λ k task is. absurd (none-some task is);
+      current = λ task is. absurd (none-some task is);
+    })
+    own (λ m apart from. from_more rs thread m (walk_of thread (take m rs)) from) n
   where
     P : ℕ → List Record → Type 0
     P m l = IsWalkFrom rs thread m (fold after_record at_start l)
@@ -105,7 +146,7 @@ walk_from rs thread n =
               (m, omega arith, ap (option_and_then (λ (q : Record). started q.body)) stands ∙ is, there);
         } in
         subst (IsWalkFrom rs thread (m + 1)) (sym (fold_push after_record at_start (part_of rs thread m) r))
-        (after_from rs thread m (walk_of thread (take m rs)) r.body adds
+        (after_from rs thread m r.nests (walk_of thread (take m rs)) r.body adds
         (from_more rs thread m (walk_of thread (take m rs)) from))
 
 -- ---- where a task runs

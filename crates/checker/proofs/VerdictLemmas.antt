@@ -9,7 +9,8 @@ use Rattle.ompt_events.specs.declared.records.Part.TheVariants as part
 use Rattle.ompt_events.specs.declared.cause.Cause.{Cause}
 use Rattle.ompt_events.specs.declared.cause.Cause.TheVariants.{SeqGap, CreatedTwice, Rootless, NotCurrent}
 use Rattle.ompt_events.specs.declared.cause.Cause.TheVariants.{Moved, TurnGap, StatusOrder, RegionOrder}
-use Rattle.ompt_events.specs.declared.cause.Cause.TheVariants.{TeamShort, NestedParallel, DepsPlace}
+use Rattle.ompt_events.specs.declared.cause.Cause.TheVariants.{TeamShort, NestedParallel, RegionNesting}
+use Rattle.ompt_events.specs.declared.cause.Cause.TheVariants.{DepsPlace}
 use Rattle.ompt_events.specs.declared.cause.Cause.TheVariants.{ShareWrong, EntryTwice, LengthAhead}
 use Rattle.ompt_events.specs.declared.cause.Cause.TheVariants.{LengthBack, NoOrder, TargetTask}
 use Rattle.ompt_events.specs.Records.{finish, region, started, wait_completed}
@@ -210,10 +211,11 @@ listed StatusOrder = (6, omega arith, refl)
 listed RegionOrder = (7, omega arith, refl)
 listed TeamShort = (8, omega arith, refl)
 listed NestedParallel = (9, omega arith, refl)
-listed DepsPlace = (10, omega arith, refl)
-listed ShareWrong = (11, omega arith, refl)
-listed EntryTwice = (12, omega arith, refl)
-listed LengthAhead = (13, omega arith, refl)
-listed LengthBack = (14, omega arith, refl)
-listed NoOrder = (15, omega arith, refl)
-listed TargetTask = (16, omega arith, refl)
+listed RegionNesting = (10, omega arith, refl)
+listed DepsPlace = (11, omega arith, refl)
+listed ShareWrong = (12, omega arith, refl)
+listed EntryTwice = (13, omega arith, refl)
+listed LengthAhead = (14, omega arith, refl)
+listed LengthBack = (15, omega arith, refl)
+listed NoOrder = (16, omega arith, refl)
+listed TargetTask = (17, omega arith, refl)

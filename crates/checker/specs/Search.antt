@@ -4,7 +4,8 @@ use Rattle.ompt_events.specs.declared.records.Record.{Record}
 use Rattle.ompt_events.specs.declared.cause.Cause.{Cause}
 use Rattle.ompt_events.specs.declared.fault.Fault.{Fault}
 use Rattle.ompt_events.specs.declared.cause.Cause.TheVariants.{NotCurrent, Moved, TurnGap, StatusOrder}
-use Rattle.ompt_events.specs.declared.cause.Cause.TheVariants.{RegionOrder, NestedParallel, DepsPlace}
+use Rattle.ompt_events.specs.declared.cause.Cause.TheVariants.{RegionOrder, NestedParallel, RegionNesting}
+use Rattle.ompt_events.specs.declared.cause.Cause.TheVariants.{DepsPlace}
 use Rattle.ompt_events.specs.declared.cause.Cause.TheVariants.{ShareWrong, EntryTwice}
 use Rattle.ompt_events.specs.CauseNames.{all_causes, before}
 use Rattle.ompt_events.specs.Causes.{ShowsNowhere}
@@ -39,7 +40,7 @@ state_causes = NotCurrent ∷ Moved ∷ TurnGap ∷ StatusOrder ∷ RegionOrder 
 
 -- those that nesting, dependences and claims show
 abbrev pub edge_causes : List Cause
-edge_causes = NestedParallel ∷ DepsPlace ∷ ShareWrong ∷ []
+edge_causes = NestedParallel ∷ RegionNesting ∷ DepsPlace ∷ ShareWrong ∷ []
 
 -- the states of the run's tasks; the run shows none of these causes
 pub record AreStatesOf (run : RunView) (own : OwnView) (states : StatesView) : Type 0 where

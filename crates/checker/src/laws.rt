@@ -1,14 +1,19 @@
-//! A trace has one verdict; what an unfinished task shows about orders; and what turns change in a verdict.
+//! A trace has one verdict; what an unfinished task shows about orders; and what turns and versions change in a
+//! verdict.
 //! These are laws about the definitions alone, proved for all records. The functions do nothing.
 ghost use Rattle.std.specs.Prelude.{◌≡◌, ◌≢◌, ◌<◌, ◌↔◌, ℕ, true, List, Option, Some};
 ghost use Rattle.ompt_events.specs.declared.records.Record.{Record};
-ghost use Rattle.ompt_events.specs.Records.{begun_root, started};
+ghost use Rattle.ompt_events.specs.declared.cause.Cause.TheVariants.{CreatedTwice, NotCurrent, TurnGap, StatusOrder};
+ghost use Rattle.ompt_events.specs.declared.cause.Cause.TheVariants.{RegionNesting};
+ghost use Rattle.ompt_events.specs.Records.{begun_root, started, suspended_turn};
 ghost use Rattle.ompt_events.specs.Places.{at, is_own};
 ghost use Rattle.ompt_events.specs.Traces.{IsTraceOf};
 ghost use Rattle.ompt_events.specs.Turns.{own_place};
+ghost use Rattle.ompt_events.specs.Tree.{IsExplicit};
+ghost use Rattle.ompt_events.specs.Causes.{IsFreeOf};
 ghost use Rattle.ompt_events.specs.HappensBefore.{IsStart};
 ghost use Rattle.ompt_events.specs.Linearization.{IsEarlier, IsLinearization};
-ghost use Rattle.ompt_events.specs.Upgrades.{IsUpgrade, MovesNowhere};
+ghost use Rattle.ompt_events.specs.Upgrades.{IsUpgrade, IsRelabelled, MovesNowhere};
 ghost use Rattle.ompt_events.specs.Violations as violations;
 ghost use Rattle.task_tree.specs.Rising.{TurnsRise};
 ghost use Rattle.checker.specs.declared.verdict.Verdict.{Verdict};
@@ -53,6 +58,17 @@ pub fn each_order_keeps_every_tasks_own_order()
         → IsEarlier order i k }
 {}
 
+/// In a trace of version 2 or 3 a created task is suspended at most once in each of its turns. This assumes that
+/// no record shows the causes 2, 4, 5 and 6: no task is made twice, each record is of the task that its thread
+/// runs, the turns that the records give are those of the tasks, and each task is started and stopped as its
+/// state allows.
+pub fn a_task_is_suspended_once_in_a_turn()
+    ensures { (version : ℕ) (rs : List Record) → IsTraceOf version rs → 1 < version
+        → IsFreeOf rs CreatedTwice → IsFreeOf rs NotCurrent → IsFreeOf rs TurnGap → IsFreeOf rs StatusOrder
+        → (task turn a b : ℕ) → IsExplicit rs task
+        → at suspended_turn rs a ≡ Some (task, turn) → at suspended_turn rs b ≡ Some (task, turn) → a ≡ b }
+{}
+
 /// Where no task's turns fall along the file, the order of the file alone gives the same verdict as each
 /// task's own order, record for record, and the same counter orders. A trace of version 1 records no turns,
 /// so this holds of each such trace.
@@ -84,6 +100,19 @@ pub fn an_upgrade_keeps_the_verdict()
     ensures counter { (rs upgraded : List Record) → IsTraceOf 1 rs → MovesNowhere rs → IsUpgrade rs upgraded
         → (i task : ℕ) (found : Option (List ℕ))
         → IsCounterBy (by_task rs) i task found ↔ IsCounterBy (by_task upgraded) i task found }
+{}
+
+/// Let a trace of version 2 show no cause, and let its records in version 3 have no RegionNesting: each root that
+/// begins there inside another one begins where the task that runs there has begun its region. Then the trace
+/// has the same verdict in version 3, record for record and with the same order, and the same counter orders.
+pub fn version_3_keeps_the_verdict()
+    ensures verdict { (rs relabelled : List Record) → IsTraceOf 2 rs → ShowsNone (by_task rs)
+        → IsRelabelled rs relabelled → IsFreeOf relabelled RegionNesting
+        → (verdict : Verdict) → IsVerdict rs verdict ↔ IsVerdict relabelled verdict }
+    ensures counter { (rs relabelled : List Record) → IsTraceOf 2 rs → ShowsNone (by_task rs)
+        → IsRelabelled rs relabelled → IsFreeOf relabelled RegionNesting
+        → (i task : ℕ) (found : Option (List ℕ))
+        → IsCounterBy (by_task rs) i task found ↔ IsCounterBy (by_task relabelled) i task found }
 {}
 
 /// A trace of version 1 that shows no cause can be upgraded: none of its tasks moves.

@@ -22,7 +22,7 @@ use crate::verdict::Order;
 use depend_edges::Edges;
 use ompt_events::{Cause, Fault, Trace, exclude};
 use std::alloc::Global;
-use task_states::{States, find_nested, gap, target};
+use task_states::{States, find_misnested, find_nested, gap, target};
 use task_tree::Families;
 use teams::Teams;
 use wait_coverage::{Known, find_known};
@@ -147,7 +147,8 @@ pub(crate) fn states_of<'a>(
     Ok(states)
 }
 
-/// Returns the dependence edges between the run's tasks. Excludes NestedParallel, DepsPlace and ShareWrong.
+/// Returns the dependence edges between the run's tasks. Excludes NestedParallel, RegionNesting, DepsPlace and
+/// ShareWrong.
 pub(crate) fn edges_of<'a>(alloc: Global, runs: &Runs<'a>) -> Result<Edges<'a>, Fault>
     ensures edges { IfOk result (AreEdgesOf runs.now.run runs.now.own) }
     ensures fault { IfErr result (IsShownFault runs.now.run.records edge_causes) }
@@ -156,6 +157,7 @@ pub(crate) fn edges_of<'a>(alloc: Global, runs: &Runs<'a>) -> Result<Edges<'a>, 
     let own = runs.own();
     let _records = own.run();
     exclude(Cause::NestedParallel, find_nested(alloc, run)?)?;
+    exclude(Cause::RegionNesting, find_misnested(alloc, run)?)?;
     let edges = Edges::in_run(alloc, run, own)?;
     exclude_wrong_claims(own)?;
     Ok(edges)

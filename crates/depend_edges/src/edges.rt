@@ -40,7 +40,7 @@ impl<'a> Model for Edges<'a> {
 }
 
 impl<'a> Edges<'a> {
-    /// Returns the edges between the tasks of a trace, of either version. Requires that the tree is that of
+    /// Returns the edges between the tasks of a trace, of any version. Requires that the tree is that of
     /// its tasks. Fails with DepsPlace, at the first such record in the file, if a list of dependences does
     /// not follow its creation there or is missing; and when out of memory.
     pub fn build(alloc: Global, trace: &'a Trace, tree: &'a Tree) -> Result<Edges<'a>, EdgeFault>

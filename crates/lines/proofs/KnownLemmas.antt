@@ -1,6 +1,7 @@
 -- A line says what its known members say.
 use Rattle.std.proofs.Common.{◌≡◌, ◌≢◌, ℕ, Bool, true, false, cond, Ok, Some, List, [], ◌∷◌, ◌++◌, length}
 use Rattle.std.proofs.Common.{take, ◌-◌, ◌≤◌, arith, refl, sym, ap, ◌∙◌, append_assoc, length-append, subst}
+use Rattle.std.specs.Prelude.{◌==◌}
 use Rattle.std.specs.List.{AllByRecursion}
 use Rattle.std.specs.Str.{bytes_eq}
 use Rattle.json.specs.Print.{quoted}
@@ -8,7 +9,7 @@ use Rattle.serde_json.specs.Data.{Data, Members, member, no_members, object, put
 use Rattle.serde_json.specs.Find.{get, get_member}
 use Rattle.serde_json.specs.Written.{compact_text, members_text}
 use Rattle.ompt_events.specs.declared.records.Record.{Record}
-use Rattle.ompt_events.specs.Traces.{IsInRange, IsSoundIn}
+use Rattle.ompt_events.specs.Traces.{FitsIn, IsInRange, IsSoundIn}
 use Rattle.lines.specs.declared.members.Member.{Member}
 use Rattle.lines.specs.declared.members.Member.TheVariants as variant
 use Rattle.lines.specs.InFront.{IsPlainIfOther, IsRecordInFront, is_known, known_members}
@@ -215,9 +216,9 @@ pub record IsLineWithOthers (version : ℕ) (text : List ℕ) (r : Record) (behi
   pub unbroken : IsUnbroken line
 
 pub line-with-others : (version : ℕ) (text : List ℕ) (r : Record) (behind : List ℕ) → IsInRange r
-    → IsSoundIn version r.body → IsRecordInFront text r behind → IsLineWithOthers version text r behind
-line-with-others version text r behind range sound front =
-    let written = IsWritten-sound version r range sound in
+    → FitsIn version r → IsRecordInFront text r behind → IsLineWithOthers version text r behind
+line-with-others version text r behind range fits front =
+    let written = IsWritten-sound version r range fits in
     let all = front.is.members.all in
     let whole : IsPlain (object (listed front.is.known)) 3 =
     subst (λ d. IsPlain d 3) (sym front.is.says) written.plain in
@@ -240,6 +241,23 @@ line-with-others version text r behind range sound front =
           ∙ written.says;
       unbroken = unbroken-members (listed all) 2 plain;
     }
+
+-- the record, where regions may lie inside others, or may not
+abbrev pub with_nests : Bool → Record → Record
+with_nests nests r = record { thread = r.thread; nests = nests; seq = r.seq; seen = r.seen; body = r.body }
+
+-- no line says whether regions may lie inside others: the version says it
+pub line-of-version : (version : ℕ) (text : List ℕ) (r : Record) (nests : Bool) (behind : List ℕ)
+    → nests ≡ (version == 3) → IsInRange r → IsSoundIn version r.body
+    → IsRecordInFront text r behind → IsLineWithOthers version text (with_nests nests r) behind
+line-of-version version text r nests behind is range sound front =
+    line-with-others version text (with_nests nests r) behind
+    (record { thread = range.thread; seq = range.seq; seen = range.seen; body = range.body }) (sound, is)
+    (record {
+      inside = front.inside;
+      opens = front.opens;
+      is = record { known = front.is.known; says = front.is.says; members = front.is.members };
+    })
 
 -- what the line says, cut from the text
 pub front-says : (version : ℕ) (text : List ℕ) (r : Record) (behind : List ℕ)

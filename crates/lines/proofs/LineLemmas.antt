@@ -36,7 +36,7 @@ use Rattle.ompt_events.specs.Names.{status_name, endpoint_name, sync_kind_name, 
 use Rattle.ompt_events.specs.Names.{thread_kind_name}
 use Rattle.ompt_events.specs.Flags.{task_flags, cancel_flags, has_flag}
 use Rattle.ompt_events.specs.Limits.{max_threads, max_depth, max_dependences}
-use Rattle.ompt_events.specs.Traces.{IsSound, IsSoundIn, ClaimInRange, TurnsInRange}
+use Rattle.ompt_events.specs.Traces.{FitsIn, IsSound, ClaimInRange, TurnsInRange}
 use Rattle.ompt_events.specs.Traces.{BodyInRange, IsInRange}
 use Rattle.lines.specs.declared.cause.ReadCause.TheVariants.{Header, Limit}
 use Rattle.lines.specs.Limits.{max_line}
@@ -335,11 +335,11 @@ size-data_of r sound = omega (arith, size-object_of (record_members r), size-bod
 
 -- ---- the text of a trace
 
-pub header_plain : (version : ℕ) → version ≤ 2 → IsPlain (header_data version) 1
+pub header_plain : (version : ℕ) → version ≤ 3 → IsPlain (header_data version) 1
 header_plain version few =
     IsPlain-object_of (header_members version) 0 ((refl, refl), ((refl, omega (arith, few)), tt))
 
-pub header_says-header_line : (newest version : ℕ) → 1 ≤ version → version ≤ 2 → version ≤ newest
+pub header_says-header_line : (newest version : ℕ) → 1 ≤ version → version ≤ 3 → version ≤ newest
     → header_says newest (header_line version) ≡ Ok version
 unfolding with_member
 header_says-header_line newest version low few known =
@@ -347,7 +347,7 @@ header_says-header_line newest version low few known =
     (value_of-compact_text (header_data version) 1 (header_plain version few) (omega arith))
     ∙ rw (le-leb 1 version low, le-leb version newest known) refl
 
-pub header_short : (version : ℕ) → version ≤ 2 → length (header_line version) ≤ max_line
+pub header_short : (version : ℕ) → version ≤ 3 → length (header_line version) ≤ max_line
 header_short version few =
     omega (
       arith,
@@ -401,12 +401,11 @@ fits r range sound =
     (short r.seen range.seen)
 
 -- a record of a trace
-pub IsWritten-sound : (version : ℕ) (r : Record) → IsInRange r → IsSoundIn version r.body
-    → IsWritten version r
+pub IsWritten-sound : (version : ℕ) (r : Record) → IsInRange r → FitsIn version r → IsWritten version r
 IsWritten-sound version r range sound = record {
   plain = plain-data_of r range;
-  short = size-data_of r sound.0;
+  short = size-data_of r sound.0.0;
   says =
       ap (bounded record_fits) (Says-sound version r sound)
-      ∙ ap (λ b. cond b (Ok r) (Err Limit)) (fits r range sound.0);
+      ∙ ap (λ b. cond b (Ok r) (Err Limit)) (fits r range sound.0.0);
 }

@@ -2,7 +2,7 @@
 use Rattle.std.proofs.Common.{◌≡◌, ◌≢◌, ℕ, List, [], ◌∷◌, length, map, Bool, true, false, Option, None, Some}
 use Rattle.std.proofs.Common.{Ok, Err}
 use Rattle.std.proofs.Common.{cond, refl, sym, ap, ◌∙◌}
-use Rattle.std.specs.Prelude.{nat_lt, nat_le, ok_or, option_map}
+use Rattle.std.specs.Prelude.{nat_lt, nat_le, ok_or, option_map, ◌==◌}
 use Rattle.std.specs.List.{list_all}
 use Rattle.serde_json.specs.Data.{Data}
 use Rattle.ompt_events.specs.declared.records.Claim.{Claim}
@@ -80,12 +80,14 @@ within-ok true n m is = (let same : m ≡ n = cc in same, refl)
 within-ok false n m is = absurd (ok_not_err m Limit is)
 
 -- the record of what is within its limits
-pub record-within : (thread seq seen t q s : ℕ) (l : Loose) (b : Body) → l ≡ loose_body b → l.fits ≡ true
+pub record-within : (nests : Bool) (thread seq seen t q s : ℕ) (l : Loose) (b : Body) → l ≡ loose_body b
+    → l.fits ≡ true
     → Ok t ≡ cond (nat_lt thread max_threads) (Ok thread) (Err Limit)
     → Ok q ≡ cond (is_short seq) (Ok seq) (Err Limit) → Ok s ≡ cond (is_short seen) (Ok seen) (Err Limit)
-    → Ok (record { thread = t; seq = q; seen = s; body = l.body })
-    ≡ bounded record_fits (Some (record { thread = thread; seq = seq; seen = seen; body = b }))
-record-within thread seq seen t q s l b is fits is_t is_q is_s =
+    → Ok (record { thread = t; nests = nests; seq = q; seen = s; body = l.body })
+    ≡ bounded record_fits
+    (Some (record { thread = thread; nests = nests; seq = seq; seen = seen; body = b }))
+record-within nests thread seq seen t q s l b is fits is_t is_q is_s =
     let inside : body_fits b ≡ true = sym (ap (λ (x : Loose). x.fits) is) ∙ fits in
     let same : l.body ≡ b = ap (λ (x : Loose). x.body) is ∙ cut_body-fits b inside in
     let t' = within-ok _ thread t is_t in
@@ -96,7 +98,8 @@ record-within thread seq seen t q s l b is fits is_t is_q is_s =
 pub unbounded-is : (version : ℕ) (d : Data) (thread seq seen : ℕ) (b : Body)
     → Ok thread ≡ ok_or (whole member.thread d) Field → Ok seq ≡ ok_or (whole member.seq d) Field
     → Ok seen ≡ ok_or (whole member.seen d) Field → body version d ≡ Some b
-    → unbounded version d ≡ Some (record { thread = thread; seq = seq; seen = seen; body = b })
+    → unbounded version d
+    ≡ Some (record { thread = thread; nests = version == 3; seq = seq; seen = seen; body = b })
 unfolding unbounded
 unbounded-is version d thread seq seen b t q s is =
     rw (ok_or-some _ thread t, ok_or-some _ seq q, ok_or-some _ seen s, is) refl

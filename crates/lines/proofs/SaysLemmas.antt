@@ -1,7 +1,7 @@
 -- What the object of each record says: the record.
 use Rattle.std.proofs.Common.{◌≡◌, ℕ, Bool, Option, Some, None, List, [], ◌∷◌, true, false, refl, sym, ◌∙◌}
-use Rattle.std.proofs.Common.{cond, map}
-use Rattle.std.specs.Prelude.{option_map, is_some}
+use Rattle.std.proofs.Common.{cond, map, ap, subst}
+use Rattle.std.specs.Prelude.{option_map, is_some, ◌==◌}
 use Rattle.ompt_events.specs.declared.deps.Dep.{Dep}
 use Rattle.ompt_events.specs.declared.records.Record.{Record}
 use Rattle.ompt_events.specs.declared.records.Claim.{Claim}
@@ -33,7 +33,7 @@ use Rattle.ompt_events.specs.Names.{status_name, endpoint_name, sync_kind_name, 
 use Rattle.ompt_events.specs.Names.{thread_kind_name, status_part, demands_next}
 use Rattle.ompt_events.specs.Flags.{has_flag}
 use Rattle.ompt_events.specs.Flags as table
-use Rattle.ompt_events.specs.Traces.{AreNamed, IsSoundIn}
+use Rattle.ompt_events.specs.Traces.{AreNamed, FitsIn, IsSoundIn}
 use Rattle.serde_json.specs.View.{items_of}
 use Rattle.lines.specs.Members.{value_named, nullable, not_both, no_id, each, dep_of}
 use Rattle.lines.specs.RecordLines.{unbounded, body_named, thread_begin, thread_end, parallel_begin}
@@ -130,44 +130,45 @@ deps-read ds = each-items_of dep_of dep_data dep-read ds
 abbrev pub Says : ℕ → Record → Type 0
 Says version r = unbounded version (data_of r) ≡ Some r
 
-abbrev of_body : ℕ → ℕ → ℕ → Body → Record
-of_body thread seq seen body = record { thread = thread; seq = seq; seen = seen; body = body }
+abbrev of_body : ℕ → ℕ → ℕ → ℕ → Body → Record
+of_body version thread seq seen body =
+    record { thread = thread; nests = version == 3; seq = seq; seen = seen; body = body }
 
 says-thread_begin : (version thread seq seen : ℕ) (kind : ThreadKind)
-    → Says version (of_body thread seq seen (ThreadBegin kind))
+    → Says version (of_body version thread seq seen (ThreadBegin kind))
 unfolding with_member unbounded body_named thread_begin
 says-thread_begin version thread seq seen kind = rw (named-thread_kind kind) refl
 
-says-thread_end : (version thread seq seen : ℕ) → Says version (of_body thread seq seen ThreadEnd)
+says-thread_end : (version thread seq seen : ℕ) → Says version (of_body version thread seq seen ThreadEnd)
 unfolding with_member unbounded body_named thread_end
 says-thread_end version thread seq seen = refl
 
 says-parallel_begin : (version thread seq seen requested task parallel : ℕ)
-    → Says version (of_body thread seq seen (ParallelBegin requested task parallel))
+    → Says version (of_body version thread seq seen (ParallelBegin requested task parallel))
 unfolding with_member unbounded body_named parallel_begin
 says-parallel_begin version thread seq seen requested task parallel = refl
 
 says-parallel_end : (version thread seq seen task parallel : ℕ)
-    → Says version (of_body thread seq seen (ParallelEnd task parallel))
+    → Says version (of_body version thread seq seen (ParallelEnd task parallel))
 unfolding with_member unbounded body_named parallel_end
 says-parallel_end version thread seq seen task parallel = refl
 
 says-implicit_task : (version thread seq seen : ℕ) (endpoint : Endpoint) (actual index : ℕ)
     (flags : TaskFlags) (parallel task : ℕ)
     → AreNamed table.task_flags flags.0 → not_both endpoint ≡ Some endpoint
-    → Says version (of_body thread seq seen (ImplicitTask endpoint actual index flags parallel task))
+    → Says version (of_body version thread seq seen (ImplicitTask endpoint actual index flags parallel task))
 unfolding with_member unbounded body_named implicit_task
 says-implicit_task version thread seq seen endpoint actual index flags parallel task named one =
     rw (named-endpoint endpoint, one, task_flags-read flags.0 named) refl
 
 says-task_create : (version thread seq seen : ℕ) (deps : Bool) (flags : TaskFlags) (task child : ℕ)
     → AreNamed table.task_flags flags.0
-    → Says version (of_body thread seq seen (TaskCreate deps flags task child))
+    → Says version (of_body version thread seq seen (TaskCreate deps flags task child))
 unfolding with_member unbounded body_named task_create
 says-task_create version thread seq seen deps flags task child named = rw (task_flags-read flags.0 named) refl
 
 says-dependences : (version thread seq seen task : ℕ) (list : List Dep)
-    → Says version (of_body thread seq seen (Dependences task list))
+    → Says version (of_body version thread seq seen (Dependences task list))
 unfolding with_member unbounded body_named dependences
 says-dependences version thread seq seen task list = rw (deps-read list) refl
 
@@ -175,7 +176,7 @@ says-finishing : (version thread seq seen : ℕ) (status : Status) (told : Optio
     (next : Option ℕ) (c : Claim)
     → is_some next ≡ demands_next status → tells_turns version status ≡ is_some told
     → is_some (status_part status) ≡ true
-    → Says version (of_body thread seq seen (TaskSchedule status told prior next (Some c)))
+    → Says version (of_body version thread seq seen (TaskSchedule status told prior next (Some c)))
 unfolding with_member unbounded body_named task_schedule claim_if claim_said turns_if turns_said
 says-finishing version thread seq seen status None prior next c follows tells finishes =
     rw (
@@ -202,7 +203,7 @@ says-switching : (version thread seq seen : ℕ) (status : Status) (told : Optio
     (next : Option ℕ)
     → is_some next ≡ demands_next status → tells_turns version status ≡ is_some told
     → is_some (status_part status) ≡ false
-    → Says version (of_body thread seq seen (TaskSchedule status told prior next None))
+    → Says version (of_body version thread seq seen (TaskSchedule status told prior next None))
 unfolding with_member unbounded body_named task_schedule claim_if turns_if turns_said
 says-switching version thread seq seen status None prior next follows tells goes_on =
     rw (
@@ -225,28 +226,28 @@ says-switching version thread seq seen status (Some t) prior next follows tells 
 
 says-sync_region : (version thread seq seen : ℕ) (kind : SyncKind) (endpoint : Endpoint) (parallel : Option ℕ)
     (task : ℕ)
-    → Says version (of_body thread seq seen (SyncRegion kind endpoint parallel task))
+    → Says version (of_body version thread seq seen (SyncRegion kind endpoint parallel task))
 unfolding with_member unbounded body_named sync_region
 says-sync_region version thread seq seen kind endpoint parallel task =
     rw (named-sync_kind kind, named-endpoint endpoint, nullable-number_or_null parallel) refl
 
 says-discard : (version thread seq seen : ℕ) (flags : CancelFlags) (task : ℕ) (c : Claim)
     → AreNamed table.cancel_flags flags.0 → has_flag flags.0 table.discarded_task ≡ true
-    → Says version (of_body thread seq seen (body.Cancel flags task (Some c)))
+    → Says version (of_body version thread seq seen (body.Cancel flags task (Some c)))
 unfolding with_member unbounded body_named cancel claim_if claim_said
 says-discard version thread seq seen flags task c named discards =
     rw (cancel_flags-read flags.0 named, discards, wholes-items_of c.path) refl
 
 says-cancel : (version thread seq seen : ℕ) (flags : CancelFlags) (task : ℕ)
     → AreNamed table.cancel_flags flags.0 → has_flag flags.0 table.discarded_task ≡ false
-    → Says version (of_body thread seq seen (body.Cancel flags task None))
+    → Says version (of_body version thread seq seen (body.Cancel flags task None))
 unfolding with_member unbounded body_named cancel claim_if
 says-cancel version thread seq seen flags task named others =
     rw (cancel_flags-read flags.0 named, others) refl
 
 -- every record that can stand in a trace is one of these
 says-body : (version thread seq seen : ℕ) (b : Body) → IsSoundIn version b
-    → Says version (of_body thread seq seen b)
+    → Says version (of_body version thread seq seen b)
 says-body version thread seq seen (ThreadBegin kind) sound = says-thread_begin version thread seq seen kind
 says-body version thread seq seen ThreadEnd sound = says-thread_end version thread seq seen
 says-body version thread seq seen (ParallelBegin requested task parallel) sound =
@@ -280,5 +281,12 @@ says-body version thread seq seen (body.Cancel flags task None) sound =
     says-cancel version thread seq seen flags task sound.0.named_cancellation
     (sym (is_some-cond (has_flag flags.0 table.discarded_task) (task, Whole)) ∙ sym sound.0.claimed)
 
-pub Says-sound : (version : ℕ) (r : Record) → IsSoundIn version r.body → Says version r
-Says-sound version r sound = says-body version r.thread r.seq r.seen r.body sound
+pub Says-sound : (version : ℕ) (r : Record) → FitsIn version r → Says version r
+Says-sound version r fits =
+    subst (Says version)
+    (ap
+    (λ nests.
+    let whole : Record =
+    record { thread = r.thread; nests = nests; seq = r.seq; seen = r.seen; body = r.body } in whole)
+    (sym fits.1))
+    (says-body version r.thread r.seq r.seen r.body fits.0)

@@ -1,7 +1,7 @@
 -- What a line stands for can stand in a trace.
 use Rattle.std.proofs.Common.{◌≡◌, ℕ, ◌≤◌, List, [], ◌∷◌, length, Option, Some, None, Ok, Bool, true, false}
 use Rattle.std.proofs.Common.{cond, arith, refl, sym, ap, ◌∙◌, subst, min, ◌==◌, ◌&&◌}
-use Rattle.std.specs.Prelude.{option_map, is_some, IfSome, nat_eq}
+use Rattle.std.specs.Prelude.{option_map, is_some, IfSome, ltb, nat_eq}
 use Rattle.std.specs.Int.{bit_at}
 use Rattle.std.specs.Int.RustNames.{bit_or}
 use Rattle.std.specs.List.{AllByRecursion}
@@ -16,7 +16,7 @@ use Rattle.ompt_events.specs.Flags as table
 use Rattle.ompt_events.specs.Flags.{has_flag}
 use Rattle.ompt_events.specs.Names.{status_part, demands_next}
 use Rattle.ompt_events.specs.Limits.{max_depth, max_dependences}
-use Rattle.ompt_events.specs.Traces.{AreNamed, BeginsOrEnds, IsSound, IsSoundIn}
+use Rattle.ompt_events.specs.Traces.{AreNamed, BeginsOrEnds, FitsIn, IsSound, IsSoundIn}
 use Rattle.ompt_events.specs.declared.records.Record.{Record}
 use Rattle.ompt_events.specs.declared.records.Claim.{Claim}
 use Rattle.ompt_events.specs.declared.records.Turns.{Turns}
@@ -205,13 +205,13 @@ turns_if-sound false d told e = let is : None ≡ told = cc in ap is_some (sym i
 
 -- a record tells turns exactly where they are read
 pub tells-turns : (version : ℕ) (st : Status) (told : Option Turns) (nx : Option ℕ)
-    → is_some nx ≡ demands_next st → is_some told ≡ ((version == 2) && is_some nx)
+    → is_some nx ≡ demands_next st → is_some told ≡ (ltb 1 version && is_some nx)
     → tells_turns version st ≡ is_some told
-tells-turns version st told nx follows tells = ap (λ b. (version == 2) && b) (sym follows) ∙ sym tells
+tells-turns version st told nx follows tells = ap (λ b. ltb 1 version && b) (sym follows) ∙ sym tells
 
 -- where no task runs next, no turns are told in any version
-none_told : (version : ℕ) → false ≡ ((version == 2) && false)
-none_told version = elim (version == 2) as (λ b. false ≡ (b && false)) [
+none_told : (version : ℕ) → false ≡ (ltb 1 version && false)
+none_told version = elim (ltb 1 version) as (λ b. false ≡ (b && false)) [
   | true ↦ refl
   | false ↦ refl
 ]
@@ -393,7 +393,7 @@ task_schedule-sound version d b e fits =
         few_dependences = tt;
         next = demanded;
       },
-      turns_if-sound (tells_turns version st) d told tells ∙ ap (λ b. (version == 2) && b) (sym demanded),
+      turns_if-sound (tells_turns version st) d told tells ∙ ap (λ b. ltb 1 version && b) (sym demanded),
     ))))))
 
 sync_region-sound : (version : ℕ) (d : Data) (b : Body) → sync_region d ≡ Some b → IsSoundIn version b
@@ -462,25 +462,27 @@ body_named-sound version name d b e fits =
     (λ none. absurd (let h : None ≡ Some b = none in cc)))))))))))
 
 unbounded-sound : (version : ℕ) (d : Data) (r : Record) → unbounded version d ≡ Some r → record_fits r ≡ true
-    → IsSoundIn version r.body
+    → FitsIn version r
 unfolding unbounded
 unbounded-sound version d r e fits =
     option_and_then_some _ (whole member.thread d) r e (
     λ thread _ e1. option_and_then_some _ (whole member.seq d) r e1 (λ seq _ e2.
     option_and_then_some _ (whole member.seen d) r e2 (
     λ seen _ e3. option_and_then_some _ (body version d) r e3 (λ b is same.
-    let whole : record { thread = thread; seq = seq; seen = seen; body = b } ≡ r = cc in
+    let whole : record { thread = thread; nests = version == 3; seq = seq; seen = seen; body = b } ≡ r = cc in
     let bounds : body_fits b ≡ true =
     ap (λ (x : Record). body_fits x.body) whole ∙ both-first _ _ (both-first _ _ (both-first _ _ fits)) in
-    subst (λ (x : Record). IsSoundIn version x.body) whole
-    (option_and_then_some (λ (name : List ℕ). body_named version name d) (text member.cb d) b is
-    (λ name _ named. body_named-sound version name d b named bounds))))))
+    subst (FitsIn version) whole (
+      option_and_then_some (λ (name : List ℕ). body_named version name d) (text member.cb d) b is
+          (λ name _ named. body_named-sound version name d b named bounds),
+      refl,
+    )))))
 
 pub line_says-sound : (version : ℕ) (line : List ℕ) (r : Record) → Ok r ≡ line_says version line
-    → IsSoundIn version r.body
+    → FitsIn version r
 line_says-sound version line r e = by_value (value_of line) e
   where
-    by_value : (o : Option Data) → Ok r ≡ said_of version o → IsSoundIn version r.body
+    by_value : (o : Option Data) → Ok r ≡ said_of version o → FitsIn version r
     by_value None h = absurd (ok_not_err r NotJson h)
     by_value (Some d) h =
         let found = bounded-ok record_fits (unbounded version d) r h in

@@ -1,7 +1,7 @@
--- What a single line stands for, in a file of version 1 or 2 of the format.
+-- What a single line stands for, in a file of version 1, 2 or 3 of the format.
 use Rattle.std.specs.Prelude.{ℕ, ◌≡◌, ◌≢◌, ◌==◌, ◌&&◌, ◌^◌, Bool, true, false, List, length, Option, Some}
 use Rattle.std.specs.Prelude.{None, Result, Ok, Err, ok_or, option_map, option_and_then, is_some, nat_lt}
-use Rattle.std.specs.Prelude.{nat_le, codes, if◌then◌else◌}
+use Rattle.std.specs.Prelude.{nat_le, ltb, codes, if◌then◌else◌}
 use Rattle.std.specs.Option.{option_map_or}
 use Rattle.std.specs.List.{list_all}
 use Rattle.std.specs.Str.{is_utf8, bytes_eq}
@@ -105,9 +105,9 @@ turns_said d = do
   next ← whole member.next_turn d
   Some (record { prior = prior; next = next })
 
--- version 2 has turns where a task runs next
+-- from version 2 on there are turns where a task runs next
 abbrev pub tells_turns : ℕ → Status → Bool
-tells_turns version status = (version == 2) && demands_next status
+tells_turns version status = ltb 1 version && demands_next status
 
 -- turns are read where the record has them, and nowhere else
 unfoldable pub turns_if : Bool → Data → Option (Option Turns)
@@ -160,14 +160,14 @@ body version d = text member.cb d >>= λ name. body_named version name d
 
 -- ---- records
 
--- the record of an object, its numbers without their bounds
+-- the record of an object, its numbers without their bounds; regions may lie inside others in version 3
 unfoldable pub unbounded : ℕ → Data → Option Record
 unbounded version d = do
   thread ← whole member.thread d
   seq ← whole member.seq d
   seen ← whole member.seen d
   body ← body version d
-  Some (record { thread = thread; seq = seq; seen = seen; body = body })
+  Some (record { thread = thread; nests = version == 3; seq = seq; seen = seen; body = body })
 
 abbrev pub is_short : ℕ → Bool
 is_short n = nat_lt n (2 ^ 32)

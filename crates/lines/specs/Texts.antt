@@ -1,6 +1,7 @@
 -- The text of each line: a header with its version, and records.
-use Rattle.std.specs.Prelude.{codes, decimal, ℕ, ◌≡◌, Bool, true, not, ◌&&◌, ◌==◌, nat_lt, nat_le, List, []}
-use Rattle.std.specs.Prelude.{◌∷◌, ◌++◌, map, Option, Some, None, if◌then◌else◌}
+use Rattle.std.specs.Prelude.{codes, decimal, ℕ, ◌≡◌, Bool, true, false, not, ◌&&◌, ◌==◌, nat_lt, nat_le}
+use Rattle.std.specs.Prelude.{List}
+use Rattle.std.specs.Prelude.{[], ◌∷◌, ◌++◌, map, Option, Some, None, if◌then◌else◌}
 use Rattle.json.specs.Print.{quoted}
 use Rattle.serde_json.specs.Data.{Data, null, boolean, number, string, array, object, unsigned, Members}
 use Rattle.serde_json.specs.Data.{no_members, put}
@@ -12,7 +13,8 @@ use Rattle.ompt_events.specs.declared.records.Turns.{Turns}
 use Rattle.ompt_events.specs.declared.records.Body.{Body}
 use Rattle.ompt_events.specs.declared.records.Body.TheVariants.{ThreadBegin, ThreadEnd, ParallelBegin}
 use Rattle.ompt_events.specs.declared.records.Body.TheVariants.{ParallelEnd, ImplicitTask, TaskCreate}
-use Rattle.ompt_events.specs.declared.records.Body.TheVariants.{Dependences, TaskSchedule, SyncRegion, Cancel}
+use Rattle.ompt_events.specs.declared.records.Body.TheVariants.{Dependences, TaskSchedule, SyncRegion}
+use Rattle.ompt_events.specs.declared.records.Body.TheVariants.{Cancel}
 use Rattle.ompt_events.specs.declared.deps.Dep.{Dep}
 use Rattle.ompt_events.specs.declared.names.Status.{Status}
 use Rattle.ompt_events.specs.Flags.{task_flags, cancel_flags, has_flag}
@@ -138,9 +140,10 @@ status_tail seen seq status thread =
     ++ ((codes ",\"status\":" ++ quoted (status_name status))
     ++ ((codes ",\"thread\":" ++ decimal thread) ++ codes "}")))
 
--- what a thread records: its numbers, and the callback
+-- what a thread records: its numbers, and the callback. No line says whether regions may lie inside others
 abbrev pub record_of : Head → Body → Record
-record_of head body = record { thread = head.thread; seq = head.seq; seen = head.seen; body = body }
+record_of head body =
+    record { thread = head.thread; nests = false; seq = head.seq; seen = head.seen; body = body }
 
 -- the bytes were appended
 pub record Puts (old new bytes : List ℕ) : Type 0 where

@@ -1,5 +1,6 @@
 //! Lines as they are written, read part by part, from the front of a text. Members that the format does not
-//! know may stand between the parts. Any other line is left to the general way.
+//! know may stand between the parts. Any other line is left to the general way. Whether regions may lie inside
+//! others is in no line: the records have it as in version 1 and 2, and `record_lines` sets it by the version.
 ghost use Rattle.std.specs.Prelude.{◌≡◌, ◌∷◌, IfSome};
 ghost use Rattle.lines.specs.InFront.{AreMembersInFront, IsRecordInFront, IsRecordInside, status_tail_members, task_tail_members};
 
@@ -97,7 +98,7 @@ macro_rules! take_tail {
 }
 
 /// Returns the record of a line in written form that a text begins with, and what follows the line; none
-/// where the text begins with no such line, or out of memory. Looks for turns in version 2 alone. Such a line
+/// where the text begins with no such line, or out of memory. Looks for no turns in version 1. Such a line
 /// has no spaces, and its members stand in the order of their names. Members that the format does not know
 /// are passed where recorders write them, and elsewhere by [`among_others`] and [`behind_others`].
 #[inline(always)]
@@ -185,11 +186,11 @@ fn task_schedule<B: Between>(alloc: Global, version: u32, inside: &[u8]) -> Opti
     }
 }
 
-/// Reads a `task_schedule` with turns: in version 2 alone.
+/// Reads a `task_schedule` with turns: in version 2 and 3.
 fn in_turn<B: Between>(alloc: Global, version: u32, inside: &[u8]) -> Option<(Record, &[u8])>
     ensures { IfSome result (λ taken. IsRecordInside inside.now taken.0 taken.1.now) }
 {
-    if version != 2 {
+    if version < 2 {
         return None;
     }
     match inside.get(22) {
@@ -223,7 +224,7 @@ fn thread_begin<B: Between>(inside: &[u8]) -> Option<(Record, &[u8])>
     ensures { IfSome result (λ taken. IsRecordInside inside.now taken.0 taken.1.now) }
 {
     line_parts!(thread_begin take_line
-        (B B _alloc inside (Record { thread, seq, seen, body: Body::ThreadBegin { kind } }))
+        (B B _alloc inside (Record { thread, nests: false, seq, seen, body: Body::ThreadBegin { kind } }))
         kind seen seq thread)
 }
 
@@ -232,7 +233,7 @@ fn thread_end<B: Between>(inside: &[u8]) -> Option<(Record, &[u8])>
     ensures { IfSome result (λ taken. IsRecordInside inside.now taken.0 taken.1.now) }
 {
     line_parts!(thread_end take_line
-        (B B _alloc inside (Record { thread, seq, seen, body: Body::ThreadEnd }))
+        (B B _alloc inside (Record { thread, nests: false, seq, seen, body: Body::ThreadEnd }))
         seen seq thread)
 }
 
@@ -242,7 +243,7 @@ fn parallel_begin<B: Between>(inside: &[u8]) -> Option<(Record, &[u8])>
 {
     line_parts!(parallel_begin take_line
         (B B _alloc inside (Record {
-            thread, seq, seen,
+            thread, nests: false, seq, seen,
             body: Body::ParallelBegin { requested, task, parallel },
         }))
         parallel requested seen seq task thread)
@@ -253,7 +254,7 @@ fn parallel_end<B: Between>(inside: &[u8]) -> Option<(Record, &[u8])>
     ensures { IfSome result (λ taken. IsRecordInside inside.now taken.0 taken.1.now) }
 {
     line_parts!(parallel_end take_line
-        (B B _alloc inside (Record { thread, seq, seen, body: Body::ParallelEnd { task, parallel } }))
+        (B B _alloc inside (Record { thread, nests: false, seq, seen, body: Body::ParallelEnd { task, parallel } }))
         parallel seen seq task thread)
 }
 
@@ -264,7 +265,7 @@ fn implicit_task<B: Between>(inside: &[u8]) -> Option<(Record, &[u8])>
 {
     line_parts!(implicit_task take_line
         (B B _alloc inside (Record {
-            thread, seq, seen,
+            thread, nests: false, seq, seen,
             body: Body::ImplicitTask { endpoint, actual, index, flags, parallel, task },
         }))
         actual endpoint flags index parallel seen seq task thread)
@@ -275,7 +276,10 @@ fn task_create<B: Between>(inside: &[u8]) -> Option<(Record, &[u8])>
     ensures { IfSome result (λ taken. IsRecordInside inside.now taken.0 taken.1.now) }
 {
     line_parts!(task_create take_line
-        (Others B _alloc inside (Record { thread, seq, seen, body: Body::TaskCreate { deps, flags, task, child } }))
+        (Others B _alloc inside (Record {
+            thread, nests: false, seq, seen,
+            body: Body::TaskCreate { deps, flags, task, child },
+        }))
         child deps flags seen seq task thread)
 }
 
@@ -285,7 +289,7 @@ fn dependences<B: Between>(alloc: Global, inside: &[u8]) -> Option<(Record, &[u8
     ensures { IfSome result (λ taken. IsRecordInside inside.now taken.0 taken.1.now) }
 {
     line_parts!(dependences take_line
-        (B B alloc inside (Record { thread, seq, seen, body: Body::Dependences { task, list } }))
+        (B B alloc inside (Record { thread, nests: false, seq, seen, body: Body::Dependences { task, list } }))
         list seen seq task thread)
 }
 
@@ -295,7 +299,7 @@ fn switching<B: Between>(inside: &[u8]) -> Option<(Record, &[u8])>
 {
     line_parts!(switching take_line
         (B B _alloc inside (Record {
-            thread, seq, seen,
+            thread, nests: false, seq, seen,
             body: Body::TaskSchedule { status, turns: None, prior, next, claim: None },
         }))
         next prior seen seq status thread)
@@ -311,7 +315,7 @@ fn finishing<B: Between>(alloc: Global, inside: &[u8]) -> Option<(Record, &[u8])
                 return None;
             };
             Record {
-                thread, seq, seen,
+                thread, nests: false, seq, seen,
                 body: Body::TaskSchedule { status, turns: None, prior, next, claim: Some(claim) },
             }
         })
@@ -324,7 +328,7 @@ fn switching_in_turn<B: Between>(inside: &[u8]) -> Option<(Record, &[u8])>
 {
     line_parts!(switching_in_turn take_line
         (B B _alloc inside (Record {
-            thread, seq, seen,
+            thread, nests: false, seq, seen,
             body: Body::TaskSchedule {
                 status,
                 turns: Some(Turns { prior: prior_turn, next: next_turn }),
@@ -344,7 +348,7 @@ fn finishing_in_turn<B: Between>(alloc: Global, inside: &[u8]) -> Option<(Record
                 return None;
             };
             Record {
-                thread, seq, seen,
+                thread, nests: false, seq, seen,
                 body: Body::TaskSchedule {
                     status,
                     turns: Some(Turns { prior: prior_turn, next: next_turn }),
@@ -361,7 +365,7 @@ fn sync_region<B: Between>(inside: &[u8]) -> Option<(Record, &[u8])>
 {
     line_parts!(sync_region take_line
         (B B _alloc inside (Record {
-            thread, seq, seen,
+            thread, nests: false, seq, seen,
             body: Body::SyncRegion { kind, endpoint, parallel, task },
         }))
         endpoint kind parallel seen seq task thread)
@@ -372,7 +376,10 @@ fn cancelling<B: Between>(inside: &[u8]) -> Option<(Record, &[u8])>
     ensures { IfSome result (λ taken. IsRecordInside inside.now taken.0 taken.1.now) }
 {
     line_parts!(cancelling take_line
-        (B B _alloc inside (Record { thread, seq, seen, body: Body::Cancel { flags, task, claim: None } }))
+        (B B _alloc inside (Record {
+            thread, nests: false, seq, seen,
+            body: Body::Cancel { flags, task, claim: None },
+        }))
         flags seen seq task thread)
 }
 
@@ -385,7 +392,7 @@ fn discarding<B: Between>(alloc: Global, inside: &[u8]) -> Option<(Record, &[u8]
             let Some(claim) = claim_of(alloc, kept, root, path) else {
                 return None;
             };
-            Record { thread, seq, seen, body: Body::Cancel { flags, task, claim: Some(claim) } }
+            Record { thread, nests: false, seq, seen, body: Body::Cancel { flags, task, claim: Some(claim) } }
         })
         flags kept path root seen seq task thread)
 }

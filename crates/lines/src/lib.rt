@@ -1,4 +1,4 @@
-//! A line of a trace file of version 1 or 2, or of a script: what it stands for, and the line of a record.
+//! A line of a trace file of version 1, 2 or 3, or of a script: what it stands for, and the line of a record.
 //! Read `record_lines` and `step_lines` for what a line stands for, `texts` for how one is written, and
 //! `cause` for why there is nothing. `tables` has the members of each callback. A line as it is written is
 //! read by `canonical`, value by value (`parts`), past members that the format does not know (`others`). Any

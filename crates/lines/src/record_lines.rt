@@ -1,5 +1,5 @@
-//! What a single line stands for, in a file of version 1 or 2 of the format.
-ghost use Rattle.std.specs.Prelude.{◌≡◌, ◌<◌, ◌≤◌, IfSome, IsTrue, Ok, Err, Some, length, take, slice_index, option_and_then, nat_lt, if◌then◌else◌};
+//! What a single line stands for, in a file of version 1, 2 or 3 of the format.
+ghost use Rattle.std.specs.Prelude.{◌≡◌, ◌<◌, ◌≤◌, ◌==◌, IfSome, IsTrue, Ok, Err, Some, length, take, slice_index, option_and_then, nat_lt, if◌then◌else◌};
 ghost use Rattle.std.specs.Result.{result_ok};
 ghost use Rattle.ompt_events.specs.declared.records.Body.{Body as SpecBody};
 ghost use Rattle.memchr.specs.Find.{IsFirstByte, is_byte};
@@ -36,7 +36,7 @@ pub const TRACES: &str = "task-credit-audit";
 // The shapes into which the rows of a callback's members are put. Each member is looked up before any limit
 // is asked for: a member that is missing or of the wrong kind is reported before a number past its limit.
 
-// A record, whose callback says the rest.
+// A record, whose callback says the rest. Whether regions may lie inside others is no member: the version says it.
 macro_rules! read_record {
     (
         ($object:ident $alloc:ident $version:ident)
@@ -44,7 +44,7 @@ macro_rules! read_record {
     ) => {{
         $(let $field = found!(id($object, Member::$name));)*
         let loose = found!(body($alloc, $version, $object));
-        within($($field,)* loose)
+        within($version, $($field,)* loose)
     }};
 }
 
@@ -231,12 +231,13 @@ fn on_tape(
 
 /// Returns the record that a line has in front, if nothing follows it and it may be in a file of this version.
 #[inline(always)]
-fn alone(version: u32, line: &[u8], event: Record, behind: &[u8]) -> Option<Record>
+fn alone(version: u32, line: &[u8], mut event: Record, behind: &[u8]) -> Option<Record>
     requires { IsRecordInFront line.now event behind.now }
     ensures { IfSome result (λ event. spec.line_says version line.now ≡ Ok event) }
 {
     event.read_numbers();
     if behind.is_empty() && event.body.is_sound_in(version) {
+        event.nests = nests_in(version);
         Some(event)
     } else {
         None
@@ -253,10 +254,11 @@ pub fn record_in_front(alloc: Global, version: u32, text: &[u8]) -> Option<(Reco
     ensures short { IfSome result (λ front. front.1 ≤ max_line) }
     ensures says { IfSome result (λ front. spec.line_says version (take front.1 text.now) ≡ Ok front.0) }
 {
-    let (event, behind) = canonical(alloc, version, text)?;
+    let (mut event, behind) = canonical(alloc, version, text)?;
     event.read_numbers();
     let len = text.len() - behind.len();
     if begins_with_line_feed(behind) && len <= MAX_LINE && event.body.is_sound_in(version) {
+        event.nests = nests_in(version);
         Some((event, len))
     } else {
         None
@@ -283,21 +285,30 @@ fn record_in(alloc: Global, version: u32, object: &Object<'_, '_>) -> Result<Rec
     members!(Record read_record (object alloc version))
 }
 
-/// Returns the record of these, if none is past its limit.
+/// Returns the record of these in a file of this version, if none is past its limit.
 #[inline(always)]
-fn within(thread: u64, seq: u64, seen: u64, loose: Loose) -> Result<Record, ReadCause>
+fn within(version: u32, thread: u64, seq: u64, seen: u64, loose: Loose) -> Result<Record, ReadCause>
     ensures { (body : SpecBody) → loose ≡ loose_body body → result ≡ bounded spec.record_fits
-        (Some (record { thread = thread; seq = seq; seen = seen; body = body })) }
+        (Some (record { thread = thread; nests = version == 3; seq = seq; seen = seen; body = body })) }
 {
     if !loose.fits {
         return Err(ReadCause::Limit);
     }
     Ok(Record {
         thread: byte(thread)?,
+        nests: nests_in(version),
         seq: short(seq)?,
         seen: short(seen)?,
         body: loose.body,
     })
+}
+
+/// Returns whether parallel regions may lie inside others in a file of this version.
+#[inline(always)]
+fn nests_in(version: u32) -> bool
+    ensures { result ≡ (version == 3) }
+{
+    version == 3
 }
 
 /// Returns the number, if it has at most 8 bits.
@@ -339,7 +350,7 @@ fn task_schedule(alloc: Global, version: u32, object: &Object<'_, '_>) -> Result
 fn tells_turns(version: u32, status: Status) -> bool
     ensures { result ≡ spec.tells_turns version status }
 {
-    version == 2 && status.demands_next()
+    version > 1 && status.demands_next()
 }
 
 /// Reads a cancel.

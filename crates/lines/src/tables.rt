@@ -10,7 +10,7 @@
 // - `flags`: a list of names.
 // - `path`: a list of numbers of at most 32 bits. `deps`: a list of objects with the members of `Dep`.
 // - `claim`: the members of `Claim`, where the record finishes a task.
-// - `turns`: the members of `Turns`, in a file of version 2 where a task runs next.
+// - `turns`: the members of `Turns`, in a file of version 2 or 3 where a task runs next.
 
 // The callbacks: the function of the same name, and the name in a file. Those after the semicolon have
 // members that the lines of scripts lack.

@@ -9,7 +9,7 @@ use Rattle.std.proofs.lemmas.List.Elements.{filter_more}
 use Rattle.std.specs.Prelude.{◌==◌, filter, fold, replicate}
 use Rattle.std.proofs.Math.ListN.{set}
 use Rattle.ompt_events.specs.declared.records.Record.{Record}
-use Rattle.ompt_events.specs.Threads.{Walk, at_start, after_body, after_record, walk_of}
+use Rattle.ompt_events.specs.Threads.{Walk, at_start, after_record, walk_of}
 
 -- where each thread stands after the first i records
 pub record AreWalks (rs : List Record) (i : ℕ) (walks : List Walk) : Type 0 where
@@ -24,7 +24,7 @@ walks_none rs = record {
 }
 
 walk_own : (rs : List Record) (i : ℕ) (r : Record) → i < length rs → r ≡ get_or rs i r
-    → walk_of r.thread (take (i + 1) rs) ≡ after_body (walk_of r.thread (take i rs)) r.body
+    → walk_of r.thread (take (i + 1) rs) ≡ after_record (walk_of r.thread (take i rs)) r
 walk_own rs i r within read =
     ap (fold after_record at_start)
     (filter_more (λ q. q.thread == r.thread) rs i r within
@@ -50,22 +50,22 @@ walk_other rs i r thread within read apart =
 -- the record's thread goes on by it, and the others stay
 pub walks_more : (rs : List Record) (i : ℕ) (r : Record) (old new : List Walk) → i < length rs
     → r ≡ get_or rs i r → r.thread < 256 → AreWalks rs i old
-    → new ≡ set old r.thread (after_body (get_or old r.thread at_start) r.body) → AreWalks rs (i + 1) new
+    → new ≡ set old r.thread (after_record (get_or old r.thread at_start) r) → AreWalks rs (i + 1) new
 walks_more rs i r old new within read low walks is = record {
-  all = ap length is ∙ length-set old r.thread (after_body (get_or old r.thread at_start) r.body) ∙ walks.all;
+  all = ap length is ∙ length-set old r.thread (after_record (get_or old r.thread at_start) r) ∙ walks.all;
   each = λ thread below. elim (cases_eq thread r.thread) [
     | inl same ↦
         ap (λ ws. get_or ws thread at_start) is
         ∙ ap
-        (λ t. get_or (set old r.thread (after_body (get_or old r.thread at_start) r.body)) t at_start)
+        (λ t. get_or (set old r.thread (after_record (get_or old r.thread at_start) r)) t at_start)
         same
-        ∙ get_or-set_same old r.thread (after_body (get_or old r.thread at_start) r.body) at_start
+        ∙ get_or-set_same old r.thread (after_record (get_or old r.thread at_start) r) at_start
         (rw walks.all low)
-        ∙ ap (λ w. after_body w r.body) (walks.each r.thread low)
+        ∙ ap (λ w. after_record w r) (walks.each r.thread low)
         ∙ sym (walk_own rs i r within read) ∙ ap (λ t. walk_of t (take (i + 1) rs)) (sym same)
     | inr apart ↦
         ap (λ ws. get_or ws thread at_start) is
-        ∙ get_or-set_other old r.thread thread (after_body (get_or old r.thread at_start) r.body) at_start
+        ∙ get_or-set_other old r.thread thread (after_record (get_or old r.thread at_start) r) at_start
         apart
         ∙ walks.each thread below ∙ sym (walk_other rs i r thread within read apart)
   ];

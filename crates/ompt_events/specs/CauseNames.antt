@@ -3,12 +3,13 @@ use Rattle.std.specs.Prelude.{ℕ, List, [], ◌∷◌, filter, ltb, codes}
 use Rattle.ompt_events.specs.declared.cause.Cause.{Cause}
 use Rattle.ompt_events.specs.declared.cause.Cause.TheVariants.{SeqGap, CreatedTwice, Rootless, NotCurrent}
 use Rattle.ompt_events.specs.declared.cause.Cause.TheVariants.{Moved, TurnGap, StatusOrder, RegionOrder}
-use Rattle.ompt_events.specs.declared.cause.Cause.TheVariants.{TeamShort, NestedParallel, DepsPlace}
-use Rattle.ompt_events.specs.declared.cause.Cause.TheVariants.{ShareWrong, EntryTwice, LengthAhead}
+use Rattle.ompt_events.specs.declared.cause.Cause.TheVariants.{TeamShort, NestedParallel, RegionNesting}
+use Rattle.ompt_events.specs.declared.cause.Cause.TheVariants.{DepsPlace, ShareWrong, EntryTwice}
+use Rattle.ompt_events.specs.declared.cause.Cause.TheVariants.{LengthAhead}
 use Rattle.ompt_events.specs.declared.cause.Cause.TheVariants.{LengthBack, NoOrder, TargetTask}
 
--- the cause's place in the order in which causes are reported; Moved and TurnGap have one number, since each
--- occurs only in one version of the file
+-- the cause's place in the order in which causes are reported; Moved and TurnGap have one number, and so have
+-- NestedParallel and RegionNesting, since no version of the file has both
 abbrev pub cause_number : Cause → ℕ
 cause_number SeqGap = 1
 cause_number CreatedTwice = 2
@@ -20,6 +21,7 @@ cause_number StatusOrder = 6
 cause_number RegionOrder = 7
 cause_number TeamShort = 8
 cause_number NestedParallel = 9
+cause_number RegionNesting = 9
 cause_number DepsPlace = 10
 cause_number ShareWrong = 11
 cause_number EntryTwice = 12
@@ -32,8 +34,8 @@ cause_number TargetTask = 16
 abbrev pub all_causes : List Cause
 all_causes =
     SeqGap ∷ CreatedTwice ∷ Rootless ∷ NotCurrent ∷ Moved ∷ TurnGap ∷ StatusOrder ∷ RegionOrder
-    ∷ TeamShort ∷ NestedParallel ∷ DepsPlace ∷ ShareWrong ∷ EntryTwice ∷ LengthAhead ∷ LengthBack ∷ NoOrder
-    ∷ TargetTask ∷ []
+    ∷ TeamShort ∷ NestedParallel ∷ RegionNesting ∷ DepsPlace ∷ ShareWrong ∷ EntryTwice ∷ LengthAhead
+    ∷ LengthBack ∷ NoOrder ∷ TargetTask ∷ []
 
 -- the causes with smaller numbers than this one
 abbrev pub before : Cause → List Cause
@@ -50,6 +52,7 @@ cause_name StatusOrder = codes "StatusOrder"
 cause_name RegionOrder = codes "RegionOrder"
 cause_name TeamShort = codes "TeamShort"
 cause_name NestedParallel = codes "NestedParallel"
+cause_name RegionNesting = codes "RegionNesting"
 cause_name DepsPlace = codes "DepsPlace"
 cause_name ShareWrong = codes "ShareWrong"
 cause_name EntryTwice = codes "EntryTwice"

@@ -1,6 +1,7 @@
 -- Why no run within the model can produce a list of records. Each cause is a fact about the list alone, and
 -- assumes that no lower-numbered cause occurs.
-use Rattle.std.specs.Prelude.{true, None, ℕ, ◌≡◌, ◌≢◌, ◌<◌, ◌≤◌, ◌+◌, ◌==◌, List, [], length, take, Some}
+use Rattle.std.specs.Prelude.{true, false, None, ℕ, ◌≡◌, ◌≢◌, ◌<◌, ◌≤◌, ◌+◌, ◌==◌, List, [], length, take}
+use Rattle.std.specs.Prelude.{Some}
 use Rattle.std.specs.Prelude.{Contains, count_by, slice_get, is_some, if◌then◌else◌}
 use Rattle.ompt_events.specs.declared.records.Record.{Record}
 use Rattle.ompt_events.specs.declared.records.Claim.{Claim}
@@ -9,8 +10,9 @@ use Rattle.ompt_events.specs.declared.records.Part.{Part}
 use Rattle.ompt_events.specs.declared.cause.Cause.{Cause}
 use Rattle.ompt_events.specs.declared.cause.Cause.TheVariants.{SeqGap, CreatedTwice, Rootless, NotCurrent}
 use Rattle.ompt_events.specs.declared.cause.Cause.TheVariants.{Moved, TurnGap, StatusOrder, RegionOrder}
-use Rattle.ompt_events.specs.declared.cause.Cause.TheVariants.{TeamShort, NestedParallel, DepsPlace}
-use Rattle.ompt_events.specs.declared.cause.Cause.TheVariants.{ShareWrong, EntryTwice, LengthAhead}
+use Rattle.ompt_events.specs.declared.cause.Cause.TheVariants.{TeamShort, NestedParallel, RegionNesting}
+use Rattle.ompt_events.specs.declared.cause.Cause.TheVariants.{DepsPlace, ShareWrong, EntryTwice}
+use Rattle.ompt_events.specs.declared.cause.Cause.TheVariants.{LengthAhead}
 use Rattle.ompt_events.specs.declared.cause.Cause.TheVariants.{LengthBack, NoOrder, TargetTask}
 use Rattle.ompt_events.specs.declared.names.SyncKind.{SyncKind}
 use Rattle.ompt_events.specs.declared.names.Endpoint.{Endpoint}
@@ -22,7 +24,7 @@ use Rattle.ompt_events.specs.declared.records.Membership.{Membership}
 use Rattle.ompt_events.specs.Records.{made, created, created_with_deps, dependences, started, told_turns}
 use Rattle.ompt_events.specs.Records.{begun_turn, begun_root, finish, claim, flags, named, forked}
 use Rattle.ompt_events.specs.Records.{region_named, joined, begun_initial, region}
-use Rattle.ompt_events.specs.Places.{at, thread_at, seen_at}
+use Rattle.ompt_events.specs.Places.{at, thread_at, nests_at, seen_at}
 use Rattle.ompt_events.specs.Tree.{IsRoot, IsExplicit, IsRooted, HasPath, children}
 use Rattle.ompt_events.specs.Turns.{turn_at, in_own_order, own_place}
 use Rattle.ompt_events.specs.Threads.{Walk, walk_of, MisfitsAt}
@@ -148,17 +150,35 @@ pub data IsShort (rs : List Record) (i : ℕ) : Type 0 where
 abbrev pub IsWalkAt : List Record → ℕ → Walk → Type 0
 IsWalkAt rs i walk = (r : Record) × (slice_get rs i ≡ Some r) × (walk ≡ walk_of r.thread (take i rs))
 
--- a parallel region inside another
+-- a parallel region inside another, where none may be
 pub data IsNested (rs : List Record) (i : ℕ) : Type 0 where
   -- a parallel region begins by a task that isn't initial
-  forked_inside : (task parallel : ℕ) → at forked rs i ≡ Some (task, parallel) → (IsInitial rs task → ⊥)
-      → IsNested rs i
+  forked_inside : (task parallel : ℕ) → nests_at rs i ≡ false → at forked rs i ≡ Some (task, parallel)
+      → (IsInitial rs task → ⊥) → IsNested rs i
   -- a member of a team begins while another is the thread's innermost open root
-  joined_inside : (m : Membership) (walk : Walk) (outer : ℕ) → at joined rs i ≡ Some m
-      → IsWalkAt rs i walk → slice_get walk.roots 0 ≡ Some outer → IsMember rs outer → IsNested rs i
+  joined_inside : (m : Membership) (walk : Walk) (outer : ℕ) → nests_at rs i ≡ false
+      → at joined rs i ≡ Some m → IsWalkAt rs i walk → slice_get walk.roots 0 ≡ Some outer
+      → IsMember rs outer → IsNested rs i
   -- an initial task begins while the thread has an open root
-  initial_inside : (task : ℕ) (walk : Walk) → at begun_initial rs i ≡ Some task → IsWalkAt rs i walk
-      → walk.roots ≢ [] → IsNested rs i
+  initial_inside : (task : ℕ) (walk : Walk) → nests_at rs i ≡ false → at begun_initial rs i ≡ Some task
+      → IsWalkAt rs i walk → walk.roots ≢ [] → IsNested rs i
+
+-- an earlier record of the same thread begins the parallel region, by the task that runs there before i
+abbrev pub HasBegun : List Record → ℕ → Walk → ℕ → Type 0
+HasBegun rs i walk parallel =
+    (k task : ℕ) × (k < i) × (thread_at rs k ≡ thread_at rs i) × (walk.current ≡ Some task)
+    × (at forked rs k ≡ Some (task, parallel))
+
+-- a root begins inside another one, on a thread whose current task has not begun its region there
+-- (OpenMP 5.2, 10.1: the thread that encounters a parallel construct becomes the primary thread of its team)
+pub data IsMisnested (rs : List Record) (i : ℕ) : Type 0 where
+  -- a member of a team begins, whose region the current task has not begun
+  other_region : (m : Membership) (walk : Walk) → nests_at rs i ≡ true → at joined rs i ≡ Some m
+      → IsWalkAt rs i walk → walk.roots ≢ [] → (HasBegun rs i walk m.parallel → ⊥) → IsMisnested rs i
+  -- an initial task begins, and the current task has begun no region
+  other_league : (task : ℕ) (walk : Walk) → nests_at rs i ≡ true → at begun_initial rs i ≡ Some task
+      → IsWalkAt rs i walk → walk.roots ≢ [] → ((parallel : ℕ) → HasBegun rs i walk parallel → ⊥)
+      → IsMisnested rs i
 
 -- the thread's next record after the one at a is that at b
 pub record IsNextInThread (rs : List Record) (a b : ℕ) : Type 0 where
@@ -218,10 +238,10 @@ pub record HasNoOrder (rs : List Record) (i : ℕ) : Type 0 where
   pub within : i < length rs
   pub never : (order : List ℕ) → IsGrounded rs order → Contains order i → ⊥
 
--- a task is made that is to run on a device (OpenMP 5.2, 13.8)
+-- a task is made that is to run on a device (OpenMP 5.2, 13.8), where the file does not admit one
 abbrev pub MakesTarget : List Record → ℕ → Type 0
 MakesTarget rs i =
-    (task bits : ℕ) × (at made rs i ≡ Some task) × (at flags rs i ≡ Some bits)
+    (task bits : ℕ) × (nests_at rs i ≡ false) × (at made rs i ≡ Some task) × (at flags rs i ≡ Some bits)
     × (has_flag bits flag.target ≡ true)
 
 -- The record has the cause.
@@ -238,6 +258,7 @@ pub data HasCause (rs : List Record) (i : ℕ) : Cause → Type 0 where
   barrier_order : HasBarrier rs i → HasCause rs i RegionOrder
   team_short : IsShort rs i → HasCause rs i TeamShort
   nested_parallel : IsNested rs i → HasCause rs i NestedParallel
+  region_nesting : IsMisnested rs i → HasCause rs i RegionNesting
   deps_place : HasMisplacedDeps rs i → HasCause rs i DepsPlace
   share_wrong : HasWrongShare rs i → HasCause rs i ShareWrong
   entry_twice : RepeatsEntry rs i → HasCause rs i EntryTwice

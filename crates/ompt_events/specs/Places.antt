@@ -19,6 +19,10 @@ thread_at rs i = option_map (λ (r : Record). r.thread) (slice_get rs i)
 abbrev pub seen_at : List Record → ℕ → ℕ
 seen_at rs i = option_map_or (λ (r : Record). r.seen) (slice_get rs i) 0
 
+-- whether regions may lie inside others there, as the record has it; not past the end
+abbrev pub nests_at : List Record → ℕ → Bool
+nests_at rs i = option_map_or (λ (r : Record). r.nests) (slice_get rs i) false
+
 -- all places
 abbrev pub places : List Record → List ℕ
 places rs = range_with_len 0 (length rs)

@@ -1,6 +1,6 @@
 -- What a list of records must be to be a trace.
 use Rattle.std.specs.Prelude.{ℕ, ◌≡◌, ◌==◌, ◌≤◌, ◌<◌, ◌+◌, ◌^◌, ◌⊎◌, ◌&&◌, ⊤, List, length, take, All}
-use Rattle.std.specs.Prelude.{count_by, is_some, IfSome}
+use Rattle.std.specs.Prelude.{count_by, is_some, IfSome, ltb}
 use Rattle.std.specs.Int.RustNames.{bit_and}
 use Rattle.bitflags.specs.Sets.{known_bits}
 use Rattle.ompt_events.specs.declared.records.Record.{Record}
@@ -90,19 +90,32 @@ pub record IsTrace (rs : List Record) : Type 0 where
   pub sound : All (λ r. IsSound r.body) rs
   pub in_range : All IsInRange rs
 
--- turns are recorded in version 2, and there where a task runs next
-abbrev pub HasItsTurns : ℕ → Body → Type 0
-HasItsTurns version body = is_some (told_turns body) ≡ ((version == 2) && is_some (started body))
+-- the versions of the file format
+abbrev pub IsKnown : ℕ → Type 0
+IsKnown version = (version ≡ 1) ⊎ ((version ≡ 2) ⊎ (version ≡ 3))
 
--- a record that can be in a trace of this version, as far as it alone shows
+-- turns are recorded from version 2 on, and there where a task runs next
+abbrev pub HasItsTurns : ℕ → Body → Type 0
+HasItsTurns version body = is_some (told_turns body) ≡ (ltb 1 version && is_some (started body))
+
+-- a body that a record can have in a trace of this version, as far as it alone shows
 abbrev pub IsSoundIn : ℕ → Body → Type 0
 IsSoundIn version body = IsSound body × HasItsTurns version body
 
+-- regions may lie inside others in version 3
+abbrev pub NestsIn : ℕ → Record → Type 0
+NestsIn version r = r.nests ≡ (version == 3)
+
+-- a record that can be in a trace of this version, as far as it alone shows
+abbrev pub FitsIn : ℕ → Record → Type 0
+FitsIn version r = IsSoundIn version r.body × NestsIn version r
+
 -- the records are a trace of this version
 pub record IsTraceOf (version : ℕ) (rs : List Record) : Type 0 where
-  pub known : (version ≡ 1) ⊎ (version ≡ 2)
+  pub known : IsKnown version
   pub is_trace : IsTrace rs
   pub turns : All (λ r. HasItsTurns version r.body) rs
+  pub nesting : All (NestsIn version) rs
 
 -- the records before i are a trace of this version, and with the one at i they are none
 pub record IsFirstRefused (version : ℕ) (rs : List Record) (i : ℕ) : Type 0 where

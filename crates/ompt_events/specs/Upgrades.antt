@@ -1,7 +1,8 @@
--- What a trace of version 1 is in version 2, where turns are recorded. They are counted along the file, so
--- each task must run on one thread alone: where an untied task resumes on another one (OpenMP 5.2, 12.1),
--- the order of the file does not show its turns.
-use Rattle.std.specs.Prelude.{ℕ, ◌≡◌, ◌≢◌, ◌<◌, ◌+◌, List, length, Some, take, count_by, slice_get}
+-- What a trace of version 1 is in version 2, where turns are recorded, and one of version 2 in version 3.
+-- Turns are counted along the file, so each task of version 1 must run on one thread alone: where an untied
+-- task resumes on another one (OpenMP 5.2, 12.1), the order of the file does not show its turns.
+use Rattle.std.specs.Prelude.{ℕ, ◌≡◌, ◌≢◌, ◌<◌, ◌+◌, true, List, length, Some, take, map, count_by}
+use Rattle.std.specs.Prelude.{slice_get}
 use Rattle.std.specs.Prelude.{if◌then◌else◌}
 use Rattle.std.specs.Option.{option_map_or}
 use Rattle.ompt_events.specs.declared.records.Record.{Record}
@@ -56,7 +57,18 @@ pub record IsUpgrade (rs ss : List Record) : Type 0 where
   pub all : length ss ≡ length rs
   pub each : (i : ℕ) (r : Record) → slice_get rs i ≡ Some r → slice_get ss i ≡ Some (record {
     thread = r.thread;
+    nests = r.nests;
     seq = r.seq;
     seen = r.seen;
     body = body_upgraded rs ss i r.body;
   })
+
+-- ---- version 3
+
+-- the record in version 3, where parallel regions may lie inside others
+abbrev pub nesting : Record → Record
+nesting r = record { thread = r.thread; nests = true; seq = r.seq; seen = r.seen; body = r.body }
+
+-- the records ss are the records rs of version 2 in version 3
+abbrev pub IsRelabelled : List Record → List Record → Type 0
+IsRelabelled rs ss = ss ≡ map nesting rs

@@ -16,7 +16,7 @@ pub enum Cause {
     NotCurrent,
     /// An explicit task runs on a second thread, in a file of version 1, which does not record turns.
     Moved,
-    /// The turns that a record has are not those of its tasks, in a file of version 2.
+    /// The turns that a record has are not those of its tasks, in a file of version 2 or 3.
     TurnGap,
     /// A record changes a task in a way that the task's state does not allow.
     StatusOrder,
@@ -24,8 +24,10 @@ pub enum Cause {
     RegionOrder,
     /// A team lacks a member, or a member lacks a barrier.
     TeamShort,
-    /// A parallel region inside another.
+    /// A parallel region inside another, in a file of version 1 or 2.
     NestedParallel,
+    /// A root begins inside another one whose task did not begin its region there, in a file of version 3.
+    RegionNesting,
     /// A list of dependences that does not follow its creation, or is missing there.
     DepsPlace,
     /// A finishing record claims a place that is not its task's.
@@ -57,6 +59,7 @@ macro_rules! causes {
             RegionOrder = 7 "RegionOrder",
             TeamShort = 8 "TeamShort",
             NestedParallel = 9 "NestedParallel",
+            RegionNesting = 9 "RegionNesting",
             DepsPlace = 10 "DepsPlace",
             ShareWrong = 11 "ShareWrong",
             EntryTwice = 12 "EntryTwice",
@@ -95,7 +98,8 @@ macro_rules! value_of {
 
 impl Cause {
     /// Returns the number, from 1 to 16. Of the causes that occur, the lowest-numbered one is reported.
-    /// Moved and TurnGap share the number 5, since each occurs in only one version of the file.
+    /// Two causes share the number 5, and two the number 9: of such two, one occurs in some versions of the
+    /// file and the other in the others.
     pub fn number(self) -> u8
         ensures { result ≡ cause_number self }
     {

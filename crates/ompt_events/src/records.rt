@@ -33,7 +33,7 @@ pub struct Claim {
     pub path: ClaimPath,
 }
 
-/// Which turns a task_schedule event ends and begins, in files of version 2. A task runs in turns: it starts
+/// Which turns a task_schedule event ends and begins, in files of version 2 and 3. A task runs in turns: it starts
 /// in turn 0, and each time that it resumes after a suspension its turn is one more. A root begins in turn
 /// 0.
 #[derive(Clone, Copy, Debug, PartialEq, Eq)]
@@ -102,7 +102,7 @@ pub enum Body {
         list: Deps,
     },
     /// `prior` stops running or is fulfilled with this status (19.5.2.10), and `next`, where there is one,
-    /// runs from here on. A finishing record has a `claim`. In a trace of version 2 one with a `next` has
+    /// runs from here on. A finishing record has a `claim`. In a trace of version 2 or 3 one with a `next` has
     /// `turns`.
     TaskSchedule {
         status: Status,
@@ -445,6 +445,9 @@ impl Body {
 pub struct Record {
     /// The thread that recorded it.
     pub thread: u8,
+    /// Whether parallel regions may lie inside others: in a trace of version 3. There the end of an initial or
+    /// implicit task lets the task go on that ran when it began; else the root below it goes on.
+    pub nests: bool,
     /// How many records its thread made before it.
     pub seq: u32,
     /// The length of the ledger of finished tasks, as far as the thread knew it. Of a finishing record it is

@@ -1,6 +1,6 @@
 //! A list of records that keeps within the limits of a file.
 ghost use Rattle.std.specs.Prelude.{◌≡◌, ◌↔◌, IsTrue, IfOk, IfErr, MatchOption, is_some, IfSome, length, ◌≤◌, ◌<◌, ◌^◌, ◌⊎◌};
-ghost use Rattle.ompt_events.specs.Traces.{IsSound, IsTrace, IsTraceOf, IsSoundIn, HasItsTurns, IsFirstRefused, IsInRange, BodyInRange, ClaimInRange, TurnsInRange};
+ghost use Rattle.ompt_events.specs.Traces.{IsSound, IsTrace, IsTraceOf, IsKnown, IsSoundIn, FitsIn, HasItsTurns, IsFirstRefused, IsInRange, BodyInRange, ClaimInRange, TurnsInRange};
 
 use crate::boxed_claim::BoxedClaim;
 use crate::names::Endpoint;
@@ -19,9 +19,9 @@ pub const MAX_DEPENDENCES: usize = 64;
 /// The most numbers that a path has: how deep below its root a finished task may be.
 pub const MAX_DEPTH: usize = 1024;
 
-/// Records in file order, each sound by itself, within the limits on their number. In a trace of version 2
-/// each record after which a task runs next has turns, and no other record does; in one of version 1 none
-/// has.
+/// Records in file order, each sound by itself, within the limits on their number. In a trace of version 2 or 3
+/// each record after which a task runs next has turns, and no other record does; in one of version 1 none has.
+/// In a trace of version 3 each record says that parallel regions may lie inside others.
 #[derive(Debug, Drop)]
 pub struct Trace {
     version: u32,
@@ -43,7 +43,7 @@ impl Trace {
     /// one that cannot be in such a trace. Such a record is past the limit on records or tasks, has a flag
     /// bit without a name, has a claim but finishes no task or finishes one without a claim, has a next task
     /// that its status forbids or lacks one that it demands, is the begin and end of an implicit task in
-    /// one, has a path or a list of dependences that is too long, or has turns. Takes no memory.
+    /// one, has a path or a list of dependences that is too long, has turns, or `nests`. Takes no memory.
     pub fn from_records(records: Vec<Record>) -> Result<Trace, (Vec<Record>, usize)>
         ensures accepted { IfOk result (λ trace. trace ≡ record { version = 1; records = records.items }) }
         ensures refused { IfErr result (λ refusal. (refusal.0.items ≡ records.items)
@@ -63,6 +63,16 @@ impl Trace {
         trace_of(2, records)
     }
 
+    /// Returns the trace of version 3 of these records, in which parallel regions may lie inside others. Fails as
+    /// [`Trace::from_turns`] does, and at a record that does not say so. Takes no memory.
+    pub fn from_nested(records: Vec<Record>) -> Result<Trace, (Vec<Record>, usize)>
+        ensures accepted { IfOk result (λ trace. trace ≡ record { version = 3; records = records.items }) }
+        ensures refused { IfErr result (λ refusal. (refusal.0.items ≡ records.items)
+            × IsFirstRefused 3 records.items refusal.1) }
+    {
+        trace_of(3, records)
+    }
+
     /// Returns the trace of this version of the records. Requires that they are those of such a trace: no
     /// record is looked at. Takes no memory.
     pub fn from_parts(version: u32, records: Vec<Record>) -> Trace
@@ -72,7 +82,8 @@ impl Trace {
         Trace { version, records }
     }
 
-    /// Returns the version of the file format: 1, or 2 where records have turns. Takes no memory.
+    /// Returns the version of the file format: 1, 2 where records have turns, or 3 where also parallel regions
+    /// may lie inside others. Takes no memory.
     pub fn version(&self) -> u32
         ensures { result ≡ self.now.version }
     {
@@ -99,7 +110,7 @@ impl Trace {
 /// Returns the trace of this version of the records. Fails with the records and the place of the first one
 /// that cannot be in such a trace.
 fn trace_of(version: u32, records: Vec<Record>) -> Result<Trace, (Vec<Record>, usize)>
-    requires { (version ≡ 1) ⊎ (version ≡ 2) }
+    requires { IsKnown version }
     ensures accepted { IfOk result (λ trace. trace ≡ record { version = version; records = records.items }) }
     ensures refused { IfErr result (λ refusal. (refusal.0.items ≡ records.items)
         × IsFirstRefused version records.items refusal.1) }
@@ -112,7 +123,7 @@ fn trace_of(version: u32, records: Vec<Record>) -> Result<Trace, (Vec<Record>, u
 
 /// Returns the place of the first record that cannot be in a trace of this version after those before it.
 fn first_refused(version: u32, records: &[Record]) -> Option<usize>
-    requires { (version ≡ 1) ⊎ (version ≡ 2) }
+    requires { IsKnown version }
     ensures { MatchOption result (IsTraceOf version records.now) (IsFirstRefused version records.now) }
 {
     let mut tasks: usize = 0;
@@ -120,7 +131,7 @@ fn first_refused(version: u32, records: &[Record]) -> Option<usize>
         if at >= MAX_RECORDS {
             return Some(at);
         }
-        if !event.body.is_sound_in(version) {
+        if !event.fits_in(version) {
             return Some(at);
         }
         event.read_numbers();
@@ -180,7 +191,7 @@ impl Body {
     fn tells_its_turns(&self, version: u32) -> bool
         ensures { IsTrue result ↔ HasItsTurns version self.now }
     {
-        let demanded = version == 2 && self.started().is_some();
+        let demanded = version > 1 && self.started().is_some();
         self.told_turns().is_some() == demanded
     }
 }
@@ -199,6 +210,13 @@ fn is_short(claim: &Option<BoxedClaim>) -> bool
 // nothing.
 
 impl Record {
+    /// Returns whether the record can be in a trace of the version, as far as it alone shows. Takes no memory.
+    pub fn fits_in(&self, version: u32) -> bool
+        ensures { IsTrue result ↔ FitsIn version self.now }
+    {
+        self.body.is_sound_in(version) && self.nests == (version == 3)
+    }
+
     /// Ensures that each number of a record is within the range of its type. Compiles to nothing.
     pub fn read_numbers(&self)
         ensures { IsInRange self.now }

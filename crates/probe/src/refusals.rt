@@ -17,6 +17,7 @@ pub fn all(rt: &HostRuntime) -> Result<()> {
         tell(rt, what, Trace::from_records(records))?;
     }
     in_turns(rt)?;
+    nested(rt)?;
     buffered(rt)
 }
 
@@ -44,6 +45,32 @@ fn in_turns(rt: &HostRuntime) -> Result<()> {
         tell(rt, what, Trace::from_turns(one(rt.alloc(), event)?))?;
     }
     Ok(())
+}
+
+/// Prints of a record by which regions may lie inside others, and of one by which they may not, whether they are a
+/// trace of version 3, and of the first whether it is one of version 2.
+fn nested(rt: &HostRuntime) -> Result<()> {
+    let (what, event) = (
+        "regions inside others",
+        nesting(creates(TaskFlags::EXPLICIT)),
+    );
+    tell(rt, what, Trace::from_nested(one(rt.alloc(), event)?))?;
+    let event = nesting(creates(TaskFlags::EXPLICIT));
+    tell(rt, what, Trace::from_turns(one(rt.alloc(), event)?))?;
+    let event = creates(TaskFlags::EXPLICIT);
+    tell(
+        rt,
+        "no regions inside others",
+        Trace::from_nested(one(rt.alloc(), event)?),
+    )
+}
+
+/// The record, as one of a trace in which regions may lie inside others.
+fn nesting(event: Record) -> Record {
+    Record {
+        nests: true,
+        ..event
+    }
 }
 
 /// A list of one record.
@@ -135,6 +162,7 @@ fn last_record(alloc: Global, number: u8) -> Result<(&'static str, Record), Allo
 fn record(body: Body) -> Record {
     Record {
         thread: 0,
+        nests: false,
         seq: 0,
         seen: 0,
         body,

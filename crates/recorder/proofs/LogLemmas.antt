@@ -1,6 +1,6 @@
 -- A record more in the records of one thread.
-use Rattle.std.proofs.Common.{◌≡◌, ◌∙◌, ℕ, ◌≤◌, ◌<◌, true, List, [], ◌∷◌, ◌++◌, length, take, refl, sym, ap}
-use Rattle.std.proofs.Common.{subst, arith, inl, inr}
+use Rattle.std.proofs.Common.{◌≡◌, ◌∙◌, ℕ, ◌≤◌, ◌<◌, true, false, List, [], ◌∷◌, ◌++◌, length, take, refl}
+use Rattle.std.proofs.Common.{sym, ap, subst, arith, inl, inr}
 use Rattle.std.proofs.lemmas.List.{length_push, take-append-le}
 use Rattle.std.proofs.lemmas.List.Sums.{fold_push}
 use Rattle.std.proofs.lemmas.Option.{slice_get_within}
@@ -41,16 +41,18 @@ known-pushed own r = fold_push (λ k (q : Record). known_from q.seen q.body) 0 o
 -- the records of a thread with one more
 pub recorded-pushed : (thread known : ℕ) (own : List Record) (r : Record) → AreRecorded thread own known
     → length own < max_records
-    → known ≤ r.seen → allows (standing_of own) r.body ≡ true → IsSoundIn 2 r.body → IsInRange r
+    → known ≤ r.seen → allows (standing_of own) r.body ≡ true → IsSoundIn 2 r.body → r.nests ≡ false
+    → IsInRange r
     → r.thread ≡ thread
     → r.seq ≡ length own → AreRecorded thread (own ++ r ∷ []) (known_from r.seen r.body)
-recorded-pushed thread known own r recorded few rises allowed sound in_range is_thread is_seq =
+recorded-pushed thread known own r recorded few rises allowed sound no_nesting in_range is_thread is_seq =
     let follows : Follows thread own r = record {
       thread_is = is_thread;
       seq_is = is_seq;
       seen_rises = omega (arith, recorded.known_rises, rises);
       allowed = allowed;
       sound = sound;
+      no_nesting = no_nesting;
       in_range = in_range;
     } in
     record {
@@ -63,16 +65,18 @@ recorded-pushed thread known own r recorded few rises allowed sound in_range is_
 pub log-pushed : (v : LogView) (standing next : Standing) (later : LogView) (r : Record)
     → AreRecorded v.thread v.records v.known × (standing ≡ standing_of v.records)
     → length v.records < max_records → v.known ≤ r.seen
-    → allows (standing_of v.records) r.body ≡ true → IsSoundIn 2 r.body → IsInRange r
+    → allows (standing_of v.records) r.body ≡ true → IsSoundIn 2 r.body → r.nests ≡ false → IsInRange r
     → r.thread ≡ v.thread
     → r.seq ≡ length v.records
     → later.thread ≡ v.thread → later.records ≡ v.records ++ r ∷ [] → later.known ≡ known_from r.seen r.body
     → next ≡ next_standing standing r.body
     → AreRecorded later.thread later.records later.known × (next ≡ standing_of later.records)
-log-pushed v standing next later r kept few rises allowed sound in_range is_thread is_seq same is_later
+log-pushed v standing next later r kept few rises allowed sound no_nesting in_range is_thread is_seq same
+    is_later
     is_known
     is_next =
-    let all = recorded-pushed v.thread v.known v.records r kept.0 few rises allowed sound in_range is_thread
+    let all = recorded-pushed v.thread v.known v.records r kept.0 few rises allowed sound no_nesting in_range
+    is_thread
     is_seq in (
       subst (λ t. AreRecorded t later.records later.known) (sym same)
           (subst (λ l. AreRecorded v.thread l later.known) (sym is_later)

@@ -1,6 +1,6 @@
 -- What one thread has recorded, and what it knows of the ledger.
-use Rattle.std.specs.Prelude.{ℕ, ◌≡◌, ◌≤◌, ◌+◌, List, length, take, fold, Some, true, is_some, slice_get}
-use Rattle.std.specs.Prelude.{if◌then◌else◌}
+use Rattle.std.specs.Prelude.{ℕ, ◌≡◌, ◌≤◌, ◌+◌, List, length, take, fold, Some, true, false, is_some}
+use Rattle.std.specs.Prelude.{slice_get, if◌then◌else◌}
 use Rattle.ompt_events.specs.declared.records.Record.{Record}
 use Rattle.ompt_events.specs.declared.records.Body.{Body}
 use Rattle.ompt_events.specs.Limits.{max_records}
@@ -30,13 +30,15 @@ known_from seen body = if is_some (finish body) then seen + 1 else seen
 abbrev pub known_of : List Record → ℕ
 known_of own = fold (λ k (r : Record). known_from r.seen r.body) 0 own
 
--- the record may come after those before it
+-- the record, which is one of version 2, may come after those before it
 pub record Follows (thread : ℕ) (before : List Record) (r : Record) : Type 0 where
   pub thread_is : r.thread ≡ thread
   pub seq_is : r.seq ≡ length before
   pub seen_rises : known_of before ≤ r.seen
   pub allowed : allows (standing_of before) r.body ≡ true
   pub sound : IsSoundIn 2 r.body
+  -- regions do not lie inside others in version 2
+  pub no_nesting : r.nests ≡ false
   pub in_range : IsInRange r
 
 -- each record may come after those before it

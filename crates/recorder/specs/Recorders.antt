@@ -1,6 +1,6 @@
 -- What a recorder is: the records of one thread, and a seat of the ledger that threads share.
-use Rattle.std.specs.Prelude.{ℕ, ◌≡◌, ◌≤◌, ◌||◌, ◌&&◌, Bool, List, [], ◌∷◌, ◌++◌, length, Option, None, Some}
-use Rattle.std.specs.Prelude.{nat_le, slice_get, option_map, option_and_then}
+use Rattle.std.specs.Prelude.{ℕ, ◌≡◌, ◌≤◌, ◌||◌, ◌&&◌, Bool, false, List, [], ◌∷◌, ◌++◌, length, Option, None}
+use Rattle.std.specs.Prelude.{Some, nat_le, slice_get, option_map, option_and_then}
 use Rattle.atomic_table.specs.Seated.{TableId}
 use Rattle.ompt_events.specs.declared.records.Record.{Record}
 use Rattle.ompt_events.specs.declared.records.Body.{Body}
@@ -54,7 +54,13 @@ pub record IsBacked (own : List Record) (known : ℕ) (seat : View) : Type 0 whe
 abbrev pub recorded : RecorderView → ℕ → View → Body → RecorderView
 recorded r seen seat body = record {
   thread = r.thread;
-  records = r.records ++ record { thread = r.thread; seq = length r.records; seen = seen; body = body } ∷ [];
+  records = r.records ++ record {
+    thread = r.thread;
+    nests = false;
+    seq = length r.records;
+    seen = seen;
+    body = body;
+  } ∷ [];
   known = known_from seen body;
   ledger = r.ledger;
   seat = seat;

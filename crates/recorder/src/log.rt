@@ -1,5 +1,5 @@
 //! The records of one thread.
-ghost use Rattle.std.specs.Prelude.{◌≡◌, ◌≤◌, ◌<◌, ◌+◌, ◌^◌, ◌++◌, ◌∷◌, [], true, length, nat_le, OnOk, IsOkUnless};
+ghost use Rattle.std.specs.Prelude.{◌≡◌, ◌≤◌, ◌<◌, ◌+◌, ◌^◌, ◌++◌, ◌∷◌, [], true, false, length, nat_le, OnOk, IsOkUnless};
 ghost use Rattle.ompt_events.specs.Limits.{max_records};
 ghost use Rattle.ompt_events.specs.Traces.{IsSoundIn};
 ghost use Rattle.recorder.specs.Standing.{allows};
@@ -105,6 +105,7 @@ impl Log {
         ensures thread { self.new.thread ≡ self.old.thread }
         ensures records { self.new.records ≡ self.old.records ++ record {
           thread = self.old.thread;
+          nests = false;
           seq = length self.old.records;
           seen = seen;
           body = body;
@@ -113,6 +114,8 @@ impl Log {
     {
         let event = Record {
             thread: self.buffer.thread(),
+            // it becomes part of a trace of version 2
+            nests: false,
             seq: self.buffer.len() as u32,
             seen,
             body,

@@ -1,5 +1,5 @@
 -- A call of a recorder adds one record, with that call.
-use Rattle.std.proofs.Common.{ℕ, length, ◌≡◌, ◌∙◌, ◌++◌, ◌∷◌, [], Some, None, Option, map, ap}
+use Rattle.std.proofs.Common.{ℕ, length, ◌≡◌, ◌∙◌, ◌++◌, ◌∷◌, [], false, Some, None, Option, map, ap}
 use Rattle.std.proofs.Common.{arith}
 use Rattle.std.proofs.lemmas.List.{map-append}
 use Rattle.std.specs.Prelude.{option_map}
@@ -33,7 +33,13 @@ call_recorded old new seen seat body told is same = record {
 }
   where
     added : Record
-    added = record { thread = old.thread; seq = length old.records; seen = seen; body = body }
+    added = record {
+      thread = old.thread;
+      nests = false;
+      seq = length old.records;
+      seen = seen;
+      body = body;
+    }
 
 -- a schedule
 pub call_stopped : (part : Option Part) (old new : RecorderView) (s : ScheduleView) (told : Body)

@@ -119,6 +119,7 @@ pub fn pushes<R: Wait>(rt: &R, list: &Mutex<Vec<Record>>, count: u32) -> Result<
     for seq in 0..count {
         let event = Record {
             thread: 0,
+            nests: false,
             seq,
             seen: 0,
             body: Body::TaskCreate {

@@ -2,7 +2,8 @@ mod NumberingLemmas
 mod TargetLemmas
 mod WalkLemmas
 mod CurrentLemmas
-mod NestingLemmas
+pub mod NestingLemmas
+pub mod MisnestingLemmas
 mod ProgressLemmas
 pub mod OriginLemmas
 mod PassLemmas

@@ -7,7 +7,8 @@ use Rattle.std.proofs.lemmas.List.{length-set, get_or-set_same, get_or-set_other
 use Rattle.std.proofs.Math.ListN.{set}
 use Rattle.std.proofs.lemmas.Option.{none-some, same_Some, slice_get_within, slice_get-get_or}
 use Rattle.std.proofs.lemmas.Option.{get_or_from_slice_get}
-use Rattle.std.specs.Prelude.{◌↔◌, is_some, slice_get, option_and_then, replicate, IsSomeAnd, IfSome}
+use Rattle.std.specs.Prelude.{◌↔◌, All, is_some, slice_get, option_and_then, replicate, IsSomeAnd, IfSome}
+use Rattle.std.specs.Option.{option_map_or}
 use Rattle.ompt_events.specs.declared.records.Record.{Record}
 use Rattle.ompt_events.specs.declared.records.Membership.{Membership}
 use Rattle.ompt_events.specs.declared.cause.Cause.TheVariants.{NestedParallel}
@@ -17,12 +18,13 @@ use Rattle.ompt_events.specs.declared.records.Body.TheVariants.{ImplicitTask, Ta
 use Rattle.ompt_events.specs.declared.names.Endpoint.TheVariants.{Begin, End}
 use Rattle.ompt_events.proofs.RecordLemmas.{at_through, member_made, initial_made, member_begun}
 use Rattle.ompt_events.proofs.RecordLemmas.{initial_begun}
-use Rattle.ompt_events.specs.Places.{at, thread_at}
+use Rattle.ompt_events.specs.Places.{at, thread_at, nests_at}
 use Rattle.ompt_events.specs.Teams.{IsInitial, IsMember}
 use Rattle.ompt_events.specs.Names.{demands_next}
-use Rattle.ompt_events.specs.Threads.{Walk, at_start, after_body, walk_of}
+use Rattle.ompt_events.specs.Threads.{Walk, at_start, after_body, after_record, walk_of}
 use Rattle.ompt_events.specs.Causes.{IsWalkAt, IsNested, forked_inside, joined_inside, initial_inside}
 use Rattle.ompt_events.specs.Causes.{HasCause, nested_parallel, IsFirstWith, IsFreeOf}
+use Rattle.ompt_events.specs.Causes.{IsMisnested, other_region, other_league}
 use Rattle.ompt_events.proofs.PlaceLemmas.{at_within, at_get, get_at, some_and, and_some, some_of}
 use Rattle.ompt_events.proofs.ThreadLemmas.{AreWalks, walks_more, walk_is}
 use Rattle.ompt_events.proofs.ListLemmas.{get_within}
@@ -36,6 +38,7 @@ use Rattle.task_states.specs.Nesting.{IsRootEvent, IsNoRootEvent, IsMemberIndex,
 use Rattle.task_states.specs.Walks.{after_event}
 use Rattle.task_states.proofs.WalkLemmas.{AreCalled, called_push, called_drop, called_there, uncalled_there}
 use Rattle.task_states.proofs.WalkLemmas.{begin_after, end_after, thread_there, thread_low, stands_none}
+use Rattle.task_states.proofs.WalkLemmas.{nests_there}
 
 -- ---- what the record that makes a task says of it
 
@@ -155,45 +158,47 @@ roots_none run walks fresh =
     }
 
 -- a root that begins or ends changes the open roots so
-roots_after : (run : RunView) (i : ℕ) (walk w : Walk) (event : ThreadEvent) (r : Record)
+roots_after : (run : RunView) (nests : Bool) (i : ℕ) (walk w : Walk) (event : ThreadEvent) (r : Record)
     → slice_get run.records i ≡ Some r → IsRootEvent run i event
     → AreCalled run.family.tasks walk.roots w.roots
-    → AreCalled run.family.tasks (after_event walk event).roots (after_body w r.body).roots
-roots_after run i walk w (RootBegin index) r stands is are =
+    → AreCalled run.family.tasks (after_event nests walk event).roots (after_record w r).roots
+roots_after run nests i walk w (RootBegin index) r stands is are =
     let (task, says, there) = called_there begun_root run i index r stands is in
     let P : Walk → Type 0 = λ v. AreCalled run.family.tasks (index ∷ walk.roots) v.roots in
-    subst P (sym (begin_after w r.body task says))
+    subst P (sym (begin_after r.nests w r.body task says))
     (called_push run.family.tasks index task walk.roots w.roots there are)
-roots_after run i walk w (RootEnd index) r stands is are =
+roots_after run nests i walk w (RootEnd index) r stands is are =
     let (task, says, there) = called_there ended_root run i index r stands is in
     let P : Walk → Type 0 = λ v. AreCalled run.family.tasks (drop 1 walk.roots) v.roots in
-    subst P (sym (end_after w r.body task says)) (called_drop run.family.tasks walk.roots w.roots are)
-roots_after run i walk w (Scheduled event) r stands is are = absurd is
-roots_after run i walk w (Running index) r stands is are = absurd is
+    subst P (sym (end_after r.nests w r.body task says)) (called_drop run.family.tasks walk.roots w.roots are)
+roots_after run nests i walk w (Scheduled event) r stands is are = absurd is
+roots_after run nests i walk w (Running index) r stands is are = absurd is
 
 -- any other record leaves them
-roots_kept : (w : Walk) (b : Body) → begun_root b ≡ None → ended_root b ≡ None
-    → (after_body w b).roots ≡ w.roots
-roots_kept w (ImplicitTask Begin actual index flags parallel own) no_begin no_end =
+roots_kept : (nests : Bool) (w : Walk) (b : Body) → begun_root b ≡ None → ended_root b ≡ None
+    → (after_body nests w b).roots ≡ w.roots
+roots_kept nests w (ImplicitTask Begin actual index flags parallel own) no_begin no_end =
     absurd (none-some own (sym no_begin))
-roots_kept w (ImplicitTask End actual index flags parallel own) no_begin no_end =
+roots_kept nests w (ImplicitTask End actual index flags parallel own) no_begin no_end =
     absurd (none-some own (sym no_end))
-roots_kept w (TaskSchedule status turns prior next claimed) no_begin no_end = by (demands_next status)
+roots_kept nests w (TaskSchedule status turns prior next claimed) no_begin no_end = by (demands_next status)
   where
-    by : (b : Bool) → (cond b (record { roots = w.roots; current = next }) w).roots ≡ w.roots
+    by : (b : Bool)
+        → (cond b (record { roots = w.roots; outer = w.outer; current = next }) w).roots ≡ w.roots
     by true = refl
     by false = refl
-roots_kept w _ no_begin no_end = refl
+roots_kept nests w _ no_begin no_end = refl
 
 -- the thread of a record goes on by it
-pub roots_more : (run : RunView) (i thread : ℕ) (event : ThreadEvent) (old new : List Walk) → IsRun run
-    → i < length run.records → thread_at run.records i ≡ Some thread → IsRootEvent run i event
-    → AreOpenRoots run i old → new ≡ set old thread (after_event (get_or old thread at_start) event)
+pub roots_more : (run : RunView) (nests : Bool) (i thread : ℕ) (event : ThreadEvent) (old new : List Walk)
+    → IsRun run → i < length run.records → thread_at run.records i ≡ Some thread → IsRootEvent run i event
+    → AreOpenRoots run i old → new ≡ set old thread (after_event nests (get_or old thread at_start) event)
     → AreOpenRoots run (i + 1) new
-roots_more run i thread event old new is_run within runs tells are is = more (get_within run.records i within)
+roots_more run nests i thread event old new is_run within runs tells are is =
+    more (get_within run.records i within)
   where
     next : Walk
-    next = after_event (get_or old thread at_start) event
+    next = after_event nests (get_or old thread at_start) event
 
     more : (r : Record) × (slice_get run.records i ≡ Some r) → AreOpenRoots run (i + 1) new
     more (r, stands) = record {
@@ -216,7 +221,7 @@ roots_more run i thread event old new is_run within runs tells are is = more (ge
             (are.each thread low_own) in
             subst (λ w. P w (get_or (set are.whole r.thread after) other at_start)) (sym mine)
             (subst (P next) (sym theirs)
-            (roots_after run i (get_or old thread at_start) (get_or are.whole r.thread at_start) event
+            (roots_after run nests i (get_or old thread at_start) (get_or are.whole r.thread at_start) event
             r stands tells here))
         | inr apart ↦
             let mine : get_or new other at_start ≡ get_or old other at_start =
@@ -234,7 +239,7 @@ roots_more run i thread event old new is_run within runs tells are is = more (ge
         P v w = AreCalled run.family.tasks v.roots w.roots
 
         after : Walk
-        after = after_body (get_or are.whole r.thread at_start) r.body
+        after = after_record (get_or are.whole r.thread at_start) r
 
         same : r.thread ≡ thread
         same = thread_there run i thread r stands runs
@@ -264,14 +269,14 @@ roots_same run i walks is_run within (no_begin, no_end) are = still (get_within 
     }
       where
         after : Walk
-        after = after_body (get_or are.whole r.thread at_start) r.body
+        after = after_record (get_or are.whole r.thread at_start) r
 
         low : r.thread < 256
         low = thread_low run i r is_run stands
 
         quiet : after.roots ≡ (get_or are.whole r.thread at_start).roots
         quiet =
-            roots_kept (get_or are.whole r.thread at_start) r.body
+            roots_kept r.nests (get_or are.whole r.thread at_start) r.body
             (uncalled_there begun_root run i r stands no_begin)
             (uncalled_there ended_root run i r stands no_end)
 
@@ -312,31 +317,33 @@ first_known tasks indices named are = of (slice_get indices 0) refl
 
 -- ---- a record where its thread stands
 
-not_empty : (roots : List ℕ) → is_some (slice_get roots 0) ≡ true → roots ≢ []
+pub not_empty : (roots : List ℕ) → is_some (slice_get roots 0) ≡ true → roots ≢ []
 not_empty roots is empty = false≢true (ap (λ l. is_some (slice_get l 0)) (sym empty) ∙ is)
 
-has_first : (roots : List ℕ) → roots ≢ [] → is_some (slice_get roots 0) ≡ true
+pub has_first : (roots : List ℕ) → roots ≢ [] → is_some (slice_get roots 0) ≡ true
 has_first [] full = absurd (full refl)
 has_first (x ∷ xs) full = refl
 
-pub forks_nested : (run : RunView) (i : ℕ) → ForksInside run.records i → IsNested run.records i
-forks_nested run i h =
+pub forks_nested : (run : RunView) (i : ℕ) → nests_at run.records i ≡ false → ForksInside run.records i
+    → IsNested run.records i
+forks_nested run i flat h =
     let ((task, parallel), says, other) =
     some_and (at forked run.records i) (λ (p : ℕ × ℕ). IsInitial run.records p.0 → ⊥) h in
-    forked_inside task parallel says other
+    forked_inside task parallel flat says other
 
 -- where the thread stands after its part of the records
-walk_here : (run : RunView) (i thread : ℕ) → i < length run.records → thread_at run.records i ≡ Some thread
-    → IsWalkAt run.records i (walk_of thread (take i run.records))
+pub walk_here : (run : RunView) (i thread : ℕ) → i < length run.records
+    → thread_at run.records i ≡ Some thread → IsWalkAt run.records i (walk_of thread (take i run.records))
 walk_here run i thread within runs =
     let (r, stands) = get_within run.records i within in
     (r, stands, ap (λ t. walk_of t (take i run.records)) (sym (thread_there run i thread r stands runs)))
 
-pub begins_nested : (run : RunView) (i thread : ℕ) (walk : Walk) → i < length run.records
+pub begins_nested : (run : RunView) (i thread : ℕ) (walk : Walk) → nests_at run.records i ≡ false
+    → i < length run.records
     → thread_at run.records i ≡ Some thread
     → AreCalled run.family.tasks walk.roots (walk_of thread (take i run.records)).roots
     → BeginsInside run walk i → IsNested run.records i
-begins_nested run i thread walk within runs are (inl h) =
+begins_nested run i thread walk flat within runs are (inl h) =
     let w = walk_of thread (take i run.records) in
     let (m, says, opened) =
     some_and (at joined run.records i)
@@ -346,14 +353,14 @@ begins_nested run i thread walk within runs are (inl h) =
     let (own, named, there) =
     call_task run.family.tasks (slice_get w.roots 0) (slice_get walk.roots 0) index (are 0) is_first in
     let P : ℕ → Type 0 = IsMember run.records in
-    joined_inside m w own says (walk_here run i thread within runs) named
+    joined_inside m w own flat says (walk_here run i thread within runs) named
     (subst P (same_Some task own (sym stands ∙ there)) member)
-begins_nested run i thread walk within runs are (inr (begins, opened)) =
+begins_nested run i thread walk flat within runs are (inr (begins, opened)) =
     let w = walk_of thread (take i run.records) in
     let task = some_of (at begun_initial run.records i) begins in
     let full : is_some (slice_get w.roots 0) ≡ true =
     sym (found_same run.family.tasks (slice_get w.roots 0) (slice_get walk.roots 0) (are 0)) ∙ opened in
-    initial_inside task.0 w task.1 (walk_here run i thread within runs) (not_empty w.roots full)
+    initial_inside task.0 w flat task.1 (walk_here run i thread within runs) (not_empty w.roots full)
 
 -- and back
 pub nested_cases : (run : RunView) (i thread : ℕ) (walk : Walk) → thread_at run.records i ≡ Some thread
@@ -369,11 +376,11 @@ nested_cases run i thread walk runs are nested = cases nested
         is ∙ ap (λ t. walk_of t (take i run.records)) (thread_there run i thread r stands runs)
 
     cases : IsNested run.records i → ForksInside run.records i ⊎ BeginsInside run walk i
-    cases (forked_inside task parallel says other) =
+    cases (forked_inside task parallel flat says other) =
         inl
         (and_some (at forked run.records i) (λ (p : ℕ × ℕ). IsInitial run.records p.0 → ⊥)
         (task, parallel) says other)
-    cases (joined_inside m other outer says stands is member) =
+    cases (joined_inside m other outer flat says stands is member) =
         let top : slice_get w.roots 0 ≡ Some outer =
         ap (λ (v : Walk). slice_get v.roots 0) (sym (is_here other stands)) ∙ is in
         let (index, there, indexed) =
@@ -384,7 +391,7 @@ nested_cases run i thread walk runs are nested = cases nested
         (λ (x : Membership). IsSomeAnd (slice_get walk.roots 0) (IsMemberIndex run)) m says
         (and_some (slice_get walk.roots 0) (IsMemberIndex run) index there
         (outer, indexed, member))))
-    cases (initial_inside task other says stands full) =
+    cases (initial_inside task other flat says stands full) =
         let P : Walk → Type 0 = λ v. is_some (slice_get v.roots 0) ≡ true in
         inr
         (inr (
@@ -402,28 +409,57 @@ nested_forks run i (no_begin, no_end) nested = cases nested
     none = call_none run.family.tasks (at begun_root run.records i) None no_begin refl
 
     cases : IsNested run.records i → ForksInside run.records i
-    cases (forked_inside task parallel says other) =
+    cases (forked_inside task parallel flat says other) =
         and_some (at forked run.records i) (λ (p : ℕ × ℕ). IsInitial run.records p.0 → ⊥) (task, parallel)
         says other
-    cases (joined_inside m other outer says stands is member) =
+    cases (joined_inside m other outer flat says stands is member) =
         absurd
         (none-some m.member
         (sym none ∙ at_through joined begun_root m m.member run.records i (member_begun m) says))
-    cases (initial_inside task other says stands full) =
+    cases (initial_inside task other flat says stands full) =
         absurd
         (none-some task
         (sym none
         ∙ at_through begun_initial begun_root task task run.records i (initial_begun task) says))
 
--- ---- the search
+-- ---- where none may, and where each may
 
 is_nested : (rs : List Record) (i : ℕ) → HasCause rs i NestedParallel → IsNested rs i
 is_nested rs i (nested_parallel h) = h
 
-nested_within : (rs : List Record) (i : ℕ) → IsNested rs i → i < length rs
-nested_within rs i (forked_inside task parallel says other) = at_within forked rs i (task, parallel) says
-nested_within rs i (joined_inside m walk outer says stands is member) = at_within joined rs i m says
-nested_within rs i (initial_inside task walk says stands full) = at_within begun_initial rs i task says
+pub nested_within : (rs : List Record) (i : ℕ) → IsNested rs i → i < length rs
+nested_within rs i (forked_inside task parallel flat says other) = at_within forked rs i (task, parallel) says
+nested_within rs i (joined_inside m walk outer flat says stands is member) = at_within joined rs i m says
+nested_within rs i (initial_inside task walk flat says stands full) = at_within begun_initial rs i task says
+
+pub nests_all : (rs : List Record) (nests : Bool) (i : ℕ) → All (λ (r : Record). r.nests ≡ nests) rs
+    → i < length rs → nests_at rs i ≡ nests
+nests_all rs nests i all within =
+    let (r, stands) = get_within rs i within in
+    ap (λ (o : Option Record). option_map_or (λ (q : Record). q.nests) o false) stands
+    ∙ nests_there rs i nests r all stands
+
+pub flat_nested : (rs : List Record) (i : ℕ) → IsNested rs i → nests_at rs i ≡ false
+flat_nested rs i (forked_inside task parallel flat says other) = flat
+flat_nested rs i (joined_inside m walk outer flat says stands is member) = flat
+flat_nested rs i (initial_inside task walk flat says stands full) = flat
+
+pub misnested_nests : (rs : List Record) (i : ℕ) → IsMisnested rs i → nests_at rs i ≡ true
+misnested_nests rs i (other_region m walk nests joins stands inside none) = nests
+misnested_nests rs i (other_league task walk nests begins stands inside none) = nests
+
+pub misnested_within : (rs : List Record) (i : ℕ) → IsMisnested rs i → i < length rs
+misnested_within rs i (other_region m walk nests joins stands inside none) = at_within joined rs i m joins
+misnested_within rs i (other_league task walk nests begins stands inside none) =
+    at_within begun_initial rs i task begins
+
+pub free_where_all_nest : (rs : List Record) → All (λ (r : Record). r.nests ≡ true) rs
+    → IsFreeOf rs NestedParallel
+free_where_all_nest rs all i has =
+    let here = is_nested rs i has in
+    false≢true (sym (flat_nested rs i here) ∙ nests_all rs true i all (nested_within rs i here))
+
+-- ---- the search
 
 pub first_nested : (rs : List Record) (i : ℕ) → ((k : ℕ) → k < i → IsNested rs k → ⊥) → IsNested rs i
     → IsFirstWith rs NestedParallel i

@@ -61,30 +61,31 @@ every_placed (r ∷ rs) = (
       (every_placed rs),
 )
 
-roots_after : (rs : List Record) (thread : ℕ) (walk : Walk) (b : Body)
+roots_after : (rs : List Record) (thread : ℕ) (nests : Bool) (walk : Walk) (b : Body)
     → Every (IsBegunOn rs thread) walk.roots
     → ((task : ℕ) → begun_root b ≡ Some task → IsBegunOn rs thread task)
-    → Every (IsBegunOn rs thread) (after_body walk b).roots
-roots_after rs thread walk (ImplicitTask Begin actual index flags parallel task) each begins =
+    → Every (IsBegunOn rs thread) (after_body nests walk b).roots
+roots_after rs thread nests walk (ImplicitTask Begin actual index flags parallel task) each begins =
     (begins task refl, each)
-roots_after rs thread walk (ImplicitTask End actual index flags parallel task) each begins =
+roots_after rs thread nests walk (ImplicitTask End actual index flags parallel task) each begins =
     every_rest (IsBegunOn rs thread) walk.roots each
-roots_after rs thread walk (TaskSchedule status turns prior next claimed) each begins =
+roots_after rs thread nests walk (TaskSchedule status turns prior next claimed) each begins =
     by (demands_next status)
   where
     by : (b : Bool)
         → Every (IsBegunOn rs thread)
-        (if b then record { roots = walk.roots; current = next } else walk).roots
+        (if b then record { roots = walk.roots; outer = walk.outer; current = next } else walk).roots
     by true = each
     by false = each
-roots_after rs thread walk _ each begins = each
+roots_after rs thread nests walk _ each begins = each
 
 roots_begun : (rs : List Record) (thread : ℕ) (qs : List Record) (walk : Walk)
     → Every (IsBegunOn rs thread) walk.roots → Every (BeginsOn rs thread) qs
     → Every (IsBegunOn rs thread) (fold after_record walk qs).roots
 roots_begun rs thread [] walk each begins = each
 roots_begun rs thread (q ∷ qs) walk each begins =
-    roots_begun rs thread qs (after_record walk q) (roots_after rs thread walk q.body each begins.0) begins.1
+    roots_begun rs thread qs (after_record walk q) (roots_after rs thread q.nests walk q.body each begins.0)
+    begins.1
 
 walk_begun : (rs : List Record) (thread i : ℕ)
     → Every (IsBegunOn rs thread) (walk_of thread (take i rs)).roots

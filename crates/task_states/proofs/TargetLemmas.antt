@@ -1,10 +1,13 @@
 -- Which records make target tasks.
-use Rattle.std.proofs.Common.{ℕ, ◌<◌, ◌≤◌, List, length, arith}
+use Rattle.std.proofs.Common.{◌≡◌, ◌∙◌, ℕ, ◌<◌, ◌≤◌, List, length, true, sym, arith}
+use Rattle.std.proofs.lemmas.Bool.{false≢true}
+use Rattle.std.specs.Prelude.{All}
 use Rattle.ompt_events.specs.declared.records.Record.{Record}
 use Rattle.ompt_events.specs.declared.cause.Cause.TheVariants.{TargetTask}
 use Rattle.ompt_events.specs.Records.{made}
 use Rattle.ompt_events.specs.Causes.{HasCause, MakesTarget, target_task, IsFirstWith, IsFreeOf}
 use Rattle.ompt_events.proofs.PlaceLemmas.{at_within}
+use Rattle.task_states.proofs.NestingLemmas.{nests_all}
 
 pub makes_target_task : (rs : List Record) (i : ℕ) → HasCause rs i TargetTask → MakesTarget rs i
 makes_target_task rs i (target_task makes) = makes
@@ -23,5 +26,13 @@ pub free_of_targets : (rs : List Record) (i : ℕ) → ((k : ℕ) → k < i → 
     → IsFreeOf rs TargetTask
 free_of_targets rs i free end k has =
     let makes = makes_target_task rs k has in
-    let within : k < length rs = at_within made rs k makes.0 makes.2 in
+    let within : k < length rs = at_within made rs k makes.0 makes.3 in
     free k (omega arith) makes
+
+-- where regions may lie inside others none does
+pub none_where_all_nest : (rs : List Record) → All (λ (r : Record). r.nests ≡ true) rs
+    → IsFreeOf rs TargetTask
+none_where_all_nest rs all k has =
+    let makes = makes_target_task rs k has in
+    let within : k < length rs = at_within made rs k makes.0 makes.3 in
+    false≢true (sym makes.2 ∙ nests_all rs true k all within)

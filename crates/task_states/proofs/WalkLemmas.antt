@@ -5,7 +5,7 @@ use Rattle.std.proofs.lemmas.Bool.{cases_eq}
 use Rattle.std.proofs.lemmas.Option.{none-some, same_Some, slice_get_within, get_or_from_slice_get}
 use Rattle.std.proofs.lemmas.List.{length-set, length-replicate, get_or-replicate, get_or-set_same}
 use Rattle.std.proofs.lemmas.List.{get_or-set_other}
-use Rattle.std.specs.Prelude.{if◌then◌else◌, slice_get, replicate, option_map}
+use Rattle.std.specs.Prelude.{All, if◌then◌else◌, slice_get, replicate, option_map}
 use Rattle.ompt_events.specs.declared.records.Record.{Record}
 use Rattle.ompt_events.specs.declared.records.Body.{Body}
 use Rattle.ompt_events.specs.declared.records.Body.TheVariants.{ImplicitTask, TaskSchedule}
@@ -14,10 +14,10 @@ use Rattle.ompt_events.specs.declared.names.Status.{Status}
 use Rattle.ompt_events.specs.Names.{demands_next}
 use Rattle.ompt_events.specs.Records.{schedule, begun_root, ended_root, running}
 use Rattle.ompt_events.specs.Places.{at, thread_at}
-use Rattle.ompt_events.specs.Threads.{Walk, at_start, after_body, walk_of}
+use Rattle.ompt_events.specs.Threads.{Walk, at_start, uncovered, after_body, after_record, walk_of}
 use Rattle.ompt_events.proofs.ThreadLemmas.{AreWalks, walks_none, walks_more, walk_is}
 use Rattle.ompt_events.proofs.PlaceLemmas.{at_get}
-use Rattle.ompt_events.proofs.ListLemmas.{get_within}
+use Rattle.ompt_events.proofs.ListLemmas.{get_within, all_get}
 use Rattle.task_tree.specs.Subjects.{Calls}
 use Rattle.task_tree.specs.Runs.{RunView, IsRun, IsThreadEvent, IsNoThreadEvent}
 use Rattle.task_tree.specs.declared.run.ThreadEvent.{ThreadEvent}
@@ -31,9 +31,14 @@ use Rattle.task_states.specs.Walks.{after_event}
 abbrev pub AreCalled : List ℕ → List ℕ → List ℕ → Type 0
 AreCalled tasks indices named = (k : ℕ) → Calls tasks (slice_get named k) (slice_get indices k)
 
+-- the same of tasks that ran, where one did
+abbrev pub AreOuterCalled : List ℕ → List (Option ℕ) → List (Option ℕ) → Type 0
+AreOuterCalled tasks indices named = (k : ℕ) → Calls tasks (get_or named k None) (get_or indices k None)
+
 -- the one walk has the indices of the tasks that the other has
 pub record IsIndexed (tasks : List ℕ) (walk w : Walk) : Type 0 where
   pub roots : AreCalled tasks walk.roots w.roots
+  pub outer : AreOuterCalled tasks walk.outer w.outer
   pub current : Calls tasks w.current walk.current
 
 pub called_push : (tasks : List ℕ) (index task : ℕ) (indices named : List ℕ)
@@ -48,6 +53,25 @@ called_drop tasks [] [] are k = are k
 called_drop tasks [] (task ∷ named) are k = let first = are 0 in absurd (none-some first.0 first.1)
 called_drop tasks (index ∷ indices) [] are k = absurd (none-some index (sym (are 0)))
 called_drop tasks (index ∷ indices) (task ∷ named) are k = are (suc k)
+
+outer_push : (tasks : List ℕ) (index task : Option ℕ) (indices named : List (Option ℕ))
+    → Calls tasks task index → AreOuterCalled tasks indices named
+    → AreOuterCalled tasks (index ∷ indices) (task ∷ named)
+outer_push tasks index task indices named calls are zero = calls
+outer_push tasks index task indices named calls are (suc k) = are k
+
+outer_drop : (tasks : List ℕ) (indices named : List (Option ℕ)) → AreOuterCalled tasks indices named
+    → AreOuterCalled tasks (drop 1 indices) (drop 1 named)
+outer_drop tasks [] [] are k = are k
+outer_drop tasks [] (task ∷ named) are k = are (suc k)
+outer_drop tasks (index ∷ indices) [] are k = are (suc k)
+outer_drop tasks (index ∷ indices) (task ∷ named) are k = are (suc k)
+
+-- and so has the task that goes on behind a root
+uncovered_called : (tasks : List ℕ) (nests : Bool) (walk w : Walk) → IsIndexed tasks walk w
+    → Calls tasks (uncovered nests w) (uncovered nests walk)
+uncovered_called tasks true walk w is = is.outer 0
+uncovered_called tasks false walk w is = is.roots 1
 
 -- ---- what a body says, where the event is that of its record
 
@@ -106,63 +130,71 @@ nothing_there run i r stands (none, no_begin, no_end, no_run) = (
 
 -- ---- how a walk goes on
 
-schedule_after : (w : Walk) (b : Body) (status : Status) (prior : ℕ) (next : Option ℕ)
+schedule_after : (nests : Bool) (w : Walk) (b : Body) (status : Status) (prior : ℕ) (next : Option ℕ)
     → schedule b ≡ Some (status, prior, next)
-    → after_body w b ≡ (if demands_next status then record { roots = w.roots; current = next } else w)
-schedule_after w (TaskSchedule s turns p n claimed) status prior next is =
+    → after_body nests w b
+    ≡ (if demands_next status then record { roots = w.roots; outer = w.outer; current = next } else w)
+schedule_after nests w (TaskSchedule s turns p n claimed) status prior next is =
     ap
     (λ (t : Status × ℕ × Option ℕ).
-    if demands_next t.0 then record { roots = w.roots; current = t.2 } else w)
+    if demands_next t.0 then record { roots = w.roots; outer = w.outer; current = t.2 } else w)
     (same_Some (s, p, n) (status, prior, next) is)
-schedule_after w _ status prior next is = absurd (none-some (status, prior, next) is)
+schedule_after nests w _ status prior next is = absurd (none-some (status, prior, next) is)
 
-pub begin_after : (w : Walk) (b : Body) (task : ℕ) → begun_root b ≡ Some task
-    → after_body w b ≡ record { roots = task ∷ w.roots; current = Some task }
-begin_after w (ImplicitTask Begin actual index flags parallel own) task is =
-    ap (λ (t : ℕ). record { roots = t ∷ w.roots; current = Some t }) (same_Some own task is)
-begin_after w _ task is = absurd (none-some task is)
+pub begin_after : (nests : Bool) (w : Walk) (b : Body) (task : ℕ) → begun_root b ≡ Some task
+    → after_body nests w b
+    ≡ record { roots = task ∷ w.roots; outer = w.current ∷ w.outer; current = Some task }
+begin_after nests w (ImplicitTask Begin actual index flags parallel own) task is =
+    ap (λ (t : ℕ). record { roots = t ∷ w.roots; outer = w.current ∷ w.outer; current = Some t })
+    (same_Some own task is)
+begin_after nests w _ task is = absurd (none-some task is)
 
-pub end_after : (w : Walk) (b : Body) (task : ℕ) → ended_root b ≡ Some task
-    → after_body w b ≡ record { roots = drop 1 w.roots; current = slice_get w.roots 1 }
-end_after w (ImplicitTask End actual index flags parallel own) task is = refl
-end_after w _ task is = absurd (none-some task is)
+pub end_after : (nests : Bool) (w : Walk) (b : Body) (task : ℕ) → ended_root b ≡ Some task
+    → after_body nests w b
+    ≡ record { roots = drop 1 w.roots; outer = drop 1 w.outer; current = uncovered nests w }
+end_after nests w (ImplicitTask End actual index flags parallel own) task is = refl
+end_after nests w _ task is = absurd (none-some task is)
 
-quiet_after : (w : Walk) (b : Body) → schedule b ≡ None → begun_root b ≡ None → ended_root b ≡ None
-    → after_body w b ≡ w
-quiet_after w (ImplicitTask Begin actual index flags parallel own) none no_begin no_end =
+quiet_after : (nests : Bool) (w : Walk) (b : Body) → schedule b ≡ None → begun_root b ≡ None
+    → ended_root b ≡ None → after_body nests w b ≡ w
+quiet_after nests w (ImplicitTask Begin actual index flags parallel own) none no_begin no_end =
     absurd (none-some own (sym no_begin))
-quiet_after w (ImplicitTask End actual index flags parallel own) none no_begin no_end =
+quiet_after nests w (ImplicitTask End actual index flags parallel own) none no_begin no_end =
     absurd (none-some own (sym no_end))
-quiet_after w (TaskSchedule s turns p n claimed) none no_begin no_end =
+quiet_after nests w (TaskSchedule s turns p n claimed) none no_begin no_end =
     absurd (none-some (s, p, n) (sym none))
-quiet_after w _ none no_begin no_end = refl
+quiet_after nests w _ none no_begin no_end = refl
 
-indexed_after : (tasks : List ℕ) (walk w : Walk) (event : ThreadEvent) (b : Body) → Tells tasks b event
-    → IsIndexed tasks walk w → IsIndexed tasks (after_event walk event) (after_body w b)
-indexed_after tasks walk w (Scheduled event) b (task, follower, says, indexed, next) is =
-    let P : Walk → Type 0 = IsIndexed tasks (after_event walk (Scheduled event)) in
-    subst P (sym (schedule_after w b event.status task follower says)) (by (demands_next event.status))
+indexed_after : (tasks : List ℕ) (nests : Bool) (walk w : Walk) (event : ThreadEvent) (b : Body)
+    → Tells tasks b event → IsIndexed tasks walk w
+    → IsIndexed tasks (after_event nests walk event) (after_body nests w b)
+indexed_after tasks nests walk w (Scheduled event) b (task, follower, says, indexed, next) is =
+    let P : Walk → Type 0 = IsIndexed tasks (after_event nests walk (Scheduled event)) in
+    subst P (sym (schedule_after nests w b event.status task follower says)) (by (demands_next event.status))
   where
     by : (d : Bool)
-        → IsIndexed tasks (if d then record { roots = walk.roots; current = event.next } else walk)
-        (if d then record { roots = w.roots; current = follower } else w)
-    by true = record { roots = is.roots; current = next }
+        → IsIndexed tasks
+        (if d then record { roots = walk.roots; outer = walk.outer; current = event.next } else walk)
+        (if d then record { roots = w.roots; outer = w.outer; current = follower } else w)
+    by true = record { roots = is.roots; outer = is.outer; current = next }
     by false = is
-indexed_after tasks walk w (RootBegin index) b (task, says, stands) is =
-    let P : Walk → Type 0 = IsIndexed tasks (after_event walk (RootBegin index)) in
-    subst P (sym (begin_after w b task says)) (record {
+indexed_after tasks nests walk w (RootBegin index) b (task, says, stands) is =
+    let P : Walk → Type 0 = IsIndexed tasks (after_event nests walk (RootBegin index)) in
+    subst P (sym (begin_after nests w b task says)) (record {
       roots = called_push tasks index task walk.roots w.roots stands is.roots;
+      outer = outer_push tasks walk.current w.current walk.outer w.outer is.current is.outer;
       current = (index, refl, stands);
     })
-indexed_after tasks walk w (RootEnd index) b (task, says, stands) is =
-    let P : Walk → Type 0 = IsIndexed tasks (after_event walk (RootEnd index)) in
-    subst P (sym (end_after w b task says)) (record {
+indexed_after tasks nests walk w (RootEnd index) b (task, says, stands) is =
+    let P : Walk → Type 0 = IsIndexed tasks (after_event nests walk (RootEnd index)) in
+    subst P (sym (end_after nests w b task says)) (record {
       roots = called_drop tasks walk.roots w.roots is.roots;
-      current = is.roots 1;
+      outer = outer_drop tasks walk.outer w.outer is.outer;
+      current = uncovered_called tasks nests walk w is;
     })
-indexed_after tasks walk w (Running index) b (none, no_begin, no_end, runs) is =
+indexed_after tasks nests walk w (Running index) b (none, no_begin, no_end, runs) is =
     let P : Walk → Type 0 = IsIndexed tasks walk in
-    subst P (sym (quiet_after w b none no_begin no_end)) is
+    subst P (sym (quiet_after nests w b none no_begin no_end)) is
 
 -- ---- all threads
 
@@ -186,7 +218,7 @@ stands_none run walks fresh = record {
       let mine : get_or walks thread at_start ≡ at_start =
       ap (λ ws. get_or ws thread at_start) fresh ∙ start in
       subst (λ w. P w (get_or (replicate 256 at_start) thread at_start)) (sym mine)
-      (subst (P at_start) (sym start) (record { roots = λ k. refl; current = refl }));
+      (subst (P at_start) (sym start) (record { roots = λ k. refl; outer = λ k. refl; current = refl }));
 }
 
 -- the thread of the record that stands there
@@ -200,14 +232,14 @@ goes_on : (run : RunView) (i thread : ℕ) (r : Record) (old new : List Walk) (n
     → i < length run.records → slice_get run.records i ≡ Some r → r.thread ≡ thread → thread < 256
     → AreThreadWalks run i old → new ≡ set old thread next
     → ((w : Walk) → IsIndexed run.family.tasks (get_or old thread at_start) w
-    → IsIndexed run.family.tasks next (after_body w r.body))
+    → IsIndexed run.family.tasks next (after_record w r))
     → AreThreadWalks run (i + 1) new
 goes_on run i thread r old new next within stands is_thread low are is more = record {
   all = ap length is ∙ length-set old thread next ∙ are.all;
-  whole = set are.whole r.thread (after_body (get_or are.whole r.thread at_start) r.body);
+  whole = set are.whole r.thread (after_record (get_or are.whole r.thread at_start) r);
   walked =
       walks_more run.records i r are.whole
-      (set are.whole r.thread (after_body (get_or are.whole r.thread at_start) r.body)) within
+      (set are.whole r.thread (after_record (get_or are.whole r.thread at_start) r)) within
       (sym (get_or_from_slice_get run.records i r r stands))
       (let P : ℕ → Type 0 = λ t. t < 256 in subst P (sym is_thread) low) are.walked refl;
   each = λ other below. elim (cases_eq other thread) [
@@ -216,7 +248,7 @@ goes_on run i thread r old new next within stands is_thread low are is more = re
         let mine : get_or new other at_start ≡ next =
         ap (λ ws. get_or ws other at_start) is ∙ ap (λ t. get_or (set old thread next) t at_start) same
         ∙ get_or-set_same old thread next at_start (rw are.all low) in
-        let after = after_body (get_or are.whole r.thread at_start) r.body in
+        let after = after_record (get_or are.whole r.thread at_start) r in
         let theirs : get_or (set are.whole r.thread after) other at_start ≡ after =
         ap (λ t. get_or (set are.whole r.thread after) t at_start) (same ∙ sym is_thread)
         ∙ get_or-set_same are.whole r.thread after at_start (rw (are.walked.all, is_thread) low) in
@@ -227,7 +259,7 @@ goes_on run i thread r old new next within stands is_thread low are is more = re
         (subst (P next) (sym theirs) (more (get_or are.whole r.thread at_start) here))
     | inr apart ↦
         let P : Walk → Walk → Type 0 = IsIndexed run.family.tasks in
-        let after = after_body (get_or are.whole r.thread at_start) r.body in
+        let after = after_record (get_or are.whole r.thread at_start) r in
         let mine : get_or new other at_start ≡ get_or old other at_start =
         ap (λ ws. get_or ws other at_start) is ∙ get_or-set_other old thread other next at_start apart in
         let theirs : get_or (set are.whole r.thread after) other at_start ≡ get_or are.whole other at_start =
@@ -244,20 +276,29 @@ thread_low run i r is stands =
     subst P (get_or_from_slice_get run.records i r r stands)
     (is.trace.in_range i r (slice_get_within run.records i r stands)).thread
 
-pub stands_more : (run : RunView) (i thread : ℕ) (event : ThreadEvent) (old new : List Walk) → IsRun run
+-- all records say the same of nesting
+pub nests_there : (rs : List Record) (i : ℕ) (nests : Bool) (r : Record)
+    → All (λ (q : Record). q.nests ≡ nests) rs → slice_get rs i ≡ Some r → r.nests ≡ nests
+nests_there rs i nests r all stands = all_get (λ (q : Record). q.nests ≡ nests) rs i r all stands
+
+pub stands_more : (run : RunView) (nests : Bool) (i thread : ℕ) (event : ThreadEvent) (old new : List Walk)
+    → IsRun run → All (λ (q : Record). q.nests ≡ nests) run.records
     → i < length run.records → thread_at run.records i ≡ Some thread → IsThreadEvent run i event
-    → AreThreadWalks run i old → new ≡ set old thread (after_event (get_or old thread at_start) event)
+    → AreThreadWalks run i old → new ≡ set old thread (after_event nests (get_or old thread at_start) event)
     → AreThreadWalks run (i + 1) new
-stands_more run i thread event old new is_run within runs tells are is =
+stands_more run nests i thread event old new is_run all within runs tells are is =
     let (r, stands) = get_within run.records i within in
     let same = thread_there run i thread r stands runs in
     let low : thread < 256 =
     let P : ℕ → Type 0 = λ t. t < 256 in subst P same (thread_low run i r is_run stands) in
-    goes_on run i thread r old new (after_event (get_or old thread at_start) event) within stands same low are
-    is
+    let walk = get_or old thread at_start in
+    goes_on run i thread r old new (after_event nests walk event) within stands same low are is
     (λ w indexed.
-    indexed_after run.family.tasks (get_or old thread at_start) w event r.body
-    (told_there run i r event stands tells) indexed)
+    let P : Bool → Type 0 =
+    λ b. IsIndexed run.family.tasks (after_event nests walk event) (after_body b w r.body) in
+    subst P (sym (nests_there run.records i nests r all stands))
+    (indexed_after run.family.tasks nests walk w event r.body (told_there run i r event stands tells)
+    indexed))
 
 -- a record that says nothing of them leaves all walks as they are
 pub stands_still : (run : RunView) (i : ℕ) (walks : List Walk) → IsRun run → i < length run.records
@@ -278,7 +319,7 @@ stands_still run i walks is_run within nothing are = still (get_within run.recor
     }
       where
         after : Walk
-        after = after_body (get_or are.whole r.thread at_start) r.body
+        after = after_record (get_or are.whole r.thread at_start) r
 
         low : r.thread < 256
         low = thread_low run i r is_run stands
@@ -286,7 +327,7 @@ stands_still run i walks is_run within nothing are = still (get_within run.recor
         quiet : after ≡ get_or are.whole r.thread at_start
         quiet =
             let (none, no_begin, no_end, no_run) = nothing_there run i r stands nothing in
-            quiet_after (get_or are.whole r.thread at_start) r.body none no_begin no_end
+            quiet_after r.nests (get_or are.whole r.thread at_start) r.body none no_begin no_end
 
         stays : (other : ℕ)
             → get_or (set are.whole r.thread after) other at_start ≡ get_or are.whole other at_start

@@ -2,6 +2,7 @@
 -- defined in `ompt_events`.
 pub mod Targets
 pub mod Nesting
+pub mod Misnesting
 pub mod Walks
 pub mod Homes
 pub mod Regions

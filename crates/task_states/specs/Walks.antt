@@ -1,8 +1,10 @@
--- The walk of a thread by indices of tasks: its open roots, the innermost first, and the task that it runs.
-use Rattle.std.specs.Prelude.{ℕ, ◌≡◌, ◌≢◌, ◌⊎◌, true, ◌∷◌, Some, IsSomeAnd, if◌then◌else◌, drop, slice_get}
+-- The walk of a thread by indices of tasks: its open roots, the innermost first, what ran when each of them
+-- began, and the task that runs.
+use Rattle.std.specs.Prelude.{ℕ, ◌≡◌, ◌≢◌, ◌⊎◌, Bool, true, ◌∷◌, Some, IsSomeAnd, if◌then◌else◌, drop}
+use Rattle.std.specs.Prelude.{slice_get}
 use Rattle.ompt_events.specs.declared.names.Status.TheVariants.{TaskwaitComplete}
 use Rattle.ompt_events.specs.Names.{demands_next}
-use Rattle.ompt_events.specs.Threads.{Walk}
+use Rattle.ompt_events.specs.Threads.{Walk, uncovered}
 use Rattle.ompt_events.specs.Tree.{IsExplicit}
 use Rattle.task_tree.specs.Lineage.{parent_index}
 use Rattle.task_tree.specs.Runs.{RunView}
@@ -10,14 +12,16 @@ use Rattle.task_tree.specs.declared.run.Schedule.{Schedule}
 use Rattle.task_tree.specs.declared.run.ThreadEvent.{ThreadEvent}
 use Rattle.task_tree.specs.declared.run.ThreadEvent.TheVariants.{Scheduled, RootBegin, RootEnd, Running}
 
--- a root begins and runs, or ends, so that the root below runs; a schedule runs its next task, where its
--- status demands one
-abbrev pub after_event : Walk → ThreadEvent → Walk
-after_event walk (Scheduled event) =
-    if demands_next event.status then record { roots = walk.roots; current = event.next } else walk
-after_event walk (RootBegin root) = record { roots = root ∷ walk.roots; current = Some root }
-after_event walk (RootEnd root) = record { roots = drop 1 walk.roots; current = slice_get walk.roots 1 }
-after_event walk (Running task) = walk
+-- a root begins and runs, or ends; a schedule runs its next task, where its status demands one
+abbrev pub after_event : Bool → Walk → ThreadEvent → Walk
+after_event nests walk (Scheduled event) =
+    if demands_next event.status then record { roots = walk.roots; outer = walk.outer; current = event.next }
+    else walk
+after_event nests walk (RootBegin root) =
+    record { roots = root ∷ walk.roots; outer = walk.current ∷ walk.outer; current = Some root }
+after_event nests walk (RootEnd root) =
+    record { roots = drop 1 walk.roots; outer = drop 1 walk.outer; current = uncovered nests walk }
+after_event nests walk (Running task) = walk
 
 -- no record creates the task at the index
 abbrev pub IsNotCreated : RunView → ℕ → Type 0

@@ -17,6 +17,7 @@ pub(crate) fn find_misfit(alloc: Global, run: &Run) -> Result<(), Fault>
     ensures free { OnOk result (IsFreeOf run.now.records NotCurrent) }
     ensures fault { IfErr result (IsFault run.now.records (NotCurrent ∷ [])) }
 {
+    let nests = run.nests();
     let mut walks = new_walks(alloc)?;
     for at in 0..run.len() {
         let Some(event) = run.thread_event(at) else {
@@ -29,7 +30,7 @@ pub(crate) fn find_misfit(alloc: Global, run: &Run) -> Result<(), Fault>
                 cause: Cause::NotCurrent,
             });
         }
-        walk.advance(event)?;
+        walk.advance(event, nests)?;
     }
     Ok(())
 }

@@ -1,14 +1,16 @@
-//! The states that a task goes through, the walk of each thread, and seven causes of malformed records.
+//! The states that a task goes through, the walk of each thread, and eight causes of malformed records.
 //!
 //! Read `table` first, the states and what changes them, and `walk`, the tasks that a thread runs; then
 //! `states`, which takes all tasks of a run through their states: `current`, `homes`, `progress` (with
-//! `moves`, `origins` and `turn_edges`) and `regions` find one cause each. `numbering`, `targets` and
-//! `nesting` are calls of their own. `trace_calls` has the same calls for a trace with its tree. `rows` is a
-//! table of rows, of which few are written.
+//! `moves`, `origins` and `turn_edges`) and `regions` find one cause each. `numbering`, `targets`, `nesting`
+//! and `misnesting` (with `begun` and `thread_sets`) are calls of their own. `trace_calls` has the same calls
+//! for a trace with its tree. `rows` is a table of rows, of which few are written.
 #![tactic(auto)]
 
+mod begun;
 mod current;
 mod homes;
+mod misnesting;
 mod moves;
 mod nesting;
 mod numbering;
@@ -19,10 +21,12 @@ mod rows;
 mod states;
 mod table;
 mod targets;
+mod thread_sets;
 mod trace_calls;
 mod turn_edges;
 mod walk;
 
+pub use misnesting::find_misnested;
 pub use moves::{Move, Nature, after_move};
 pub use nesting::find_nested;
 pub use numbering::gap;

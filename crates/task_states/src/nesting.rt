@@ -10,12 +10,15 @@ use crate::walk::{ThreadWalk, new_walks};
 use std::alloc::{AllocError, Global};
 use task_tree::{Run, ThreadEvent};
 
-/// Returns the first record at which a parallel region lies inside another (OpenMP 5.2, 10.1): a task that
-/// is not initial begins one, a member of a team begins inside another member, or an initial task begins
-/// inside any root. Takes one step for each record.
+/// Returns the first record at which a parallel region lies inside another (OpenMP 5.2, 10.1), in a trace where
+/// none may: a task that is not initial begins one, a member of a team begins inside another member, or an
+/// initial task begins inside any root. Takes one step for each record.
 pub fn find_nested(alloc: Global, run: &Run) -> Result<Option<usize>, AllocError>
     ensures { IfOk result (FindsFirst run.now.records NestedParallel) }
 {
+    if run.nests() {
+        return Ok(None);
+    }
     // The walks are kept for their open roots alone: the tasks that run are not followed.
     let mut walks = new_walks(alloc)?;
     for at in 0..run.len() {
@@ -29,7 +32,7 @@ pub fn find_nested(alloc: Global, run: &Run) -> Result<Option<usize>, AllocError
         if begins_inside(run, walk, at) {
             return Ok(Some(at));
         }
-        walk.advance(event)?;
+        walk.advance(event, false)?;
     }
     Ok(None)
 }

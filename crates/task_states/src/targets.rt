@@ -1,8 +1,9 @@
 //! Whether a task is to run on a device.
-ghost use Rattle.std.specs.Prelude.{◌≡◌, ◌<◌, ◌↔◌, MatchOption, IsTrue, length};
+ghost use Rattle.std.specs.Prelude.{◌≡◌, false, ◌<◌, ◌↔◌, MatchOption, IsTrue, length};
 ghost use Rattle.ompt_events.specs.Flags as flag;
 ghost use Rattle.ompt_events.specs.Flags.{has_flag};
 ghost use Rattle.ompt_events.specs.declared.cause.Cause.TheVariants.{TargetTask};
+ghost use Rattle.ompt_events.specs.Places.{nests_at};
 ghost use Rattle.ompt_events.specs.Causes.{IsFreeOf, IsFirstWith, MakesTarget};
 ghost use Rattle.task_states.specs.Targets.{IsTargetMade};
 
@@ -11,12 +12,16 @@ use ompt_events::{Body, Endpoint, TaskFlags};
 use task_tree::Run;
 
 /// Returns the first record that makes a target task, one with the flag `target` (OpenMP 5.2, 13.8 and
-/// `ompt_task_flag_t`). Such a task runs on a device, whose events are not in the file. Takes no memory from
-/// the heap, and one step for each record.
+/// `ompt_task_flag_t`), in a trace of version 1 or 2. There such a task runs on a device, whose events are not in
+/// the file; in one of version 3 it runs on the host, as other tasks do. Takes no memory from the heap, and one
+/// step for each record.
 pub fn target(run: &Run) -> Option<usize>
     ensures { MatchOption result (IsFreeOf run.now.records TargetTask)
         (IsFirstWith run.now.records TargetTask) }
 {
+    if run.nests() {
+        return None;
+    }
     for at in 0..run.len() {
         if is_target_there(run, at) {
             return Some(at);
@@ -27,7 +32,8 @@ pub fn target(run: &Run) -> Option<usize>
 
 /// Returns whether the record at a place makes a target task. Looks at records that make a task alone.
 fn is_target_there(run: &Run, at: usize) -> bool
-    requires { at < length run.now.records }
+    requires within { at < length run.now.records }
+    requires flat { nests_at run.now.records at ≡ false }
     ensures { IsTrue result ↔ MakesTarget run.now.records at }
 {
     run.makes(at) && makes_target(&run.record(at).body)

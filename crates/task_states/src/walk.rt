@@ -1,4 +1,4 @@
-//! The walk of a thread: its open roots, and the task that it runs.
+//! The walk of a thread: its open roots, what ran when each of them began, and the task that runs.
 ghost use Rattle.std.specs.Prelude.{◌≡◌, IfOk, OnOk, replicate, slice_get};
 ghost use Rattle.ompt_events.specs.Threads.{at_start};
 ghost use Rattle.task_states.specs.Walks.{after_event};
@@ -10,10 +10,12 @@ use task_tree::ThreadEvent;
 /// Thread numbers are below this.
 const THREADS: usize = 256;
 
-/// The walk of a thread: its open roots, the innermost last, and the task that it runs, by their indices.
+/// The walk of a thread: its open roots, the innermost last, for each of them the task that ran when it began,
+/// if one did, and the task that runs, by their indices.
 #[derive(Drop)]
 pub(crate) struct ThreadWalk {
     roots: Vec<usize>,
+    outer: Vec<Option<usize>>,
     current: Option<usize>,
 }
 
@@ -23,7 +25,11 @@ impl Model for ThreadWalk {
 
     ghost Value = { Walk };
 
-    ghost view = { λ walk. record { roots = reverse walk.roots.items; current = walk.current } };
+    ghost view = { λ walk. record {
+      roots = reverse walk.roots.items;
+      outer = reverse walk.outer.items;
+      current = walk.current;
+    } };
 }
 
 impl ThreadWalk {
@@ -33,14 +39,16 @@ impl ThreadWalk {
     {
         ThreadWalk {
             roots: Vec::new(alloc),
+            outer: Vec::new(alloc),
             current: None,
         }
     }
 
-    /// Applies what a record of the thread says of its tasks. Inlined into the loop over all records.
+    /// Applies what a record of the thread says of its tasks, in a file where regions may lie inside others or
+    /// not. Inlined into the loop over all records.
     #[inline(always)]
-    pub(crate) fn advance(&mut self, event: ThreadEvent) -> Result<(), AllocError>
-        ensures { OnOk result (self.new ≡ after_event self.old event) }
+    pub(crate) fn advance(&mut self, event: ThreadEvent, nests: bool) -> Result<(), AllocError>
+        ensures { OnOk result (self.new ≡ after_event nests self.old event) }
     {
         match event {
             ThreadEvent::Scheduled(schedule) => {
@@ -51,12 +59,18 @@ impl ThreadWalk {
             }
             ThreadEvent::RootBegin(root) => {
                 self.roots.push(root)?;
+                self.outer.push(self.current)?;
                 self.current = Some(root);
                 Ok(())
             }
             ThreadEvent::RootEnd(_) => {
                 self.roots.pop();
-                self.current = self.roots.last().copied();
+                let outer = self.outer.pop().flatten();
+                self.current = if nests {
+                    outer
+                } else {
+                    self.roots.last().copied()
+                };
                 Ok(())
             }
             ThreadEvent::Running(_) => Ok(()),

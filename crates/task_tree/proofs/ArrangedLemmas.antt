@@ -9,14 +9,12 @@ use Rattle.std.proofs.lemmas.List.Elements.{filter_map-append}
 use Rattle.std.proofs.lemmas.List.FromFn.{map-range_with_len_more}
 use Rattle.std.proofs.lemmas.List.Sums.{sum_by-append}
 use Rattle.std.proofs.lemmas.List.Sorted.{sum_by-IsPermutation}
-use Rattle.std.specs.Prelude.{All, Contains, count_by, IfErr, IsOk, Result, Ok, Err, slice_get}
+use Rattle.std.specs.Prelude.{All, Contains, count_by, slice_get}
 use Rattle.std.specs.Prelude.{slice_index_or, is_some, option_and_then}
 use Rattle.std.specs.List.{filter_map, range_with_len, sum_by}
 use Rattle.std.specs.Option.{option_map_or}
-use Rattle.std.specs.Global.{Vec}
 use Rattle.ompt_events.specs.declared.records.Record.{Record}
 use Rattle.ompt_events.specs.declared.records.Body.{Body}
-use Rattle.ompt_events.specs.declared.trace.Trace.{Trace}
 use Rattle.ompt_events.specs.declared.fault.Fault.{Fault}
 use Rattle.ompt_events.specs.declared.fault.Fault.TheVariants.{Memory, Malformed}
 use Rattle.ompt_events.specs.Faults.{IsFault}
@@ -24,13 +22,13 @@ use Rattle.ompt_events.specs.declared.cause.Cause.{Cause}
 use Rattle.ompt_events.specs.declared.cause.Cause.TheVariants.{CreatedTwice, Rootless}
 use Rattle.ompt_events.specs.Records.{made, created, creation, begun_root, forked, region_named}
 use Rattle.ompt_events.specs.Places.{at, places}
-use Rattle.ompt_events.specs.Traces.{IsSound, IsInRange, HasItsTurns, IsTraceOf, IsFirstRefused, tasks_in}
+use Rattle.ompt_events.specs.Traces.{IsSound, IsInRange, HasItsTurns, NestsIn, IsTraceOf}
+use Rattle.ompt_events.specs.Traces.{tasks_in}
 use Rattle.ompt_events.specs.Turns.{in_own_order, own_places}
 use Rattle.ompt_events.specs.Tree.{IsRooted, root, child}
 use Rattle.ompt_events.specs.Causes.{HasCause, IsFreeOf, unmade, unrooted, no_region, created_twice}
 use Rattle.ompt_events.specs.Causes.{forked_twice, rootless}
 use Rattle.ompt_events.proofs.PlaceLemmas.{at_within}
-use Rattle.ompt_events.proofs.TraceLemmas.{IsTraceOf-take}
 use Rattle.task_tree.proofs.OwnOrderLemmas.{own_permuted, own_length, own_has, own_within, own_place_of}
 use Rattle.task_tree.proofs.OwnOrderLemmas.{arranged_at, arranged_length}
 
@@ -149,6 +147,7 @@ arranged_trace version rs trace = record {
     in_range = all_arranged IsInRange rs trace.is_trace.in_range;
   };
   turns = all_arranged (λ r. HasItsTurns version r.body) rs trace.turns;
+  nesting = all_arranged (NestsIn version) rs trace.nesting;
 }
 
 -- ---- the same tasks
@@ -225,20 +224,7 @@ arranged_rooted rs free n (rootless (no_region parallel says none)) =
 
 -- ---- making them
 
--- so the arranged records of a trace of version 2 are taken for one
-pub accepted_arranged : (rs copies : List Record) (result : Result Trace (Vec Record × ℕ))
-    → copies ≡ in_own_order rs → IsTraceOf 2 rs
-    → IfErr result
-    (λ (refusal : Vec Record × ℕ). (refusal.0.items ≡ copies) × IsFirstRefused 2 copies refusal.1)
-    → IsOk result
-accepted_arranged rs copies (Ok trace) are is refused = refl
-accepted_arranged rs copies (Err refusal) are is refused =
-    let P : List Record → Type 0 = IsTraceOf 2 in
-    absurd
-    (refused.1.refused
-    (IsTraceOf-take 2 (refusal.1 + 1) copies (subst P (sym are) (arranged_trace 2 rs is))))
-
--- and their family fails for memory alone
+-- their family fails for memory alone
 pub memory_arranged : (rs copies : List Record) (fault : Fault) → copies ≡ in_own_order rs
     → IsFreeOf rs CreatedTwice → IsFreeOf rs Rootless → IsFault copies (CreatedTwice ∷ Rootless ∷ []) fault
     → fault ≡ Memory

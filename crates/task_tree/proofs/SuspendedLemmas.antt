@@ -25,7 +25,7 @@ use Rattle.ompt_events.specs.Records.{next_turn, begun_turn}
 use Rattle.ompt_events.specs.Places.{at, thread_at}
 use Rattle.ompt_events.specs.Turns.{turn_after, turn_in, turn_at, turn_of}
 use Rattle.ompt_events.specs.Tree.{IsRoot, IsExplicit}
-use Rattle.ompt_events.specs.Threads.{Walk, at_start, after_body, after_record, walk_of, MisfitsAt}
+use Rattle.ompt_events.specs.Threads.{Walk, at_start, uncovered, after_body, after_record, walk_of, MisfitsAt}
 use Rattle.ompt_events.specs.Threads.{not_running}
 use Rattle.ompt_events.specs.HappensBefore.{IsResumption}
 use Rattle.ompt_events.specs.Traces.{IsTraceOf, IsSound, HasItsNext, HasItsTurns}
@@ -134,54 +134,59 @@ every_rest : {X : Type 0} (P : X → Type 0) (xs : List X) → Every P xs → Ev
 every_rest P [] each = tt
 every_rest P (x ∷ xs) each = each.1
 
-pub after_roots : (P : ℕ → Type 0) (walk : Walk) (b : Body) → ((task : ℕ) → begun_root b ≡ Some task → P task)
-    → Every P walk.roots → Every P (after_body walk b).roots
-after_roots P walk (ImplicitTask Begin actual index flags parallel task) new each = (new task refl, each)
-after_roots P walk (ImplicitTask End actual index flags parallel task) new each = every_rest P walk.roots each
-after_roots P walk (ImplicitTask BeginEnd actual index flags parallel task) new each = each
-after_roots P walk (TaskSchedule status turns prior next claimed) new each = by (demands_next status)
+pub after_roots : (P : ℕ → Type 0) (nests : Bool) (walk : Walk) (b : Body)
+    → ((task : ℕ) → begun_root b ≡ Some task → P task)
+    → Every P walk.roots → Every P (after_body nests walk b).roots
+after_roots P nests walk (ImplicitTask Begin actual index flags parallel task) new each =
+    (new task refl, each)
+after_roots P nests walk (ImplicitTask End actual index flags parallel task) new each =
+    every_rest P walk.roots each
+after_roots P nests walk (ImplicitTask BeginEnd actual index flags parallel task) new each = each
+after_roots P nests walk (TaskSchedule status turns prior next claimed) new each = by (demands_next status)
   where
-    by : (d : Bool) → Every P (if d then (record { roots = walk.roots; current = next }) else walk).roots
+    by : (d : Bool)
+        → Every P
+        (if d then (record { roots = walk.roots; outer = walk.outer; current = next }) else walk).roots
     by true = each
     by false = each
-after_roots P walk b new each = each
+after_roots P nests walk b new each = each
 
 -- how a task comes to run, or goes on running
-data ComesToRun (walk : Walk) (b : Body) (task : ℕ) : Type 0 where
-  root_begins : begun_root b ≡ Some task → ComesToRun walk b task
-  uncovered : slice_get walk.roots 1 ≡ Some task → ComesToRun walk b task
-  is_started : started b ≡ Some task → ComesToRun walk b task
-  goes_on : walk.current ≡ Some task → started b ≡ None → stopped b ≡ None → ComesToRun walk b task
+data ComesToRun (nests : Bool) (walk : Walk) (b : Body) (task : ℕ) : Type 0 where
+  root_begins : begun_root b ≡ Some task → ComesToRun nests walk b task
+  is_uncovered : uncovered nests walk ≡ Some task → ComesToRun nests walk b task
+  is_started : started b ≡ Some task → ComesToRun nests walk b task
+  goes_on : walk.current ≡ Some task → started b ≡ None → stopped b ≡ None → ComesToRun nests walk b task
 
-after_current : (walk : Walk) (b : Body) (task : ℕ) → HasItsNext b → (after_body walk b).current ≡ Some task
-    → ComesToRun walk b task
-after_current walk (ImplicitTask Begin actual index flags parallel root) task fits is = root_begins is
-after_current walk (ImplicitTask End actual index flags parallel root) task fits is = uncovered is
-after_current walk (ImplicitTask BeginEnd actual index flags parallel root) task fits is =
+after_current : (nests : Bool) (walk : Walk) (b : Body) (task : ℕ) → HasItsNext b
+    → (after_body nests walk b).current ≡ Some task → ComesToRun nests walk b task
+after_current nests walk (ImplicitTask Begin actual index flags parallel root) task fits is = root_begins is
+after_current nests walk (ImplicitTask End actual index flags parallel root) task fits is = is_uncovered is
+after_current nests walk (ImplicitTask BeginEnd actual index flags parallel root) task fits is =
     goes_on is refl refl
-after_current walk (TaskSchedule status turns prior next claimed) task fits is =
+after_current nests walk (TaskSchedule status turns prior next claimed) task fits is =
     by (demands_next status) refl next fits is
   where
+    going : Option ℕ → Walk
+    going o = record { roots = walk.roots; outer = walk.outer; current = o }
+
     by : (d : Bool) → demands_next status ≡ d → (o : Option ℕ) → is_some o ≡ demands_next status
-        → (if demands_next status then (record { roots = walk.roots; current = o }) else walk).current
-        ≡ Some task
-        → ComesToRun walk (TaskSchedule status turns prior o claimed) task
+        → (if demands_next status then going o else walk).current ≡ Some task
+        → ComesToRun nests walk (TaskSchedule status turns prior o claimed) task
     by true e o fits' is' =
         is_started
-        (sym (ap (λ d. (if d then (record { roots = walk.roots; current = o }) else walk).current) e)
-        ∙ is')
+        (sym (ap (λ d. (if d then going o else walk).current) e) ∙ is')
     by false e None fits' is' =
         goes_on
-        (sym (ap (λ d. (if d then (record { roots = walk.roots; current = None }) else walk).current) e)
-        ∙ is')
+        (sym (ap (λ d. (if d then going None else walk).current) e) ∙ is')
         refl (ap (λ d. if d then Some prior else None) e)
     by false e (Some t) fits' is' = cc
-after_current walk b task fits is = goes_on is refl refl
+after_current nests walk b task fits is = goes_on is refl refl
 
 -- ---- the start of what runs
 
 walked : (walk : Walk) (l : List Record) (r : Record)
-    → fold after_record walk (l ++ r ∷ []) ≡ after_body (fold after_record walk l) r.body
+    → fold after_record walk (l ++ r ∷ []) ≡ after_record (fold after_record walk l) r
 walked walk l r = fold-append after_record walk l (r ∷ [])
 
 -- the open roots of a thread are roots
@@ -190,9 +195,23 @@ roots_are rs thread n =
     part_keeps rs thread (λ m l. Every (IsRoot rs) (fold after_record at_start l).roots) tt
     (λ m r stands same before.
     subst (λ (w : Walk). Every (IsRoot rs) w.roots) (sym (walked at_start (part_of rs thread m) r))
-    (after_roots (IsRoot rs) (walk_of thread (take m rs)) r.body
+    (after_roots (IsRoot rs) r.nests (walk_of thread (take m rs)) r.body
     (λ task is. (m, ap (option_and_then (λ (q : Record). begun_root q.body)) stands ∙ is)) before))
     (λ m apart before. before) n
+
+-- no region lies inside another
+abbrev pub NestNever : List Record → Type 0
+NestNever rs = All (λ r. r.nests ≡ false) rs
+
+-- so in a trace of version 2
+pub never_in_version_2 : (rs : List Record) → IsTraceOf 2 rs → NestNever rs
+never_in_version_2 rs trace = trace.nesting
+
+-- there the root below goes on behind the innermost one
+pub below_root : (rs : List Record) (i : ℕ) (r : Record) (walk : Walk) (task : ℕ) → NestNever rs
+    → slice_get rs i ≡ Some r → uncovered r.nests walk ≡ Some task → slice_get walk.roots 1 ≡ Some task
+below_root rs i r walk task flat stands is =
+    sym (ap (λ b. uncovered b walk) (all_get (λ (q : Record). q.nests ≡ false) rs i r flat stands)) ∙ is
 
 -- the last record before n that changed what the thread runs begins this turn of the task
 record LastStart (rs : List Record) (thread n task turn : ℕ) : Type 0 where
@@ -222,10 +241,11 @@ turn_here rs i task r stands own =
     ap (λ (o : Option Record). option_map_or (λ (q : Record). turn_of rs q i) o 0) stands
     ∙ ap (λ (o : Option ℕ). option_map_or (λ t. turn_in t (part_of rs r.thread i)) o 0) own
 
-last_start : (rs : List Record) (thread : ℕ) → All (λ r. IsSound r.body) rs → IsFreeOf rs CreatedTwice
+last_start : (rs : List Record) (thread : ℕ) → All (λ r. IsSound r.body) rs → NestNever rs
+    → IsFreeOf rs CreatedTwice
     → (n task : ℕ) → IsExplicit rs task → (walk_of thread (take n rs)).current ≡ Some task
     → LastStart rs thread n task (turn_in task (part_of rs thread n))
-last_start rs thread sound once n =
+last_start rs thread sound flat once n =
     part_keeps rs thread P (λ task explicit is. absurd (none-some task is)) own other n
   where
     P : ℕ → List Record → Type 0
@@ -276,16 +296,17 @@ last_start rs thread sound once n =
     }
 
     step : (m : ℕ) (r : Record) → slice_get rs m ≡ Some r → r.thread ≡ thread → P m (part_of rs thread m)
-        → (task : ℕ) → IsExplicit rs task → ComesToRun (walk_of thread (take m rs)) r.body task
+        → (task : ℕ) → IsExplicit rs task → ComesToRun r.nests (walk_of thread (take m rs)) r.body task
         → LastStart rs thread (m + 1) task (turn_in task (part_of rs thread m ++ r ∷ []))
     step m r stands same before task explicit (root_begins is) =
         absurd
         (explicit_not_root rs task once explicit
         (m, ap (option_and_then (λ (q : Record). begun_root q.body)) stands ∙ is))
-    step m r stands same before task explicit (uncovered is) =
+    step m r stands same before task explicit (is_uncovered is) =
         absurd
         (explicit_not_root rs task once explicit
-        (every_get (IsRoot rs) (walk_of thread (take m rs)).roots 1 task (roots_are rs thread m) is))
+        (every_get (IsRoot rs) (walk_of thread (take m rs)).roots 1 task (roots_are rs thread m)
+        (below_root rs m r (walk_of thread (take m rs)) task flat stands is)))
     step m r stands same before task explicit (is_started is) = record {
       place = m;
       earlier = omega arith;
@@ -306,7 +327,7 @@ last_start rs thread sound once n =
     own m r stands same before task explicit is =
         let fits : IsSound r.body = all_get (λ (q : Record). IsSound q.body) rs m r sound stands in
         step m r stands same before task explicit
-        (after_current (walk_of thread (take m rs)) r.body task fits.next
+        (after_current r.nests (walk_of thread (take m rs)) r.body task fits.next
         (sym (ap (λ (w : Walk). w.current) (walked at_start (part_of rs thread m) r)) ∙ is))
 
     other : (m : ℕ) → thread_at rs m ≢ Some thread → P m (part_of rs thread m)
@@ -324,7 +345,12 @@ pub record Suspended (b : Body) (task turn : ℕ) : Type 0 where
   pub runs : running b ≡ Some task
   pub stops : stopped b ≡ Some task
 
-pub suspended_parts : (b : Body) (task turn : ℕ) → HasItsNext b → HasItsTurns 2 b
+-- each record at which a task runs next tells its turns, and no other does
+abbrev pub TellsStarts : List Record → Type 0
+TellsStarts rs = All (λ r. is_some (told_turns r.body) ≡ is_some (started r.body)) rs
+
+pub suspended_parts : (b : Body) (task turn : ℕ) → HasItsNext b
+    → is_some (told_turns b) ≡ is_some (started b)
     → suspended_turn b ≡ Some (task, turn) → Suspended b task turn
 suspended_parts (TaskSchedule Yield None prior None claimed) task turn fits told is = cc
 suspended_parts (TaskSchedule Yield (Some t) prior None claimed) task turn fits told is = cc
@@ -382,14 +408,14 @@ suspension rs trace once current gap task turn i explicit suspends = by (slice_g
           stops = ap (option_and_then (λ (q : Record). stopped q.body)) stands ∙ parts.stops;
           last =
               subst (LastStart rs r.thread i task) same
-              (last_start rs r.thread trace.is_trace.sound once i task explicit
+              (last_start rs r.thread trace.is_trace.sound (never_in_version_2 rs trace) once i task explicit
               (runs_there rs i task r current stands parts.runs));
         }
 
--- in version 2 each record that begins a turn tells it
-pub begun_told : (rs : List Record) (i task turn : ℕ) → IsTraceOf 2 rs
+-- each record that begins a turn tells it there
+pub begun_told : (rs : List Record) (i task turn : ℕ) → TellsStarts rs
     → at begun_turn rs i ≡ Some (task, turn) → at told_turns rs i ≢ None
-begun_told rs i task turn trace begins untold =
+begun_told rs i task turn told begins untold =
     by (slice_get rs i) refl (begun_started rs i task turn begins) untold
   where
     by : (o : Option Record) → slice_get rs i ≡ o
@@ -398,20 +424,20 @@ begun_told rs i task turn trace begins untold =
     by None stands starts none = none-some task starts
     by (Some r) stands starts none =
         let turned : is_some (told_turns r.body) ≡ is_some (started r.body) =
-        all_get (λ (q : Record). HasItsTurns 2 q.body) rs i r trace.turns stands in
+        all_get (λ (q : Record). is_some (told_turns q.body) ≡ is_some (started q.body)) rs i r told stands in
         true≢false (sym (turned ∙ ap is_some starts) ∙ ap is_some none)
 
 -- no two records begin the same turn
-pub begun_once : (rs : List Record) → IsTraceOf 2 rs → IsFreeOf rs TurnGap → (task turn a b : ℕ)
+pub begun_once : (rs : List Record) → TellsStarts rs → IsFreeOf rs TurnGap → (task turn a b : ℕ)
     → at begun_turn rs a ≡ Some (task, turn) → at begun_turn rs b ≡ Some (task, turn) → a ≡ b
-begun_once rs trace gap task turn a b one other = elim (cases_order a b) [
+begun_once rs told gap task turn a b one other = elim (cases_order a b) [
   | inl same ↦ same
   | inr (inl less) ↦
       absurd
-      (gap b (turn_gap (begun_again task turn a (begun_told rs b task turn trace other, other) less one)))
+      (gap b (turn_gap (begun_again task turn a (begun_told rs b task turn told other, other) less one)))
   | inr (inr more) ↦
       absurd
-      (gap a (turn_gap (begun_again task turn b (begun_told rs a task turn trace one, one) more other)))
+      (gap a (turn_gap (begun_again task turn b (begun_told rs a task turn told one, one) more other)))
 ]
 
 -- a thread that suspends a task runs it only after another start of it
@@ -419,7 +445,7 @@ not_again : (rs : List Record) → IsTraceOf 2 rs → IsFreeOf rs TurnGap → (t
     → Suspension rs a task turn → Suspension rs b task turn → a < b → ⊥
 not_again rs trace gap task turn a b one other less =
     let same : one.last.place ≡ other.last.place =
-    begun_once rs trace gap task turn one.last.place other.last.place one.last.begins_turn
+    begun_once rs trace.turns gap task turn one.last.place other.last.place one.last.begins_turn
     other.last.begins_turn in
     let threads : Some one.thread ≡ Some other.thread =
     sym one.last.on ∙ ap (thread_at rs) same ∙ other.last.on in

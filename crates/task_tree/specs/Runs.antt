@@ -26,7 +26,7 @@ pub record RunView : Type 0 where
   pub records : List Record
   pub family : FamilyView
 
--- the records are a trace of either version, and the family is theirs
+-- the records are a trace of any version, and the family is theirs
 pub record IsRun (run : RunView) : Type 0 where
   pub trace : IsTrace run.records
   pub version : ℕ

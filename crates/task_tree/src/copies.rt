@@ -10,6 +10,7 @@ pub(crate) fn copy_of(alloc: Global, event: &Record) -> Result<Record, AllocErro
 {
     Ok(Record {
         thread: event.thread,
+        nests: event.nests,
         seq: event.seq,
         seen: event.seen,
         body: body_of(alloc, &event.body)?,

@@ -139,7 +139,6 @@ fn is_in_own_order(alloc: Global, trace: &Trace, family: &Family) -> Result<bool
     requires { IsFamilyOf trace.now.records family.now }
     ensures rises { IfOk result (λ own. IsTrue own → TurnsRise trace.now.records) }
     ensures gapless { IfOk result (λ own. IsTrue own → IsFreeOf trace.now.records TurnGap) }
-    ensures version { IfOk result (λ own. own ≡ false → trace.now.version ≡ 2) }
 {
     let records = trace.records();
     if trace.version() == 1 {
@@ -149,11 +148,9 @@ fn is_in_own_order(alloc: Global, trace: &Trace, family: &Family) -> Result<bool
 }
 
 impl Arranged {
-    /// Returns the records of a trace in the tasks' own order. Requires a trace of version 2 that makes
-    /// each task and each parallel region once, and names none without a root or a begin. Fails only when
-    /// out of memory.
+    /// Returns the records of a trace in the tasks' own order. Requires a trace that makes each task and each
+    /// parallel region once, and names none without a root or a begin. Fails only when out of memory.
     fn of(alloc: Global, trace: &Trace, order: &OwnOrder) -> Result<Arranged, Fault>
-        requires version { trace.now.version ≡ 2 }
         requires once { IsFreeOf trace.now.records CreatedTwice }
         requires rooted { IsFreeOf trace.now.records Rootless }
         requires order { order.now ≡ own_places trace.now.records }
@@ -162,7 +159,7 @@ impl Arranged {
         ensures memory_alone { IfErr result (λ fault. fault ≡ Memory) }
     {
         let records = arranged_records(alloc, trace.records(), order)?;
-        let trace = Trace::from_turns(records).unwrap();
+        let trace = Trace::from_parts(trace.version(), records);
         let family = Family::build(alloc, &trace)?;
         Ok(Arranged { trace, family })
     }

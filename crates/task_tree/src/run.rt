@@ -1,5 +1,5 @@
 //! The records of a trace with the family of its tasks. All phases of an audit take them.
-ghost use Rattle.std.specs.Prelude.{ℕ, ◌≡◌, ◌↔◌, ◌<◌, Option, Some, None, IsTrue, MatchOption, false, is_some, length, option_copied, option_map, slice_get, if◌then◌else◌};
+ghost use Rattle.std.specs.Prelude.{ℕ, ◌≡◌, ◌↔◌, ◌<◌, All, Option, Some, None, IsTrue, MatchOption, false, is_some, length, option_copied, option_map, slice_get, if◌then◌else◌};
 ghost use Rattle.ompt_events.specs.declared.records.Body.{Body};
 ghost use Rattle.ompt_events.specs.Records.{begun_initial, begun_root, begun_turn, claim, created, created_with_deps, creation, dependences, discarded, ended_root, finish, forked, fulfilled, joined, made, region, running, schedule, started, told_turns, wait_completed};
 ghost use Rattle.ompt_events.specs.Places.{at as says_at, thread_at, seen_at};
@@ -149,6 +149,16 @@ impl<'a> Run<'a> {
         ensures is_run { IsRun self.now }
     {
         self.records.len()
+    }
+
+    /// Returns whether parallel regions may lie inside others, which is so in all records or in none.
+    pub fn nests(&self) -> bool
+        ensures { All (λ r. r.nests ≡ result) self.now.records }
+    {
+        match self.records.first() {
+            Some(event) => event.nests,
+            None => false,
+        }
     }
 
     /// Returns how many tasks there are.

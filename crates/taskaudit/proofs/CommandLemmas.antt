@@ -1,6 +1,7 @@
 -- What clap makes of words for the command line.
-use Rattle.std.proofs.Common.{◌≡◌, ◌∙◌, ap, sym, arith, ℕ, cond, subst, Result, Ok, Err, true, false, inl}
-use Rattle.std.proofs.Common.{inr, Bool, List, [], ◌∷◌, Option, Some, None, refl, is_some, codes, option_map}
+use Rattle.std.proofs.Common.{◌≡◌, ◌∙◌, ◌<◌, ◌≤◌, ◌^◌, ap, sym, arith, ℕ, cond, subst, Result, Ok, Err}
+use Rattle.std.proofs.Common.{true, false, inl, inr, Bool, List, [], ◌∷◌, Option, Some, None, refl, is_some}
+use Rattle.std.proofs.Common.{codes, option_map}
 use Rattle.std.proofs.Common.{option_and_then, cond}
 use Rattle.std.specs.Prelude.{IfSome}
 use Rattle.std.specs.Option.{option_map_or}
@@ -27,11 +28,12 @@ use Rattle.clap.specs.declared.parser.matches.ArgMatches.{ArgMatches}
 use Rattle.clap.proofs.OnLiterals.{clap_on_literals}
 use Rattle.clap.specs.declared.error.kind.ErrorKind.TheVariants.{DisplayVersion}
 use Rattle.taskaudit.specs.declared.work.Job.{Job}
-use Rattle.taskaudit.specs.Commands.{command_line, check_by, number_of, job_named, AsksFor, AsksVersion}
-use Rattle.taskaudit.specs.Commands.{HasFewWorkers, AsksOf, Place, by_no_word, by_dash, by_name}
+use Rattle.taskaudit.specs.Commands.{command_line, check_by, upgrade_to, job_with, number_of, job_named}
+use Rattle.taskaudit.specs.Commands.{AsksFor, AsksVersion}
+use Rattle.taskaudit.specs.Commands.{HasItsNumber, AsksOf, Place, by_no_word, by_dash, by_name}
 use Rattle.taskaudit.specs.Commands.{file_word, place_named}
 use Rattle.std.proofs.lemmas.Slice.Eq.{bytes_eq-Decides}
-use Rattle.taskaudit.proofs.WorkersLemmas.{no_first, no_second, workers_fit}
+use Rattle.taskaudit.proofs.NumberLemmas.{no_first, no_second, number_fits}
 
 is_simple_line : is_simple command_line ≡ true
 unfolding command_line clap_on_literals
@@ -58,6 +60,8 @@ named_if : (first second third fourth : Bool) (s t u v : Shape) (rest : List Tex
     → s.name ≡ codes "check" → t.name ≡ codes "order" → u.name ≡ codes "record" → v.name ≡ codes "upgrade"
     → (own_fault s rest ≡ []
     → is_some (check_by (one_of (codes "workers") (rows_after s.rules [] rest))) ≡ true)
+    → (own_fault v rest ≡ []
+    → is_some (upgrade_to (one_of (codes "to") (rows_after v.rules [] rest))) ≡ true)
     → option_map_or (λ (it : Shape). own_fault it rest)
     (cond first (Some s) (cond second (Some t) (cond third (Some u) (cond fourth (Some v) None)))) []
     ≡ []
@@ -71,16 +75,19 @@ named_if : (first second third fourth : Bool) (s t u v : Shape) (rest : List Tex
     (cond first (Some s)
     (cond second (Some t) (cond third (Some u) (cond fourth (Some v) None))))))
     ≡ true
-named_if true second third fourth s t u v rest check order recording upgrading fits passed e =
+named_if true second third fourth s t u v rest check order recording upgrading fits fit passed e =
     rw check (fits passed)
-named_if false true third fourth s t u v rest check order recording upgrading fits passed e = rw order
-named_if false false true fourth s t u v rest check order recording upgrading fits passed e = rw recording
-named_if false false false true s t u v rest check order recording upgrading fits passed e = rw upgrading
-named_if false false false false s t u v rest check order recording upgrading fits passed e = cc
+named_if false true third fourth s t u v rest check order recording upgrading fits fit passed e = rw order
+named_if false false true fourth s t u v rest check order recording upgrading fits fit passed e = rw recording
+named_if false false false true s t u v rest check order recording upgrading fits fit passed e =
+    rw upgrading (fit passed)
+named_if false false false false s t u v rest check order recording upgrading fits fit passed e = cc
 
-check_named : (o : Option Text) → IfSome o (λ t. is_unsigned_in 1 256 t ≡ true) → is_some (check_by o) ≡ true
-check_named None h = refl
-check_named (Some value) h = rw h
+job_named_with : (low high : ℕ) (job : Option ℕ → Job) (o : Option Text)
+    → IfSome o (λ t. is_unsigned_in low high t ≡ true)
+    → is_some (job_with low high job o) ≡ true
+job_named_with low high job None h = refl
+job_named_with low high job (Some value) h = rw h
 
 -- whatever the walk stopped at, a subcommand that is entered, and does not fail, names a job
 names_at : (stop : Option (Text × List Text)) → entered_fault (built command_line) stop ≡ []
@@ -91,8 +98,21 @@ names_at None passed e = cc
 names_at (Some (name, rest)) passed e =
     named_if _ _ _ _ _ _ _ _ rest refl refl refl refl
     (λ own.
-    check_named _
-    (workers_fit _ (
+    job_named_with 1 256 Check _
+    (number_fits (codes "workers") 1 256 (omega arith) (omega arith) _ (
+      record {
+        defaults = refl;
+        which = inr (inr (refl, refl));
+      },
+      (
+        record { defaults = refl; which = inl refl },
+        (record { defaults = refl; which = inr (inl refl) }, tt),
+      ),
+    )
+    rest own))
+    (λ own.
+    job_named_with 2 3 Upgrade _
+    (number_fits (codes "to") 2 3 (omega arith) (omega arith) _ (
       record {
         defaults = refl;
         which = inr (inr (refl, refl));
@@ -118,73 +138,81 @@ inner_passes words passed =
     (argument_words command_line words)) _
     passed)
 
--- the number that `get_one` reads of a value that is one from 1 to 256
-number_read : (E : Type 0) (G : Text → Result ℕ E → Type 0)
-    → ((u : Text) (x : Result ℕ E) → G u x → ParsesUnsigned 32 10 u x)
-    → (t : Text) (r : Option ℕ) → is_some (check_by (Some t)) ≡ true → ReadsOne G t r
-    → check_by (Some t) ≡ Some (Check r)
-number_read E G only t r e read = go (is_unsigned_in 1 256 t) refl e
+-- an option with a number from `low` to `high`, and the job that names it
+module _ (name : Text) (low high : ℕ) (job : Option ℕ → Job) (small : high < 2 ^ 32) where
+  -- the number that `get_one` reads of a value that is one of these
+  number_read : (E : Type 0) (G : Text → Result ℕ E → Type 0)
+      → ((u : Text) (x : Result ℕ E) → G u x → ParsesUnsigned 32 10 u x)
+      → (t : Text) (r : Option ℕ) → is_some (job_with low high job (Some t)) ≡ true → ReadsOne G t r
+      → job_with low high job (Some t) ≡ Some (job r)
+  number_read E G only t r e read = go (is_unsigned_in low high t) refl e
+    where
+      by_value : (o : Option ℕ) → ReadsOne G t o → IsUnsignedIn low high t
+          → ◌≡◌ {A = Option Job} (Some (job (Some (number_of t)))) (Some (job o))
+      by_value (Some n) got ok = ap (λ (k : ℕ). Some (job (Some k))) (sym (only t (Ok n) got).1)
+      by_value None got ok = absurd (only t (Err got.0) got.1 (ok.0, omega arith))
+
+      go : (b : Bool) → is_unsigned_in low high t ≡ b
+          → is_some (cond b (Some (job (Some (number_of t)))) None) ≡ true
+          → cond b (Some (job (Some (number_of t)))) None ≡ Some (job r)
+      go true is some = by_value r read (accepts-Accepts false (vp.Unsigned low high) t is)
+      go false is some = cc
+
+  -- the value that was found, if there is one, is what `get_one` reads
+  pub number_found : (E : Type 0) (G : Text → Result ℕ E → Type 0)
+      → ((u : Text) (x : Result ℕ E) → G u x → ParsesUnsigned 32 10 u x)
+      → (f : Found) (r : Option ℕ) → is_some (job_with low high job (one_of name (rows_of f))) ≡ true
+      → (one_text f name ≡ None → r ≡ None)
+      → ((t : Text) → one_text f name ≡ Some t → ReadsOne G t r)
+      → job_with low high job (one_of name (rows_of f)) ≡ Some (job r)
+  number_found E G only f r e none value =
+      go (one_of name (rows_of f)) e (λ is. none (one_text-rows f name ∙ is))
+      (λ t is. value t (one_text-rows f name ∙ is)) refl
+    where
+      go : (o : Option Text) → is_some (job_with low high job o) ≡ true
+          → (one_of name (rows_of f) ≡ None → r ≡ None)
+          → ((t : Text) → one_of name (rows_of f) ≡ Some t → ReadsOne G t r)
+          → one_of name (rows_of f) ≡ o → job_with low high job o ≡ Some (job r)
+      go None some absent read is = ap (λ (n : Option ℕ). Some (job n)) (sym (absent is))
+      go (Some t) some absent read is = number_read E G only t r some (read t is)
+
+-- the number of a job that names one is in its range
+number_named : (low high : ℕ) (made : Option ℕ → Job) → HasItsNumber (made None)
+    → ((n : ℕ) → low ≤ n → n ≤ high → HasItsNumber (made (Some n)))
+    → (o : Option Text) (job : Job) → job_with low high made o ≡ Some job → HasItsNumber job
+number_named low high made none some None job named = subst HasItsNumber (same_Some _ job named) none
+number_named low high made none some (Some value) job named = go (is_unsigned_in low high value) refl named
   where
-    by_value : (o : Option ℕ) → ReadsOne G t o → IsUnsignedIn 1 256 t
-        → ◌≡◌ {A = Option Job} (Some (Check (Some (number_of t)))) (Some (Check o))
-    by_value (Some n) got ok = ap (λ (k : ℕ). Some (Check (Some k))) (sym (only t (Ok n) got).1)
-    by_value None got ok = absurd (only t (Err got.0) got.1 (ok.0, omega arith))
+    go : (b : Bool) → is_unsigned_in low high value ≡ b
+        → cond b (Some (made (Some (number_of value)))) None ≡ Some job → HasItsNumber job
+    go true is named' =
+        let number : IsUnsignedIn low high value = accepts-Accepts false (vp.Unsigned low high) value is in
+        subst HasItsNumber (same_Some _ job named') (some (number_of value) number.2 number.3)
+    go false is named' = cc
 
-    go : (b : Bool) → is_unsigned_in 1 256 t ≡ b
-        → is_some (cond b (Some (Check (Some (number_of t)))) None) ≡ true
-        → cond b (Some (Check (Some (number_of t)))) None ≡ Some (Check r)
-    go true is some = by_value r read (accepts-Accepts false (vp.Unsigned 1 256) t is)
-    go false is some = cc
-
--- the value that was found, if there is one, is what `get_one` reads
-pub number_found : (E : Type 0) (G : Text → Result ℕ E → Type 0)
-    → ((u : Text) (x : Result ℕ E) → G u x → ParsesUnsigned 32 10 u x)
-    → (f : Found) (r : Option ℕ) → is_some (check_by (one_of (codes "workers") (rows_of f))) ≡ true
-    → (one_text f (codes "workers") ≡ None → r ≡ None)
-    → ((t : Text) → one_text f (codes "workers") ≡ Some t → ReadsOne G t r)
-    → check_by (one_of (codes "workers") (rows_of f)) ≡ Some (Check r)
-number_found E G only f r e none value =
-    go (one_of (codes "workers") (rows_of f)) e (λ is. none (one_text-rows f (codes "workers") ∙ is))
-    (λ t is. value t (one_text-rows f (codes "workers") ∙ is)) refl
-  where
-    go : (o : Option Text) → is_some (check_by o) ≡ true
-        → (one_of (codes "workers") (rows_of f) ≡ None → r ≡ None)
-        → ((t : Text) → one_of (codes "workers") (rows_of f) ≡ Some t → ReadsOne G t r)
-        → one_of (codes "workers") (rows_of f) ≡ o → check_by o ≡ Some (Check r)
-    go None some absent read is = ap (λ (n : Option ℕ). Some (Check n)) (sym (absent is))
-    go (Some t) some absent read is = number_read E G only t r some (read t is)
-
--- a job that is named has threads from 1 to 256
-few_named : (o : Option (Text × List Row)) (job : Job) → option_and_then job_named o ≡ Some job
-    → HasFewWorkers job
-few_named None job e = cc
-few_named (Some (name, rows)) job e =
+job_numbered : (o : Option (Text × List Row)) (job : Job) → option_and_then job_named o ≡ Some job
+    → HasItsNumber job
+job_numbered None job e = cc
+job_numbered (Some (name, rows)) job e =
     go (bytes_eq name (codes "check")) (bytes_eq name (codes "order")) (bytes_eq name (codes "record"))
     (bytes_eq name (codes "upgrade"))
-    (one_of (codes "workers") rows) e
+    (one_of (codes "workers") rows) (one_of (codes "to") rows) e
   where
-    of_value : (value : Text) (b : Bool) → is_unsigned_in 1 256 value ≡ b
-        → cond b (Some (Check (Some (number_of value)))) None ≡ Some job → HasFewWorkers job
-    of_value value true is named =
-        let number : IsUnsignedIn 1 256 value = accepts-Accepts false (vp.Unsigned 1 256) value is in
-        subst HasFewWorkers (same_Some _ job named) (number.2, number.3)
-    of_value value false is named = cc
-
-    go : (check order recording upgrading : Bool) (o : Option Text)
-        → cond check (check_by o)
-        (cond order (Some Order) (cond recording (Some Record) (cond upgrading (Some Upgrade) None)))
+    go : (check order recording upgrading : Bool) (workers to : Option Text)
+        → cond check (check_by workers)
+        (cond order (Some Order) (cond recording (Some Record) (cond upgrading (upgrade_to to) None)))
         ≡ Some job
-        → HasFewWorkers job
-    go true order recording upgrading None named = subst HasFewWorkers (same_Some _ job named) tt
-    go true order recording upgrading (Some value) named =
-        of_value value (is_unsigned_in 1 256 value) refl named
-    go false true recording upgrading o named = subst HasFewWorkers (same_Some _ job named) tt
-    go false false true upgrading o named = subst HasFewWorkers (same_Some _ job named) tt
-    go false false false true o named = subst HasFewWorkers (same_Some _ job named) tt
-    go false false false false o named = cc
+        → HasItsNumber job
+    go true order recording upgrading workers to named =
+        number_named 1 256 Check tt (λ n low high. (low, high)) workers job named
+    go false true recording upgrading workers to named = subst HasItsNumber (same_Some _ job named) tt
+    go false false true upgrading workers to named = subst HasItsNumber (same_Some _ job named) tt
+    go false false false true workers to named =
+        number_named 2 3 Upgrade tt (λ n low high. (low, high)) to job named
+    go false false false false workers to named = cc
 
-pub few_asked : (words : List Text) (job : Job) → AsksFor words job → HasFewWorkers job
-few_asked words job asked = few_named (subcommand_of command_line words) job asked
+pub number_asked : (words : List Text) (job : Job) → AsksFor words job → HasItsNumber job
+number_asked words job asked = job_numbered (subcommand_of command_line words) job asked
 
 -- ---- the place that a job reads from
 

@@ -1,5 +1,5 @@
 pub mod CommandLemmas
-mod WorkersLemmas
+mod NumberLemmas
 mod LookLemmas
 mod VersionLemmas
 mod ServingLemmas

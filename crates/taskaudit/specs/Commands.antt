@@ -13,14 +13,22 @@ use Rattle.taskaudit.specs.declared.work.Job.TheVariants.{Check, Order, Record, 
 use Rattle.taskaudit.specs.declared.work.Input.{Input}
 use Rattle.taskaudit.specs.declared.work.Input.TheVariants.{Unnamed, Standard, Named}
 
--- the option `--workers N`: a number from 1 to 256
-abbrev pub workers_rule : Rule
-workers_rule = record (new_rule (codes "workers")) {
-  long = Some (codes "workers");
+-- an option of this name with a number from `low` to `high`
+abbrev pub number_rule : Text → ℕ → ℕ → Rule
+number_rule name low high = record (new_rule name) {
+  long = Some name;
   action = Some Set;
   value_names = 1;
-  parser = Some (Signed (pos 1) (pos 256));
+  parser = Some (Signed (pos low) (pos high));
 }
+
+-- the option `--workers N`: a number from 1 to 256
+abbrev pub workers_rule : Rule
+workers_rule = number_rule (codes "workers") 1 256
+
+-- the option `--to VERSION`: 2 or 3
+abbrev pub version_rule : Rule
+version_rule = number_rule (codes "to") 2 3
 
 -- the word for the file, which may be left out
 abbrev pub file_rule : Rule
@@ -33,12 +41,15 @@ file_rule = record (new_rule (codes "file")) {
 abbrev pub file_app : Text → App
 file_app name = with_rule (new_app name) file_rule
 
--- the subcommand `check`
+-- the subcommands with an option, `check` and `upgrade`
 abbrev pub check_app : App
 check_app = with_rule (file_app (codes "check")) workers_rule
 
+abbrev pub upgrade_app : App
+upgrade_app = with_rule (file_app (codes "upgrade")) version_rule
+
 -- what clap reads of the command: it has a version, and wants a subcommand, of which there are four, each
--- with a word for a file, and `check` alone has an option
+-- with a word for a file
 unfoldable pub command_line : App
 command_line = record {
   top = record (new_app (codes "taskaudit")).top {
@@ -48,7 +59,7 @@ command_line = record {
     disable_help_subcommand = true;
   };
   subs = check_app.top ∷ (file_app (codes "order")).top
-      ∷ (file_app (codes "record")).top ∷ (file_app (codes "upgrade")).top ∷ [];
+      ∷ (file_app (codes "record")).top ∷ upgrade_app.top ∷ [];
 }
 
 -- behind the name of the program stands what asks for the version, and nothing else
@@ -60,17 +71,26 @@ AsksVersion words = (name : Text)
 abbrev pub number_of : Text → ℕ
 number_of value = digits_value 10 (without_leading_plus value)
 
--- a check, by as many threads as the value says, where it is a number from 1 to 256
+-- a job with the number that the value says, where there is a value and it is a number from `low` to `high`
+abbrev pub job_with : ℕ → ℕ → (Option ℕ → Job) → Option Text → Option Job
+job_with low high job None = Some (job None)
+job_with low high job (Some value) =
+    if is_unsigned_in low high value then Some (job (Some (number_of value))) else None
+
+-- a check, by as many threads as the value says, 1 to 256
 abbrev pub check_by : Option Text → Option Job
-check_by None = Some (Check None)
-check_by (Some value) = if is_unsigned_in 1 256 value then Some (Check (Some (number_of value))) else None
+check_by = job_with 1 256 Check
+
+-- an upgrade to the version that the value says, 2 or 3
+abbrev pub upgrade_to : Option Text → Option Job
+upgrade_to = job_with 2 3 Upgrade
 
 -- the job that a subcommand names, with the values that were found for its arguments
 abbrev pub job_named : Text × List Row → Option Job
 job_named (name, rows) = if bytes_eq name (codes "check") then check_by (one_of (codes "workers") rows)
     else (if bytes_eq name (codes "order") then Some Order
     else (if bytes_eq name (codes "record") then Some Record
-    else (if bytes_eq name (codes "upgrade") then Some Upgrade else None)))
+    else (if bytes_eq name (codes "upgrade") then upgrade_to (one_of (codes "to") rows) else None)))
 
 -- the words ask for the job
 abbrev pub AsksFor : List Text → Job → Type 0
@@ -102,7 +122,9 @@ place_of Unnamed = by_no_word
 place_of Standard = by_dash
 place_of (Named name) = by_name name.now
 
--- the threads of a check, where the job names their number, are 1 to 256
-abbrev pub HasFewWorkers : Job → Type 0
-HasFewWorkers (Check (Some workers)) = (1 ≤ workers) × (workers ≤ 256)
-HasFewWorkers _ = ⊤
+-- the number that a job names, if it does, is in its range: of a check's threads 1 to 256, of the version of
+-- an upgrade 2 or 3
+abbrev pub HasItsNumber : Job → Type 0
+HasItsNumber (Check (Some workers)) = (1 ≤ workers) × (workers ≤ 256)
+HasItsNumber (Upgrade (Some version)) = (2 ≤ version) × (version ≤ 3)
+HasItsNumber _ = ⊤

@@ -33,7 +33,7 @@ abbrev pub job_name : Job → List ℕ
 job_name (Check workers) = codes "check"
 job_name Order = codes "order"
 job_name Record = codes "record"
-job_name Upgrade = codes "upgrade"
+job_name (Upgrade to) = codes "upgrade"
 
 -- the file of this name is not opened
 abbrev pub unopened_line : List ℕ → OpenFault → List ℕ

@@ -26,7 +26,7 @@ use Rattle.taskaudit.specs.Recordings.{Records, LeavesRecording}
 use Rattle.taskaudit.specs.Reports.{fault_text_of}
 use Rattle.taskaudit.specs.Statuses.{exit_status_of}
 use Rattle.taskaudit.specs.Tellings.{Call, IsAwaited, IsTold, print, write}
-use Rattle.taskaudit.specs.Upgradings.{Upgrades, LeavesUpgrade}
+use Rattle.taskaudit.specs.Upgradings.{Upgrades, LeavesUpgrade, version_to}
 
 -- how a run ends by how its job does
 abbrev pub ending_of : Result Done AuditFault → Result Done Refusal
@@ -38,7 +38,7 @@ abbrev pub Does : Job → Option (List ℕ) → Option (List ℕ) → Option (Li
 Does (Check workers) bytes old new (Judged outcome) = Reports shown.Report bytes old new outcome
 Does Order bytes old new (Judged outcome) = Reports shown.Order bytes old new outcome
 Does Record bytes old new Written = Records bytes old new
-Does Upgrade bytes old new Written = Upgrades bytes old new
+Does (Upgrade to) bytes old new Written = Upgrades (version_to to) bytes old new
 Does _ bytes old new _ = ⊥
 
 -- what the fault leaves of the job. A check by workers has as many as the words say, 1 to 256, and its gate
@@ -47,7 +47,7 @@ abbrev pub LeavesOfJob : Job → Option (List ℕ) → Option (List ℕ) → Opt
 LeavesOfJob (Check workers) bytes old new fault = Leaves shown.Report bytes old new fault
 LeavesOfJob Order bytes old new fault = Leaves shown.Order bytes old new fault
 LeavesOfJob Record bytes old new fault = LeavesRecording bytes old new fault
-LeavesOfJob Upgrade bytes old new fault = LeavesUpgrade bytes old new fault
+LeavesOfJob (Upgrade to) bytes old new fault = LeavesUpgrade (version_to to) bytes old new fault
 
 -- what the program has around it: the calls of the console, the files that were tried to open, the answers to
 -- whether standard input is a terminal, and the bytes that a file has left where they are known

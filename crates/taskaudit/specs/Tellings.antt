@@ -75,7 +75,7 @@ reading_text_of Order =
     codes "taskaudit: reading a trace from this terminal (Ctrl-D ends it); see taskaudit order --help\n"
 reading_text_of Record =
     codes "taskaudit: reading a script from this terminal (Ctrl-D ends it); see taskaudit record --help\n"
-reading_text_of Upgrade =
+reading_text_of (Upgrade to) =
     codes "taskaudit: reading a trace from this terminal (Ctrl-D ends it); see taskaudit upgrade --help\n"
 
 -- it was asked whether somebody sits at a terminal, and if so, that was told

@@ -1,6 +1,6 @@
 //! Judges recorded runs of OpenMP tasks: whether each wait ended, and each dependent task started, only when
 //! it was allowed to. Read `audit` first (`auditing.rt`): its clause `reports` is the headline; then `record`
-//! (`record.rt`), which writes a trace, and `upgrade` (`upgrading.rt`), which writes one in version 2. Then
+//! (`record.rt`), which writes a trace, and `upgrade` (`upgrading.rt`), which writes one with turns. Then
 //! `run` (`program.rt`), from the words of the command line to the exit status, `tell` (`telling.rt`) and the
 //! texts (`report.rt`, `order.rt` for an order, and `version.rt` for the version).
 #![tactic(auto)]

@@ -3,7 +3,7 @@ ghost use Rattle.std.specs.Prelude.{◌≡◌, ◌≤◌, ℕ, List, Option, map
 ghost use Rattle.std.specs.Result.{result_map_both};
 ghost use Rattle.clap.specs.Words.{Text};
 ghost use Rattle.taskaudit.specs.Audits.{Reports, Leaves};
-ghost use Rattle.taskaudit.specs.Commands.{AsksOf, AsksVersion, HasFewWorkers, by_name};
+ghost use Rattle.taskaudit.specs.Commands.{AsksOf, AsksVersion, HasItsNumber, by_name};
 ghost use Rattle.taskaudit.specs.Programs.{Does, DoesAsked, IsFileRefused, IsOpened, IsRefused, LeavesOfJob, Ends, Runs, ShowsVersion, ending_of, world_of};
 ghost use Rattle.taskaudit.specs.Statuses.{exit_status_of};
 
@@ -13,7 +13,7 @@ use crate::opening::Inputs;
 use crate::record::record;
 use crate::report::{NOT_REPORTED, WRONG_WORDS, fault_status, usage_status};
 use crate::telling::{Console, tell, tell_reading};
-use crate::upgrading::upgrade;
+use crate::upgrading::{upgrade, version_to};
 use crate::words::asked;
 use crate::work::{Asked, AuditFault, Done, FileFault, Input, Job, Outcome, Refusal, Shown};
 use certificate::{ReadFault, Sink, Source};
@@ -114,7 +114,7 @@ fn do_named<'a, C: Inputs + Threads + Wait + Sync, O: Sink>(
     name: &'a str,
     sink: &mut O,
 ) -> Result<Done, Refusal<'a>>
-    requires { HasFewWorkers job }
+    requires { HasItsNumber job }
     ensures does { IfOk result (λ done. (bytes : Option (List ℕ))
         × IsOpened (C.opens console.now) C.File.remaining name.entry.now bytes
         × Does job bytes (O.contents sink.old) (O.contents sink.new) done) }
@@ -153,7 +153,7 @@ fn do_job<R: Threads + Wait + Sync, I: Source, O: Sink>(
     source: &mut I,
     sink: &mut O,
 ) -> Result<Done, AuditFault>
-    requires { HasFewWorkers job }
+    requires { HasItsNumber job }
     ensures does { IfOk result
         (Does job (I.remaining source.old) (O.contents sink.old) (O.contents sink.new)) }
     ensures leaves { IfErr result
@@ -164,7 +164,7 @@ fn do_job<R: Threads + Wait + Sync, I: Source, O: Sink>(
         Job::Check(Some(workers)) => audit_by(alloc, rt, workers, source, sink).map(Done::Judged),
         Job::Order => audit(alloc, Shown::Order, source, sink).map(Done::Judged),
         Job::Record => record(rt, alloc, source, sink).map(|()| Done::Written),
-        Job::Upgrade => upgrade(alloc, source, sink).map(|()| Done::Written),
+        Job::Upgrade(to) => { upgrade(alloc, version_to(to), source, sink).map(|()| Done::Written) }
     }
 }
 

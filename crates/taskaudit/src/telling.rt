@@ -175,6 +175,6 @@ fn reading_text(job: Job) -> &'static str
         Job::Check(_) => CHECK_READS,
         Job::Order => ORDER_READS,
         Job::Record => RECORD_READS,
-        Job::Upgrade => UPGRADE_READS,
+        Job::Upgrade(_) => UPGRADE_READS,
     }
 }

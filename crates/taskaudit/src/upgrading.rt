@@ -4,24 +4,36 @@ ghost use Rattle.ompt_events.specs.Limits.{max_records};
 ghost use Rattle.certificate.specs.Upgrading.{IsRefusal};
 ghost use Rattle.taskaudit.specs.Audits.{IsReadRightly};
 ghost use Rattle.taskaudit.specs.Devices.{TellsDevices};
-ghost use Rattle.taskaudit.specs.Upgradings.{LeavesUpgrade, Upgrades, fault_of_upgrade};
+ghost use Rattle.taskaudit.specs.Upgradings.{LeavesUpgrade, Upgrades, fault_of_upgrade, version_to};
 
 use crate::work::AuditFault;
-use certificate::{Sink, Source, UpgradeFault, read, write};
+use certificate::{Sink, Source, UpgradeFault, read, upgrade_to, write};
 use ompt_events::Record;
 use std::alloc::Global;
 
-/// Reads a trace file to its end and writes its trace in version 2, in which turns are told. A trace of
-/// version 2 is written as it was read.
+/// The version that an upgrade writes where none is given.
+const DEFAULT_VERSION: u32 = 2;
+
+/// Returns the version that an upgrade writes at least.
+pub fn version_to(given: Option<u32>) -> u32
+    ensures { result ≡ version_to given }
+{
+    given.unwrap_or(DEFAULT_VERSION)
+}
+
+/// Reads a trace file to its end and writes its trace in this version, 2 or 3. A trace of this version, or of a
+/// newer one, is written as it was read.
 pub fn upgrade<I: Source, O: Sink>(
     alloc: Global,
+    version: u32,
     source: &mut I,
     sink: &mut O,
 ) -> Result<(), AuditFault>
+    requires { (2 ≤ version) × (version ≤ 3) }
     ensures upgrades { OnOk result
-        (Upgrades (I.remaining source.old) (O.contents sink.old) (O.contents sink.new)) }
+        (Upgrades version (I.remaining source.old) (O.contents sink.old) (O.contents sink.new)) }
     ensures leaves { IfErr result
-        (LeavesUpgrade (I.remaining source.old) (O.contents sink.old) (O.contents sink.new)) }
+        (LeavesUpgrade version (I.remaining source.old) (O.contents sink.old) (O.contents sink.new)) }
     ensures unreadable { IfErr result (IsReadRightly (I.remaining source.old) (I.remaining source.new)) }
 
     // A fault of the source or of the sink is told exactly where it occurs.
@@ -32,7 +44,7 @@ pub fn upgrade<I: Source, O: Sink>(
         (record { turns = O.stalls sink.new; breaks = O.breaks sink.new }) }
 {
     let trace = read(alloc, source).map_err(AuditFault::Read)?;
-    let upgraded = match certificate::upgrade(alloc, trace) {
+    let upgraded = match upgrade_to(alloc, version, trace) {
         Ok(upgraded) => upgraded,
         Err(refusal) => {
             let (refused, fault) = refusal;

@@ -2,7 +2,7 @@
 ghost use Rattle.std.specs.Prelude.{◌≡◌, true, false, codes, map, IfOk, IfErr, Some, is_some, option_and_then};
 ghost use Rattle.clap.specs.Words.{app_of, rule_of, rows_of, found_of, first_of, one_of, shape_of, new_app, fault_of, kind_of, takes, subcommand_rows_of, FailsBy};
 ghost use Rattle.clap.specs.declared.builder.command.Command.TheViews.{out-Command};
-ghost use Rattle.taskaudit.specs.Commands.{command_line, check_app, file_app, file_rule, workers_rule, check_by, job_named, file_word, place_named, place_of, AsksFor, AsksOf, HasFewWorkers};
+ghost use Rattle.taskaudit.specs.Commands.{command_line, check_app, upgrade_app, file_app, file_rule, workers_rule, version_rule, check_by, upgrade_to, job_named, file_word, place_named, place_of, AsksFor, AsksOf, HasItsNumber};
 
 use crate::version::VERSION_TEXT;
 use crate::work::{Asked, Input, Job};
@@ -28,7 +28,7 @@ const ORDER_ABOUT: &str =
 const RECORD_ABOUT: &str = "Runs a script with recorders, and writes the trace that they record";
 
 /// What `upgrade` is for.
-const UPGRADE_ABOUT: &str = "Writes a trace file in version 2 of its format";
+const UPGRADE_ABOUT: &str = "Writes a trace file in a newer version of its format";
 
 /// What the word for the file is for.
 const TRACE_HELP: &str = "The trace file, or - for standard input; without it standard input";
@@ -38,6 +38,9 @@ const SCRIPT_HELP: &str = "The script, or - for standard input; without it stand
 
 /// What the option `--workers` of `check` is for.
 const WORKERS_HELP: &str = "Reads and checks on N threads (1 to 256); without it, on one";
+
+/// What the option `--to` of `upgrade` is for.
+const VERSION_HELP: &str = "The version to write, 2 or 3; without it 2";
 
 /// What stands below the options in the help, and in that of `check`.
 const EXPLANATION: &str = r#"Answers of check, one line on standard output:
@@ -61,8 +64,8 @@ Exit status: 0 yes, 1 no, 2 malformed, 3 input not read or answer not written,
 
 Input: one JSON object a line, in UTF-8. The first line is
   {"format":"task-credit-audit","version":2}
-(or 1: no turns), and each other one an event of OpenMP's tool interface (OMPT),
-with the members
+(or 1: no turns; or 3: parallel regions may be inside others), and each other one
+an event of OpenMP's tool interface (OMPT), with the members
   cb, thread, seq (0, 1, .. in each thread), seen, and with cb
   parallel_begin task, parallel, requested
   parallel_end   task, parallel
@@ -70,7 +73,7 @@ with the members
   task_create    task, child, flags, deps
   dependences    task, list
   task_schedule  prior, status, next; where it finishes a task also root, path, kept;
-                 in version 2 with a next task also prior_turn, next_turn
+                 in versions 2 and 3 with a next task also prior_turn, next_turn
   sync_region    kind, endpoint, parallel, task
   cancel         task, flags; with discarded_task also root, path, kept
   thread_begin   kind
@@ -134,10 +137,15 @@ taskaudit check --help says what the members of an event are."#;
 
 /// What stands below the options in the help of `upgrade`.
 const UPGRADE_EXPLANATION: &str =
-    r#"Output, on standard output: the trace file in version 2. Each task_schedule with a next
-task tells the turns that prior and next are in (prior_turn, next_turn), counted along
-the file. Nothing else changes, and taskaudit check answers the same for both files.
-A file of version 2 keeps its events and their turns.
+    r#"Output, on standard output: the file in the version that --to names. A file of that
+version, or of a newer one, is written as it is.
+  From 1 to 2: each task_schedule with a next task tells the turns that prior and next
+      are in (prior_turn, next_turn), counted along the file. Nothing else changes, and
+      taskaudit check answers the same for both files.
+  From 2 to 3: only the header changes. If the answer for the old file is yes or no, it is
+      the same for the new one, unless that is malformed by cause 4 NotCurrent or
+      9 RegionNesting: a root began on a thread with an open root, and the task that ran
+      there had not begun its region.
 
 Errors, one line on standard error; nothing is written:
   not upgraded: line 7: 2 Moved
@@ -156,8 +164,8 @@ pub fn asked<'a, S: AsStr>(alloc: Global, words: &'a [S]) -> Result<Asked<'a>, E
     ensures job { IfOk result (λ asked. AsksFor (map S.text words.entry.now) asked.job) }
     ensures input { IfOk result (λ asked. AsksOf (map S.text words.entry.now) (place_of asked.input)) }
 
-    // A check that names the number of its threads has 1 to 256.
-    ensures workers { IfOk result (λ asked. HasFewWorkers asked.job) }
+    // The number that the job names, if it does, is in its range.
+    ensures number { IfOk result (λ asked. HasItsNumber asked.job) }
 
     // Words that clap accepts are refused only where memory runs out.
     ensures passes { IfErr result (λ e. takes command_line (map S.text words.entry.now) ≡ true
@@ -209,7 +217,7 @@ fn job_of(name: &str, found: &ArgMatches) -> Job
     match name {
         "order" => Job::Order,
         "record" => Job::Record,
-        "upgrade" => Job::Upgrade,
+        "upgrade" => Job::Upgrade(version_found(found)),
         _ => Job::Check(workers_found(found)),
     }
 }
@@ -220,6 +228,14 @@ fn workers_found(found: &ArgMatches) -> Option<u32>
     ensures { check_by (one_of (codes "workers") (rows_of (found_of found.now))) ≡ Some (Job.Check result) }
 {
     found.get_one::<u32>("workers")
+}
+
+/// The value of `--to`, if there is one.
+fn version_found(found: &ArgMatches) -> Option<u32>
+    requires { is_some (upgrade_to (one_of (codes "to") (rows_of (found_of found.now)))) ≡ true }
+    ensures { upgrade_to (one_of (codes "to") (rows_of (found_of found.now))) ≡ Some (Job.Upgrade result) }
+{
+    found.get_one::<u32>("to")
 }
 
 /// The command line that the program takes.
@@ -236,13 +252,7 @@ fn command<'a>(alloc: Global) -> Result<Command<'a>, AllocError>
         RECORD_EXPLANATION,
         SCRIPT_HELP,
     )?;
-    let upgrading = reading(
-        alloc,
-        "upgrade",
-        UPGRADE_ABOUT,
-        UPGRADE_EXPLANATION,
-        TRACE_HELP,
-    )?;
+    let upgrade = upgrading(alloc)?;
     Command::new(alloc, "taskaudit")
         .version(VERSION_TEXT)
         .about(ABOUT)
@@ -252,7 +262,7 @@ fn command<'a>(alloc: Global) -> Result<Command<'a>, AllocError>
         .subcommand(check)?
         .subcommand(order)?
         .subcommand(recording)?
-        .subcommand(upgrading)
+        .subcommand(upgrade)
 }
 
 /// The subcommand `check`, with its option and its file.
@@ -261,6 +271,21 @@ fn checking<'a>(alloc: Global) -> Result<Command<'a>, AllocError>
     ensures local { IfOk result (λ c. (out-Command c).has_globals ≡ false) }
 {
     reading(alloc, "check", CHECK_ABOUT, EXPLANATION, TRACE_HELP)?.arg(workers(alloc))
+}
+
+/// The subcommand `upgrade`, with its option and its file.
+fn upgrading<'a>(alloc: Global) -> Result<Command<'a>, AllocError>
+    ensures shape { IfOk result (λ c. shape_of c ≡ upgrade_app.top) }
+    ensures local { IfOk result (λ c. (out-Command c).has_globals ≡ false) }
+{
+    let command = reading(
+        alloc,
+        "upgrade",
+        UPGRADE_ABOUT,
+        UPGRADE_EXPLANATION,
+        TRACE_HELP,
+    )?;
+    command.arg(version(alloc))
 }
 
 /// A subcommand with a word for the file that it reads.
@@ -299,6 +324,19 @@ fn workers<'a>(alloc: Global) -> Arg<'a>
         .help(WORKERS_HELP)
         .action(ArgAction::Set)
         .value_parser(value_parser!(u32).range(1..=i64::from(MAX_WORKERS)))
+}
+
+/// The option `--to` of `upgrade`.
+fn version<'a>(alloc: Global) -> Arg<'a>
+    ensures rule { rule_of result ≡ version_rule }
+    ensures local { result.global ≡ false }
+{
+    Arg::new(alloc, "to")
+        .long("to")
+        .value_name("VERSION")
+        .help(VERSION_HELP)
+        .action(ArgAction::Set)
+        .value_parser(value_parser!(u32).range(2..=3))
 }
 
 /// A subcommand without arguments.

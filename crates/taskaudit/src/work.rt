@@ -19,8 +19,9 @@ pub enum Job {
     Order,
     /// To run the script and write the trace that its recorders gather.
     Record,
-    /// To write the trace in version 2.
-    Upgrade,
+    /// To write the trace in this version of its format, or in version 2 where none is given, unless it has that
+    /// version or a newer one.
+    Upgrade(Option<u32>),
 }
 
 impl Job {
@@ -32,7 +33,7 @@ impl Job {
             Job::Check(_) => "check",
             Job::Order => "order",
             Job::Record => "record",
-            Job::Upgrade => "upgrade",
+            Job::Upgrade(_) => "upgrade",
         }
     }
 }

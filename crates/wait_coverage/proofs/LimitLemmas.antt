@@ -3,9 +3,9 @@ use Rattle.std.proofs.Common.{◌≡◌, ◌≢◌, ◌∙◌, ℕ, ◌<◌, ◌
 use Rattle.std.proofs.Common.{get_or, Option, Some, None, refl, sym, ap, subst, arith, inl, inr, ◌⊎◌}
 use Rattle.std.proofs.lemmas.Bool.{cases_eq, cases_lt, false≢true}
 use Rattle.std.proofs.lemmas.Option.{none-some, same_Some, slice_get_within, slice_get-get_or}
-use Rattle.std.proofs.lemmas.List.{length_push, length-set}
+use Rattle.std.proofs.lemmas.List.{length_push, length-set, length-replicate}
 use Rattle.std.proofs.Math.ListN.{set}
-use Rattle.std.specs.Prelude.{max, slice_get, option_and_then, option_map, Contains}
+use Rattle.std.specs.Prelude.{max, slice_get, option_and_then, option_map, replicate, Contains}
 use Rattle.ompt_events.specs.declared.records.Record.{Record}
 use Rattle.ompt_events.specs.declared.records.Body.{Body}
 use Rattle.ompt_events.specs.declared.records.Body.TheVariants.{TaskCreate}
@@ -23,6 +23,7 @@ use Rattle.ompt_events.proofs.ListLemmas.{pushed_cases}
 use Rattle.ompt_events.proofs.RegionLemmas.{own_begin, same_says}
 use Rattle.ompt_events.proofs.TreeLemmas.{before_child, child_place}
 use Rattle.index_tables.specs.Numbering.{AreApart}
+use Rattle.task_tree.proofs.ChainLemmas.{replicate_get}
 use Rattle.task_tree.proofs.LinkLemmas.{get_set_same, get_set_other}
 use Rattle.wait_coverage.specs.Done.{DoneView, records_of, tasks_of, IsEarly}
 use Rattle.wait_coverage.specs.Limits.{IsFamilyLimit, IsChildLimit, IsFamiliesLimit, IsLimitOfBegin}
@@ -730,3 +731,37 @@ early_at done index task limit m apart is_task stands low other length_there is_
     let is_limit : length_there ≡ limit =
     same_Some length_there limit (sym stands_there ∙ ap (slice_get done.own) same ∙ stands) in
     omega (arith, is_limit, low)
+
+-- ---- before the first record
+
+pub progress_start : (done : DoneView) (tasks : ℕ) (nodes : List Node) (progress : Progress) → nodes ≡ []
+    → tasks ≡ length (tasks_of done) → progress.heads.items ≡ replicate tasks None
+    → progress.latest.items ≡ replicate tasks 0 → progress.families.items ≡ replicate tasks 0
+    → IsLimitProgress done 0 nodes progress
+progress_start done tasks nodes progress empty same heads latest families = record {
+  count = ap length empty;
+  latest = record {
+    all = ap length latest ∙ length-replicate tasks 0 ∙ same;
+    each = λ index task limit named is m c child low reached below. absurd (omega (arith, below));
+  };
+  families = record {
+    all = ap length families ∙ length-replicate tasks 0 ∙ same;
+    each = λ index task limit named is c child below. absurd (omega (arith, below));
+  };
+  chains = record {
+    all = ap length heads ∙ length-replicate tasks None ∙ same;
+    known = λ index head is.
+        absurd
+        (none-some head
+        (sym
+        (replicate_get tasks index None (Some head)
+        (sym (ap (λ (l : List (Option ℕ)). slice_get l index) heads) ∙ is))));
+    falling = λ number next node stands. absurd (none-some node (no_node number node ∙ stands));
+    each = λ index task c child head named is below.
+        let none = ap length empty in absurd (omega (arith, below, none));
+  };
+  marks = λ i node stands. absurd (none-some node (no_node i node ∙ stands));
+}
+  where
+    no_node : (i : ℕ) (node : Node) → None ≡ slice_get nodes i
+    no_node i node = sym (ap (λ (l : List Node). slice_get l i) empty)

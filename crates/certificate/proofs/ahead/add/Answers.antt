@@ -2,8 +2,8 @@ use Rattle.std.proofs.Common.{arith}
 use Rattle.certificate.proofs.JoinLemmas.{kept_some, piece_told, piece_lines, piece_sound}
 use Rattle.certificate.proofs.ahead.add.Goals as goal
 
-pub keep_all-count-requires-clause-sound : goal.keep_all-count-requires-clause-sound
-keep_all-count-requires-clause-sound c =
+pub keep_all-count-requires-clause-fits : goal.keep_all-count-requires-clause-fits
+keep_all-count-requires-clause-fits c =
     let judged = c.requires.judged in
     piece_sound c.args.kept.now.version judged.0 c.args.piece.records.items c.args.piece.fault judged.1.read
 

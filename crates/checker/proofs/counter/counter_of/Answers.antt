@@ -16,7 +16,7 @@ returns-in_err-makers-clause-memory_alone c =
     let p = err_from_is_err_and c.from_residual.result c.from_residual.ensures.1 in
     rw (p.1, p.2)
     (memory_alone rs (EntryTwice ∷ LengthAhead ∷ []) c.in_err-makers.field-0.0
-    (one_clear rs EntryTwice (LengthAhead ∷ []) (clear EntryTwice (12, omega arith, refl))
-    (only_clear rs LengthAhead (clear LengthAhead (13, omega arith, refl))))
+    (one_clear rs EntryTwice (LengthAhead ∷ []) (clear EntryTwice (13, omega arith, refl))
+    (only_clear rs LengthAhead (clear LengthAhead (14, omega arith, refl))))
     (fault_shown rs (EntryTwice ∷ LengthAhead ∷ []) c.in_err-makers.field-0.0 refl
     (rw (c.run.ensures.value, c.sound.ensures.run) at c.in_err-makers.ensures.fault)))

@@ -27,12 +27,12 @@ number-requires c =
 pub of-requires-clause-once : goal.of-requires-clause-once
 of-requires-clause-once c =
     rw c.sound-sound.ensures.run
-    (c.sound-sound.ensures.is_clear.well_formed EntryTwice (12, omega arith, refl))
+    (c.sound-sound.ensures.is_clear.well_formed EntryTwice (13, omega arith, refl))
 
 pub of-requires-clause-reached : goal.of-requires-clause-reached
 of-requires-clause-reached c =
     rw c.sound-sound.ensures.run
-    (c.sound-sound.ensures.is_clear.well_formed LengthAhead (13, omega arith, refl))
+    (c.sound-sound.ensures.is_clear.well_formed LengthAhead (14, omega arith, refl))
 
 pub returns-then-branch-clause-unfinished : goal.returns-then-branch-clause-unfinished
 returns-then-branch-clause-unfinished c =

@@ -43,7 +43,7 @@ returns-in_err-find_order-clause-memory_alone c =
     rw (p.1, p.2)
     (memory_alone rs (NoOrder ∷ []) c.in_err-find_order.field-0.0
     (only_clear rs NoOrder
-    (c.makers-makers.ensures.is_ordered.well_formed NoOrder (15, omega arith, refl)))
+    (c.makers-makers.ensures.is_ordered.well_formed NoOrder (16, omega arith, refl)))
     (fault_shown rs (NoOrder ∷ []) c.in_err-find_order.field-0.0 refl
     (rw c.makers-makers.ensures.value at c.in_err-find_order.ensures.fault)))
 

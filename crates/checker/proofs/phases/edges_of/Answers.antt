@@ -1,6 +1,7 @@
 use Rattle.std.proofs.Common.{[], ◌∷◌, refl}
 use Rattle.std.proofs.lemmas.Result.{err_from_is_err_and}
-use Rattle.ompt_events.specs.declared.cause.Cause.TheVariants.{NestedParallel, DepsPlace, ShareWrong}
+use Rattle.ompt_events.specs.declared.cause.Cause.TheVariants.{NestedParallel, RegionNesting, DepsPlace}
+use Rattle.ompt_events.specs.declared.cause.Cause.TheVariants.{ShareWrong}
 use Rattle.ompt_events.specs.Causes.{IsFreeOf}
 use Rattle.ompt_events.specs.Faults.{FindsFirst, IsShownFault}
 use Rattle.task_tree.specs.Own.{IsOwn, IsOwnFault, of_claims}
@@ -25,21 +26,40 @@ returns-in_err-exclude-clause-fault c =
     let p =
     err_from_is_err_and c.from_residual-in_err-exclude.result c.from_residual-in_err-exclude.ensures.1 in
     rw (p.1, p.2)
-    (shown_more rs edge_causes [] (NestedParallel ∷ []) (DepsPlace ∷ ShareWrong ∷ [])
+    (shown_more rs edge_causes [] (NestedParallel ∷ []) (RegionNesting ∷ DepsPlace ∷ ShareWrong ∷ [])
     c.in_err-exclude.field-0.0 refl refl (none_clear rs) fault)
+
+pub returns-in_err-exclude-2-clause-fault : goal.returns-in_err-exclude-2-clause-fault
+returns-in_err-exclude-2-clause-fault c =
+    let rs = c.args.runs.now.run.records in
+    let flat : IsFreeOf rs NestedParallel =
+    c.in_ok-exclude.ensures.free rs (rw c.run-run.ensures.value at c.in_ok-find_nested.ensures) in
+    let found : FindsFirst rs RegionNesting c.in_ok-find_misnested.field-0 =
+    rw c.run-run.ensures.value at c.in_ok-find_misnested.ensures in
+    let fault =
+    fault_shown rs (RegionNesting ∷ []) c.in_err-exclude-2.field-0.0 refl
+    (c.in_err-exclude-2.ensures.fault rs found) in
+    let p =
+    err_from_is_err_and c.from_residual-in_err-exclude-2.result c.from_residual-in_err-exclude-2.ensures.1 in
+    rw (p.1, p.2)
+    (shown_more rs edge_causes (NestedParallel ∷ []) (RegionNesting ∷ []) (DepsPlace ∷ ShareWrong ∷ [])
+    c.in_err-exclude-2.field-0.0 refl refl (only_clear rs NestedParallel flat) fault)
 
 pub returns-in_err-edges-clause-fault : goal.returns-in_err-edges-clause-fault
 returns-in_err-edges-clause-fault c =
     let rs = c.args.runs.now.run.records in
     let flat : IsFreeOf rs NestedParallel =
     c.in_ok-exclude.ensures.free rs (rw c.run-run.ensures.value at c.in_ok-find_nested.ensures) in
+    let inside : IsFreeOf rs RegionNesting =
+    c.in_ok-exclude-2.ensures.free rs (rw c.run-run.ensures.value at c.in_ok-find_misnested.ensures) in
     let fault =
     fault_shown rs (DepsPlace ∷ []) c.in_err-edges.field-0.0 refl
     (rw c.run-run.ensures.value at c.in_err-edges.ensures.fault) in
     let p = err_from_is_err_and c.from_residual-in_err-edges.result c.from_residual-in_err-edges.ensures.1 in
     rw (p.1, p.2)
-    (shown_more rs edge_causes (NestedParallel ∷ []) (DepsPlace ∷ []) (ShareWrong ∷ [])
-    c.in_err-edges.field-0.0 refl refl (only_clear rs NestedParallel flat) fault)
+    (shown_more rs edge_causes (NestedParallel ∷ RegionNesting ∷ []) (DepsPlace ∷ []) (ShareWrong ∷ [])
+    c.in_err-edges.field-0.0 refl refl
+    (one_clear rs NestedParallel (RegionNesting ∷ []) flat (only_clear rs RegionNesting inside)) fault)
 
 pub returns-in_err-exclude_wrong_claims-clause-fault : goal.returns-in_err-exclude_wrong_claims-clause-fault
 returns-in_err-exclude_wrong_claims-clause-fault c =
@@ -47,6 +67,8 @@ returns-in_err-exclude_wrong_claims-clause-fault c =
     let own = c.args.runs.now.own in
     let flat : IsFreeOf rs NestedParallel =
     c.in_ok-exclude.ensures.free rs (rw c.run-run.ensures.value at c.in_ok-find_nested.ensures) in
+    let inside : IsFreeOf rs RegionNesting =
+    c.in_ok-exclude-2.ensures.free rs (rw c.run-run.ensures.value at c.in_ok-find_misnested.ensures) in
     let placed : IsFreeOf rs DepsPlace = rw c.run-run.ensures.value at c.in_ok-edges.ensures.placed in
     let is_own : IsOwn own = rw c.own-own.ensures.value at c.run-records.ensures.is_own in
     let found : IsOwnFault own ShareWrong c.in_err-exclude_wrong_claims.field-0.0 =
@@ -58,9 +80,10 @@ returns-in_err-exclude_wrong_claims-clause-fault c =
     err_from_is_err_and c.from_residual-in_err-exclude_wrong_claims.result
     c.from_residual-in_err-exclude_wrong_claims.ensures.1 in
     rw (p.1, p.2)
-    (shown_more rs edge_causes (NestedParallel ∷ DepsPlace ∷ []) (ShareWrong ∷ []) []
+    (shown_more rs edge_causes (NestedParallel ∷ RegionNesting ∷ DepsPlace ∷ []) (ShareWrong ∷ []) []
     c.in_err-exclude_wrong_claims.field-0.0 refl refl
-    (one_clear rs NestedParallel (DepsPlace ∷ []) flat (only_clear rs DepsPlace placed)) fault)
+    (one_clear rs NestedParallel (RegionNesting ∷ DepsPlace ∷ []) flat
+    (one_clear rs RegionNesting (DepsPlace ∷ []) inside (only_clear rs DepsPlace placed))) fault)
 
 pub returns-clause-edges : goal.returns-clause-edges
 returns-clause-edges c =
@@ -73,5 +96,6 @@ returns-clause-edges c =
       clear =
           edges_clear rs own c.own-own.ensures.is_own
           (c.in_ok-exclude.ensures.free rs (rw c.run-run.ensures.value at c.in_ok-find_nested.ensures))
+          (c.in_ok-exclude-2.ensures.free rs (rw c.run-run.ensures.value at c.in_ok-find_misnested.ensures))
           (rw c.run-run.ensures.value at c.in_ok-edges.ensures.placed) claims;
     }

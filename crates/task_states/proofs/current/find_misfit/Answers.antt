@@ -56,12 +56,14 @@ loop-at-preserved c =
     indexed_read run i thread walks walk low c.loop-at.invariant.walks c.index_mut-walk.ensures.value in
     record {
       walks =
-          stands_more run i thread event walks (set walks thread c.advance.new.self) is_run
+          stands_more run c.nests-nests.result i thread event walks
+          (set walks thread c.advance.new.self) is_run
+          c.nests-nests.ensures
           (rw c.len-at-end.ensures.value at c.loop-at-test.true) c.thread.ensures c.in-Some.ensures
           c.loop-at.invariant.walks
           (ap (set walks thread)
           (c.in_ok-advance.ensures
-          ∙ ap (λ w. after_event w event)
+          ∙ ap (λ w. after_event c.nests-nests.result w event)
           (walk_is walks thread walk (rw c.loop-at.invariant.walks.all low)
           c.index_mut-walk.ensures.value)));
       free =

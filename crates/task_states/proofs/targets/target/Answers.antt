@@ -1,6 +1,21 @@
-use Rattle.std.proofs.Common.{◌≡◌, ◌∙◌, sym, arith, below_more, true, false}
-use Rattle.task_states.proofs.TargetLemmas.{first_target, free_of_targets}
+use Rattle.std.proofs.Common.{◌≡◌, ◌∙◌, Bool, sym, subst, arith, below_more, true, false}
+use Rattle.std.specs.Prelude.{All}
+use Rattle.ompt_events.specs.declared.records.Record.{Record}
+use Rattle.task_states.proofs.NestingLemmas.{nests_all}
+use Rattle.task_states.proofs.TargetLemmas.{first_target, free_of_targets, none_where_all_nest}
 use Rattle.task_states.proofs.targets.target.Goals as goal
+
+pub returns-then-nests : goal.returns-then-nests
+returns-then-nests c =
+    let P : Bool → Type 0 = λ b. All (λ (r : Record). r.nests ≡ b) c.args.run.now.records in
+    none_where_all_nest c.args.run.now.records (subst P c.if-nests.true c.nests.ensures)
+
+pub is_target_there-requires-clause-flat : goal.is_target_there-requires-clause-flat
+is_target_there-requires-clause-flat c =
+    let count = c.len-at-end.ensures.value in
+    nests_all c.args.run.now.records c.nests.result c.loop-at.at c.nests.ensures
+    (omega (arith, c.loop-at-test.true, count))
+    ∙ c.if-nests.false
 
 pub returns-then-is_target_there : goal.returns-then-is_target_there
 returns-then-is_target_there c =

@@ -22,7 +22,7 @@ returns-in-Err-clause-leaves g c =
     let before = g.O.Sink.contents c.args.sink.now in
     let kept : Keeps before before = search rules in
     rw c.of_upgrade.ensures
-    (upgrade_leaves (g.I.Source.remaining c.args.source.now) before trace c.in-Err.refusal.1
+    (upgrade_leaves c.args.version (g.I.Source.remaining c.args.source.now) before trace c.in-Err.refusal.1
     (rw read at c.read.ensures.file) c.in-Err.ensures.refused.0 c.in-Err.ensures.refused.1 kept)
 
 pub returns-clause-leaves : goal.returns-clause-leaves

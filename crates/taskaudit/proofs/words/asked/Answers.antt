@@ -2,7 +2,8 @@
 use Rattle.std.proofs.Common.{◌≡◌, ◌∙◌, ap, sym, subst, true, map}
 use Rattle.clap.specs.Words.{App, fault_of, HasKind}
 use Rattle.clap.specs.Matches.{has_subcommand}
-use Rattle.taskaudit.proofs.CommandLemmas.{few_asked, is_free_line, meets_one, names_job, asks_for, asks_of}
+use Rattle.taskaudit.proofs.CommandLemmas.{number_asked, is_free_line, meets_one, names_job, asks_for}
+use Rattle.taskaudit.proofs.CommandLemmas.{asks_of}
 use Rattle.taskaudit.specs.Commands.{place_of}
 use Rattle.taskaudit.proofs.words.asked.Goals as goal
 
@@ -23,9 +24,9 @@ returns-in-Ok-clause-input g c =
     asks_of _ _ c.in_ok-command.ensures.app _ c.in-Ok.ensures.matches (place_of c.asked_of.result.input)
     c.asked_of.ensures.input
 
-pub returns-in-Ok-clause-workers : goal.returns-in-Ok-clause-workers
-returns-in-Ok-clause-workers g c =
-    few_asked (map g.S.AsStr.text c.args.words.now) _
+pub returns-in-Ok-clause-number : goal.returns-in-Ok-clause-number
+returns-in-Ok-clause-number g c =
+    number_asked (map g.S.AsStr.text c.args.words.now) _
     (asks_for _ _ c.in_ok-command.ensures.app _ c.in-Ok.ensures.matches c.asked_of.result.job
     c.asked_of.ensures.job)
 

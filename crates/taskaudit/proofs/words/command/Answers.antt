@@ -37,8 +37,8 @@ returns-clause-app c =
     ∙ ap₂ with_subcommand with_order c.in_ok-recording.ensures.shape in
     IfOk-weaker c.subcommand-4.result _ _
     (λ r h.
-    h.shape c.in_ok-upgrading.ensures.local
-    ∙ ap₂ with_subcommand with_record c.in_ok-upgrading.ensures.shape)
+    h.shape c.in_ok-upgrade.ensures.local
+    ∙ ap₂ with_subcommand with_record c.in_ok-upgrade.ensures.shape)
     c.subcommand-4.ensures
 
 abbrev either : Bool → Bool → Bool
@@ -53,4 +53,4 @@ returns-clause-local c =
     let with_record =
     c.in_ok-subcommand-3.ensures.globals ∙ ap₂ either with_order c.in_ok-recording.ensures.local in
     IfOk-weaker c.subcommand-4.result _ _
-    (λ r h. h.globals ∙ ap₂ either with_record c.in_ok-upgrading.ensures.local) c.subcommand-4.ensures
+    (λ r h. h.globals ∙ ap₂ either with_record c.in_ok-upgrade.ensures.local) c.subcommand-4.ensures

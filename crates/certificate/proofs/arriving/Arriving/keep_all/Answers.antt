@@ -5,7 +5,7 @@ use Rattle.std.specs.Global.{Vec}
 use Rattle.std.specs.Result.{is_ok}
 use Rattle.ompt_events.specs.declared.records.Record.{Record}
 use Rattle.ompt_events.specs.Limits.{max_records, max_tasks}
-use Rattle.ompt_events.specs.Traces.{TraceView, IsSoundIn}
+use Rattle.ompt_events.specs.Traces.{TraceView, FitsIn}
 use Rattle.certificate.specs.Arriving.{all_records}
 use Rattle.certificate.specs.Keeping.{IsTraceKept}
 use Rattle.certificate.proofs.ArrivingLemmas.{all_records-push, kept_full}
@@ -56,10 +56,9 @@ kept_is : (c : goal.After-self-2-1)
 kept_is c =
     let same : c.self.inside.version ≡ c.args.self.now.version =
     ap (λ (t : TraceView). t.version) c.self.view_is in
-    let sound : All (λ r. IsSoundIn c.self.inside.version r.body) c.args.records.items =
-    (rw same c.requires.sound) in
+    let fits : All (FitsIn c.self.inside.version) c.args.records.items = (rw same c.requires.fits) in
     IsTraceKept-append c.self.inside.version (before c) c.args.records.items c.self.inside.tasks c.args.tasks
-    c.self.invariant.kept sound c.requires.in_range c.requires.counted (few_records c) (few_tasks c)
+    c.self.invariant.kept fits c.requires.in_range c.requires.counted (few_records c) (few_tasks c)
 
 pub invariant_of-self-2 : goal.invariant_of-self-2
 invariant_of-self-2 c = record {

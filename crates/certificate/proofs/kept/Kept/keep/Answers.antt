@@ -3,7 +3,7 @@ use Rattle.std.proofs.Common.{sym, ap, ◌∙◌}
 use Rattle.std.specs.Prelude.{is_some}
 use Rattle.std.specs.Result.{is_ok}
 use Rattle.ompt_events.specs.Records.{made}
-use Rattle.ompt_events.specs.Traces.{TraceView, IsSoundIn}
+use Rattle.ompt_events.specs.Traces.{TraceView, FitsIn}
 use Rattle.ompt_events.specs.Limits.{max_records, max_tasks}
 use Rattle.certificate.proofs.KeptLemmas.{IsTraceKept-more}
 use Rattle.certificate.proofs.kept.Kept.keep.Goals as goal
@@ -20,7 +20,7 @@ invariant_of-self-then-makes-2 c =
       | else-makes-via-else-makes w ↦
           absurd (let no : true ≡ false = sym c.if-makes-2.true ∙ w.if-makes.false in cc)
     ] in
-    let sound : IsSoundIn c.self.inside.version c.args.event.body =
+    let fits : FitsIn c.self.inside.version c.args.event =
     (let same : c.self.inside.version ≡ c.args.self.now.version =
     ap (λ (t : TraceView). t.version) c.self.view_is in
     rw same c.requires) in
@@ -35,13 +35,13 @@ invariant_of-self-then-makes-2 c =
     rw makes refl in
     rw grown
     (IsTraceKept-more c.self.inside.version c.self.inside.records.items c.args.event c.self.inside.tasks
-    (c.self.inside.tasks + 1) c.self.invariant sound c.read_numbers.ensures room counted few)
+    (c.self.inside.tasks + 1) c.self.invariant fits c.read_numbers.ensures room counted few)
 
 pub invariant_of-self-else-makes-2 : goal.invariant_of-self-else-makes-2
 invariant_of-self-else-makes-2 c =
     let none : is_some (made c.args.event.body) ≡ false =
     ap is_some (sym c.made.ensures) ∙ sym c.is_some-makes.ensures ∙ c.if-makes-2.false in
-    let sound : IsSoundIn c.self.inside.version c.args.event.body =
+    let fits : FitsIn c.self.inside.version c.args.event =
     (let same : c.self.inside.version ≡ c.args.self.now.version =
     ap (λ (t : TraceView). t.version) c.self.view_is in
     rw same c.requires) in
@@ -57,4 +57,4 @@ invariant_of-self-else-makes-2 c =
     omega (arith, c.self.invariant.counted, c.self.invariant.trace.is_trace.few_tasks) in
     rw grown
     (IsTraceKept-more c.self.inside.version c.self.inside.records.items c.args.event c.self.inside.tasks
-    c.self.inside.tasks c.self.invariant sound c.read_numbers.ensures room counted few)
+    c.self.inside.tasks c.self.invariant fits c.read_numbers.ensures room counted few)

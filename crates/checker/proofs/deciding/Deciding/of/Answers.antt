@@ -4,8 +4,8 @@ use Rattle.checker.proofs.deciding.Deciding.of.Goals as goal
 
 pub of-requires-clause-once : goal.of-requires-clause-once
 of-requires-clause-once c =
-    rw c.sound.ensures.run (c.sound.ensures.is_clear.well_formed EntryTwice (12, omega arith, refl))
+    rw c.sound.ensures.run (c.sound.ensures.is_clear.well_formed EntryTwice (13, omega arith, refl))
 
 pub of-requires-clause-reached : goal.of-requires-clause-reached
 of-requires-clause-reached c =
-    rw c.sound.ensures.run (c.sound.ensures.is_clear.well_formed LengthAhead (13, omega arith, refl))
+    rw c.sound.ensures.run (c.sound.ensures.is_clear.well_formed LengthAhead (14, omega arith, refl))

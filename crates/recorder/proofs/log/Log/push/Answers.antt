@@ -1,4 +1,4 @@
-use Rattle.std.proofs.Common.{◌≡◌, ◌<◌, ◌≤◌, true, subst, sym, length}
+use Rattle.std.proofs.Common.{◌≡◌, ◌<◌, ◌≤◌, true, false, refl, subst, sym, length}
 use Rattle.ompt_events.specs.declared.records.Record.{Record}
 use Rattle.ompt_events.specs.Limits.{max_records}
 use Rattle.recorder.specs.Logs.{LogView, standing_of}
@@ -17,6 +17,7 @@ invariant_of-self c =
     } in
     let event : Record = record {
       thread = c.thread.result;
+      nests = false;
       seq = c.len.result;
       seen = c.args.seen;
       body = c.args.body;
@@ -33,6 +34,6 @@ invariant_of-self c =
     subst (λ (v : LogView). allows (standing_of v.records) c.args.body ≡ true) (sym c.self.view_is)
     c.requires.allowed in
     log-pushed before i.standing c.after-self-inside.result after event c.self.invariant few rises allowed
-    c.requires.sound c.read_numbers.ensures
+    c.requires.sound refl c.read_numbers.ensures
     c.thread.ensures c.len.ensures c.push_reserved.ensures.thread c.push_reserved.ensures.records
     c.known_from-self-inside.ensures c.after-self-inside.ensures

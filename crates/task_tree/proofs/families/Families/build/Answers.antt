@@ -6,9 +6,6 @@ use Rattle.task_tree.specs.TurnTable.{IsOrderTold}
 use Rattle.task_tree.proofs.FamiliesLemmas.{file_families, arranged_families}
 use Rattle.task_tree.proofs.families.Families.build.Goals as goal
 
-pub of-requires-clause-version : goal.of-requires-clause-version
-of-requires-clause-version c = c.in_ok-is_in_own_order.ensures.version c.if-branch.false
-
 pub find_gap-requires-clause-order : goal.find_gap-requires-clause-order
 find_gap-requires-clause-order c =
     let same = c.records-2.ensures.value ∙ sym c.records-3.ensures.value in
