@@ -212,7 +212,8 @@ HEADERS = [b'{"format":"task-credit-audit","version":1}', b'{"format":"task-cred
            b'{"version":7,"format":"task-credit-audit","version":2}', b'{"format":"task-credit-audit","version":3}',
            b'{"format":"task-credit-audit","version":4}',
            b'{"format":"task-credit-audit","version":1.0}', b'{"format":"task-credit-audit","version":"1"}',
-           b'{"format":"task-credit-script","version":2}', b'{"format":"task-credit-audit"}', b'{}', b'']
+           b'{"format":"task-credit-script","version":2}', b'{"format":"task-credit-script","version":3}',
+           b'{"format":"task-credit-audit"}', b'{}', b'']
 
 
 def header_other(chance, files, data):

@@ -9,12 +9,14 @@ from collections import defaultdict
 
 from model import CALLED_BARRIERS, DEMANDS_NEXT, STATUS_PART, may, state_after
 
-HEADER = '{"format":"task-credit-audit","version":2}'
+# by the version of a script the header of the trace
+HEADERS = {version: f'{{"format":"task-credit-audit","version":{version + 1}}}' for version in (1, 2)}
 DEEPEST = 1024
 WRONG_STATE, TOO_DEEP = '3 WrongState', '4 TooDeep'
 # why a call is WrongState
 REASONS = ('a list is awaited', 'no such list is awaited', 'has the flag target', 'a root is open',
-           'a member is open', 'no root of the thread', 'no initial task', 'does not run',
+           'a member is open', 'not a region of the running task', 'no region of the running task',
+           'no root of the thread', 'no initial task', 'does not run',
            'a barrier of an explicit task', 'no such region is open', 'cannot be discarded', 'cannot stop so',
            'the parent does not run', 'cannot run next', 'another root')
 
@@ -36,11 +38,13 @@ class Task:
 
 
 class Thread:
-    """The state of a thread: its open roots, the innermost last; the task that it runs; the one whose list is
-    awaited; and how many records it has."""
+    """The state of a thread: its open roots, the innermost last, and for each the task that ran when it began; the task
+    that it runs; the one whose list is awaited; the regions that its tasks began here; and how many records it has.
+    Regions may lie inside others, or not."""
 
-    def __init__(self):
-        self.roots, self.current, self.awaited, self.count = [], None, None, 0
+    def __init__(self, nests=False):
+        self.nests = nests
+        self.roots, self.outer, self.current, self.awaited, self.begun, self.count = [], [], None, None, set(), 0
 
 
 # ---- whether a call is refused
@@ -63,22 +67,33 @@ def wrong_state(thread, step, tasks):
         return None if task.moved('Discarded') else 'cannot be discarded'
     if cb == 'implicit_task' and task not in thread.roots:
         return 'no root of the thread'
-    if cb == 'parallel_begin' and (task.parent or 'initial' not in task.flags):
+    if cb == 'parallel_begin' and not thread.nests and (task.parent or 'initial' not in task.flags):
         return 'no initial task'
     if task is not thread.current:
         return 'does not run'
-    if cb == 'task_create' and 'target' in step['flags']:
+    if cb == 'task_create' and not thread.nests and 'target' in step['flags']:
         return 'has the flag target'
     return wrong_region(task, step) if cb == 'sync_region' else None
 
 
 def wrong_begin(thread, step):
     """Why no root may begin so, if it may not."""
+    if thread.nests:
+        return wrong_inside(thread, step) if thread.roots else None
     if 'target' in step['flags']:
         return 'has the flag target'
     if 'initial' in step['flags']:
         return 'a root is open' if thread.roots else None
     return 'a member is open' if any('initial' not in it.flags for it in thread.roots) else None
+
+
+def wrong_inside(thread, step):
+    """Why no root may begin so inside another one, if it may not: its region must be one that the task that runs began
+    on this thread, and that of an initial task may be any of these."""
+    begun = {region for task, region in thread.begun if task is thread.current}
+    if 'initial' in step['flags']:
+        return None if begun else 'no region of the running task'
+    return None if step['parallel'] in begun else 'not a region of the running task'
 
 
 def wrong_region(task, step):
@@ -132,6 +147,8 @@ def record_of(number, thread, step, tasks, scripts):
     thread.count, thread.awaited = thread.count + 1, None
     if cb == 'implicit_task':
         pass_root(thread, record, tasks)
+    elif cb == 'parallel_begin':
+        thread.begun.add((tasks[step['task']], step['parallel']))
     elif cb == 'task_create':
         parent = tasks[step['task']]
         tasks[step['child']] = Task(step['child'], record['flags'], parent)
@@ -154,10 +171,13 @@ def pass_root(thread, record, tasks):
         root = Task(record['task'], record['flags'], None, record['actual'], record['index'])
         tasks[record['task']] = root
         thread.roots.append(root)
-    else:
-        root = thread.roots.pop()
-        record.update(actual=root.actual, index=root.index, flags=root.flags)
-    thread.current = thread.roots[-1] if thread.roots else None
+        thread.outer.append(thread.current)
+        thread.current = root
+        return
+    root, outer = thread.roots.pop(), thread.outer.pop()
+    record.update(actual=root.actual, index=root.index, flags=root.flags)
+    below = thread.roots[-1] if thread.roots else None
+    thread.current = outer if thread.nests else below
 
 
 def schedule(thread, record, tasks):
@@ -179,6 +199,14 @@ def claim_of(task):
 
 
 # ---- the answer
+
+
+class Lines(list):
+    """The lines of a script whose calls are accepted, and its version."""
+
+    def __init__(self, version):
+        super().__init__()
+        self.version = version
 
 
 class Line:
@@ -203,8 +231,10 @@ def answer_of(data, scripts):
     said, cause = scripts.answer_of(data)
     if cause != 'steps':
         return 3, f'unreadable: {said[-1]}', None, None
-    threads, tasks, lines, last, own = defaultdict(Thread), {}, [], {}, defaultdict(list)
-    for at, text in enumerate(data.split(b'\n')[1:-1]):
+    header, *texts = data.split(b'\n')[:-1]
+    lines = Lines(json.loads(header)['version'])
+    threads, tasks, last, own = defaultdict(lambda: Thread(lines.version == 2)), {}, {}, defaultdict(list)
+    for at, text in enumerate(texts):
         step = json.loads(text)
         number, named = step['thread'], [it for it in scripts.fates(step)[0] if it in last]
         refused = refusal(threads[number], step, tasks)
@@ -228,7 +258,7 @@ def wrong_trace(lines, output):
     """Why the output is no trace of a run of these lines, if it is none."""
     order = sorted(range(len(lines)), key=lambda at: lines[at].record['thread'])
     texts = output.split('\n')
-    if texts[0] != HEADER or texts[-1] or len(texts) != len(lines) + 2:
+    if texts[0] != HEADERS[lines.version] or texts[-1] or len(texts) != len(lines) + 2:
         return f'{len(texts)} texts, the first one {texts[0][:60]}'
     seen = {}
     for at, text in zip(order, texts[1:]):

@@ -24,13 +24,13 @@ pub all_from_get : {X : Type 0} (P : X → Type 0) (xs : List X)
     → ((i : ℕ) (x : X) → slice_get xs i ≡ Some x → P x) → All P xs
 all_from_get P xs each i d within = each i (get_or xs i d) (slice_get-get_or xs i d within)
 
-get_first : {X : Type 0} (xs ys : List X) (i : ℕ) (x : X) → slice_get xs i ≡ Some x
+pub get_first : {X : Type 0} (xs ys : List X) (i : ℕ) (x : X) → slice_get xs i ≡ Some x
     → slice_get (xs ++ ys) i ≡ Some x
 get_first [] ys i x is = absurd (none-some x is)
 get_first (z ∷ xs) ys zero x is = is
 get_first (z ∷ xs) ys (suc i) x is = get_first xs ys i x is
 
-get_second : {X : Type 0} (xs ys : List X) (i : ℕ) → slice_get (xs ++ ys) (length xs + i) ≡ slice_get ys i
+pub get_second : {X : Type 0} (xs ys : List X) (i : ℕ) → slice_get (xs ++ ys) (length xs + i) ≡ slice_get ys i
 get_second [] ys i = ap (slice_get ys) (omega arith)
 get_second (z ∷ xs) ys i =
     ap (slice_get (z ∷ (xs ++ ys))) (let e : length (z ∷ xs) + i ≡ suc (length xs + i) = omega arith in e)
@@ -111,6 +111,19 @@ in_gathered (c ∷ buffers) (suc number) place b r stands is =
     ap (slice_get (gathered (c ∷ buffers))) there
     ∙ get_second c.records (gathered buffers) (length (gathered (take number buffers)) + place)
     ∙ in_gathered buffers number place b r stands is
+
+-- what each record satisfies is what those of each buffer do
+pub all_gathered : (P : Record → Type 0) (buffers : List BufferView)
+    → ((i : ℕ) (b : BufferView) → slice_get buffers i ≡ Some b → All P b.records) → All P (gathered buffers)
+all_gathered P buffers each = all_from_get P (gathered buffers) (λ i r is.
+    let from = from_buffer buffers i r is in
+    all_get P from.buffer.records from.place r (each from.number from.buffer from.stands) from.is)
+
+pub all_of_buffer : (P : Record → Type 0) (buffers : List BufferView) (i : ℕ) (b : BufferView)
+    → slice_get buffers i ≡ Some b → All P (gathered buffers) → All P b.records
+all_of_buffer P buffers i b stands all = all_from_get P b.records (λ k r is.
+    all_get P (gathered buffers) (length (gathered (take i buffers)) + k) r all
+    (in_gathered buffers i k b r stands is))
 
 -- ---- what stands at a place
 

@@ -3,6 +3,7 @@ pub mod GatheredLemmas
 pub mod GatherLemmas
 pub mod ThreadLaws
 pub mod KnownLaw
+pub mod StandingLemmas
 pub mod NestedLaw
 pub mod SeenLemmas
 pub mod PairLaw

@@ -1,5 +1,5 @@
 -- The trace that is gathered from the records of all threads, and when there is one.
-use Rattle.std.specs.Prelude.{ℕ, ◌≡◌, ◌≢◌, ◌<◌, ◌≤◌, List, length, Some, slice_get}
+use Rattle.std.specs.Prelude.{ℕ, ◌≡◌, ◌≢◌, ◌<◌, ◌≤◌, Bool, List, length, Some, slice_get, if◌then◌else◌}
 use Rattle.std.specs.List.{flat_map}
 use Rattle.ompt_events.specs.declared.records.Record.{Record}
 use Rattle.ompt_events.specs.declared.cause.Cause.TheVariants.{EntryTwice}
@@ -11,6 +11,7 @@ use Rattle.ompt_events.specs.Causes.{IsFreeOf, entries_in}
 use Rattle.ompt_events.specs.Traces.{tasks_in}
 use Rattle.thread_buffers.specs.Buffers.{BufferView}
 use Rattle.trace_ledger.specs.Entries.{IsLedgerOf}
+use Rattle.recorder.specs.Logs.{AreOfKind}
 use Rattle.recorder.specs.declared.fault.CallFault.{CallFault}
 use Rattle.recorder.specs.declared.fault.CallFault.TheVariants.{Memory, Full, WrongState}
 use Rattle.callbacks.specs.declared.gathering.Counted.{Counted}
@@ -38,20 +39,30 @@ pub record ArePaired (closed : ClosedView) : Type 0 where
 abbrev pub IsWithinLimits : List Record → Type 0
 IsWithinLimits rs = (length rs ≤ max_records) × (tasks_in rs ≤ max_tasks)
 
+-- the version of the trace: regions may lie inside others in version 3
+abbrev pub version_of : Bool → ℕ
+version_of nests = if nests then 3 else 2
+
 -- how many of what is counted there are in the records
 abbrev pub count_of : Counted → List Record → ℕ
 count_of Entries rs = entries_in rs
 count_of Records rs = length rs
 count_of Tasks rs = tasks_in rs
 
--- why there is no trace: two buffers have the same thread number, or the finishing records and the entries
--- do not pair off; else there are too many records or tasks; else out of memory
-pub data IsGatherFault (closed : ClosedView) : CallFault → Type 0 where
-  unpaired : (HaveOwnThreads closed.buffers → ArePaired closed → ⊥) → IsGatherFault closed WrongState
-  too_many : HaveOwnThreads closed.buffers → ArePaired closed → (IsWithinLimits (gathered closed.buffers) → ⊥)
-      → IsGatherFault closed Full
-  out_of_memory : HaveOwnThreads closed.buffers → ArePaired closed → IsWithinLimits (gathered closed.buffers)
-      → IsGatherFault closed Memory
+-- the records are of the trace's version, no two buffers have the same thread number, and the finishing
+-- records and the entries pair off
+pub record BelongTogether (nests : Bool) (closed : ClosedView) : Type 0 where
+  pub of_kind : AreOfKind nests (gathered closed.buffers)
+  pub apart : HaveOwnThreads closed.buffers
+  pub paired : ArePaired closed
+
+-- why there is no trace: these do not hold; else there are too many records or tasks; else out of memory
+pub data IsGatherFault (nests : Bool) (closed : ClosedView) : CallFault → Type 0 where
+  not_together : (BelongTogether nests closed → ⊥) → IsGatherFault nests closed WrongState
+  too_many : BelongTogether nests closed → (IsWithinLimits (gathered closed.buffers) → ⊥)
+      → IsGatherFault nests closed Full
+  out_of_memory : BelongTogether nests closed → IsWithinLimits (gathered closed.buffers)
+      → IsGatherFault nests closed Memory
 
 -- a task goes from record a to record b: it is created at a, and starts, is discarded or has its event
 -- fulfilled at b; or it is suspended at a, and runs on at b. All steps of the program are of these kinds,

@@ -4,7 +4,7 @@
 ghost use Rattle.std.specs.Prelude.{◌≡◌, ◌↔◌, length};
 ghost use Rattle.ompt_events.specs.declared.cause.Cause.TheVariants.{SeqGap, CreatedTwice, NestedParallel};
 ghost use Rattle.ompt_events.specs.declared.cause.Cause.TheVariants.{EntryTwice, LengthAhead, LengthBack};
-ghost use Rattle.ompt_events.specs.declared.cause.Cause.TheVariants.{TargetTask};
+ghost use Rattle.ompt_events.specs.declared.cause.Cause.TheVariants.{RegionNesting, TargetTask};
 ghost use Rattle.ompt_events.specs.Causes.{IsFreeOf, entries_in};
 ghost use Rattle.callbacks.specs.Closed.{ClosedView, AreClosed};
 ghost use Rattle.callbacks.specs.Gathered.{gathered, HaveOwnThreads, ArePaired, AreHandedOver};
@@ -16,17 +16,24 @@ pub fn threads_are_numbered()
         → IsFreeOf (gathered closed.buffers) SeqGap }
 {}
 
-/// No record makes a task that is to run on a device.
+/// No record of a trace of version 2 makes a task that is to run on a device.
 pub fn no_task_is_on_a_device()
     ensures { (closed : ClosedView) → AreClosed closed → IsFreeOf (gathered closed.buffers) TargetTask }
 {}
 
-/// No parallel region is inside another one, if no two recorders have the same thread number and no task is
-/// made twice.
+/// No parallel region of a trace of version 2 is inside another one, if no two recorders have the same thread
+/// number and no task is made twice.
 pub fn no_region_is_nested()
     ensures { (closed : ClosedView) → AreClosed closed → HaveOwnThreads closed.buffers
         → IsFreeOf (gathered closed.buffers) CreatedTwice
         → IsFreeOf (gathered closed.buffers) NestedParallel }
+{}
+
+/// A root begins inside another one only of a region that the current task of its thread has begun there, if
+/// no two recorders have the same thread number.
+pub fn no_region_is_misnested()
+    ensures { (closed : ClosedView) → AreClosed closed → HaveOwnThreads closed.buffers
+        → IsFreeOf (gathered closed.buffers) RegionNesting }
 {}
 
 /// No two finishing records name the same entry of the ledger, if no two recorders have the same thread

@@ -2,7 +2,8 @@
 //! trace that is gathered from them.
 //!
 //! A program makes its calls on a `Recorder` for each thread and passes `TaskData` values to them.
-//! `close_all` ends the ledger and all recorders, and `gather` makes the trace that an auditor takes.
+//! `close_all` ends the ledger and all recorders, and `gather` or `gather_version_3` makes the trace that an
+//! auditor takes.
 //! docs/RECORDER.md has a worked program. Read `closed` first, then `gathering` and `laws`.
 #![tactic(auto)]
 
@@ -11,5 +12,5 @@ mod gathering;
 pub mod laws;
 
 pub use closed::{Closed, close_all};
-pub use gathering::gather;
+pub use gathering::{gather, gather_version_3};
 pub use recorder::{CallFault, Note, Recorder, TaskData};

@@ -18,7 +18,7 @@ use Rattle.certificate.specs.Files.{has_room, no_trace, traces, trace_said}
 use Rattle.certificate.proofs.FileLemmas.{cut-line}
 use Rattle.lines.proofs.JsonLemmas.{IsUnbroken}
 use Rattle.lines.proofs.JsonLemmas.{unbroken-compact_text}
-use Rattle.std.proofs.Common.{get_or, ◌⊎◌, inl, inr}
+use Rattle.std.proofs.Common.{get_or, inl, inr}
 use Rattle.ompt_events.specs.Traces.{IsTraceOf}
 use Rattle.certificate.specs.TraceTexts.{trace_text}
 use Rattle.lines.specs.Texts.{header_data, header_line, line_of, data_of}

@@ -2,10 +2,9 @@
 use Rattle.std.specs.Prelude.{ℕ, ◌==◌, ◌&&◌, ◌||◌, Bool, not, List, [], ◌∷◌, ◌++◌}
 use Rattle.std.specs.Prelude.{Result, Ok, Err, codes, nat_lt, if◌then◌else◌}
 use Rattle.ompt_events.specs.Limits.{max_threads}
-use Rattle.scripts.specs.declared.script.Step.{Step}
 use Rattle.scripts.specs.declared.fault.ScriptFault.{ScriptFault}
 use Rattle.scripts.specs.declared.fault.ScriptFault.TheVariants as fault
-use Rattle.scripts.specs.Scripts.{may_follow, is_full, step_of}
+use Rattle.scripts.specs.Scripts.{ScriptView, empty_script, may_follow, is_full, step_of}
 use Rattle.lines.specs.declared.cause.ReadCause.{ReadCause}
 use Rattle.lines.specs.declared.cause.ReadCause.TheVariants.{Memory, Field, Limit}
 use Rattle.lines.specs.declared.step_lines.SaidStep.{SaidStep}
@@ -17,14 +16,15 @@ use Rattle.certificate.specs.Formats.{Format}
 abbrev pub script_name : List ℕ
 script_name = codes "task-credit-script"
 
--- there is one version alone
+-- the version that it gives: 1 or 2
 abbrev pub script_header_says : List ℕ → Result ℕ ReadCause
-script_header_says line = version_of script_name 1 line
+script_header_says line = version_of script_name 2 line
 
--- the script without a step that a header begins
-abbrev pub no_steps : Result ℕ ReadCause → Result (List Step) ReadCause
+-- the script without a step that a header begins: in the trace of a script of version 2 regions may lie
+-- inside others
+abbrev pub no_steps : Result ℕ ReadCause → Result ScriptView ReadCause
 no_steps (Err cause) = Err cause
-no_steps (Ok version) = Ok []
+no_steps (Ok version) = Ok (record empty_script { nests = version == 2 })
 
 -- the cause of a line whose step is refused
 abbrev pub cause_of : ScriptFault → ReadCause
@@ -36,20 +36,25 @@ cause_of fault.Memory = Memory
 abbrev pub is_within : SaidStep → Bool
 is_within s = s.loose.fits && nat_lt s.thread max_threads
 
--- the steps and one step more, where it may follow them, before any limit
-abbrev pub with_step : List Step → Result SaidStep ReadCause → Result (List Step) ReadCause
+-- the script with one step more
+abbrev pub and_step : ScriptView → SaidStep → ScriptView
+and_step before s =
+    record before { steps = before.steps ++ step_of before.steps s.thread s.after s.loose.body ∷ [] }
+
+-- the script and one step more, where it may follow the others, before any limit
+abbrev pub with_step : ScriptView → Result SaidStep ReadCause → Result ScriptView ReadCause
 with_step before (Err cause) = Err cause
 with_step before (Ok s) =
-    if not (may_follow before s.after s.loose.body) then Err Field
-    else if not (is_within s) || is_full before s.loose.body then Err Limit
-    else Ok (before ++ step_of before s.thread s.after s.loose.body ∷ [])
+    if not (may_follow before.steps s.after s.loose.body) then Err Field
+    else if not (is_within s) || is_full before.steps s.loose.body then Err Limit
+    else Ok (and_step before s)
 
--- the steps after the line of number n, when these stand before it
-abbrev pub script_adds : ℕ → List Step → List ℕ → Result (List Step) ReadCause
+-- the script after the line of number n, when this one stands before it
+abbrev pub script_adds : ℕ → ScriptView → List ℕ → Result ScriptView ReadCause
 script_adds n before line =
     if n == 1 then no_steps (script_header_says line)
     else with_step before (step_said (value_of line))
 
 -- the format of scripts
-abbrev pub scripts : Format (List Step)
-scripts = record { first = []; adds = script_adds }
+abbrev pub scripts : Format ScriptView
+scripts = record { first = empty_script; adds = script_adds }

@@ -1,11 +1,11 @@
 //! The reader of script files.
-ghost use Rattle.std.specs.Prelude.{◌≡◌, ◌≤◌, ◌+◌, ℕ, List, [], Option, Ok, true, IfErr, IfSome, if◌then◌else◌};
+ghost use Rattle.std.specs.Prelude.{◌≡◌, ◌≤◌, ◌+◌, ℕ, List, Option, Ok, true, IfErr, IfSome, if◌then◌else◌};
 ghost use Rattle.std.specs.Result.{result_err, result_map_both};
 ghost use Rattle.certificate.specs.Counts.{TakesTurns, breaks_told, cause_told};
 ghost use Rattle.certificate.specs.Reading.{IsAnswerIn, IsBetween, IsAfter, Grows};
 ghost use Rattle.lines.specs.RecordLines.{IsSaid};
 ghost use Rattle.certificate.specs.ScriptFiles.{cause_of, is_within, script_adds, scripts, with_step};
-ghost use Rattle.scripts.specs.Scripts.{may_follow};
+ghost use Rattle.scripts.specs.Scripts.{empty_script, may_follow};
 
 use crate::device::{MAX_TURNS, Source};
 use crate::faults::ReadFault;
@@ -18,8 +18,10 @@ use std::alloc::Global;
 
 /// The format of script files.
 const SCRIPTS: &str = "task-credit-script";
+/// Their newest version: in the trace of its run parallel regions may lie inside others.
+const NEWEST: u32 = 2;
 
-/// Reads a script file to its end. Fails at the first faulty line, if the source fails, or out of memory;
+/// Reads a script file of version 1 or 2 to its end. Fails at the first faulty line, if the source fails, or out of memory;
 /// then it is not defined how far the source was read. Has a buffer of 131,074 bytes, two of the longest
 /// lines with their line feeds.
 pub fn read_script<S: Source>(alloc: Global, source: &mut S) -> Result<Script, ReadFault>
@@ -74,11 +76,11 @@ fn read_line<S: Source>(
 ) -> Result<bool, ReadCause>
     requires line { 1 ≤ line }
     requires turns { turns.old ≤ MAX_TURNS }
-    requires first { line ≡ 1 → script.old ≡ [] }
+    requires first { line ≡ 1 → script.old ≡ empty_script }
     ensures after { (known : Option (List ℕ)) → IsBetween scripts known line script.old window.old
         (S.remaining source.old)
         → IsAfter scripts result known line script.new window.new (S.remaining source.new) }
-    ensures grows { result ≡ Ok true → Grows line script.old script.new }
+    ensures grows { result ≡ Ok true → Grows line script.old.steps script.new.steps }
     ensures turns { TakesTurns (result_err result) turns.old turns.new (S.agains source.old)
         (S.agains source.new) }
     ensures breaks { S.breaks source.new ≡ breaks_told (result_err result) (S.breaks source.old) }
@@ -94,7 +96,7 @@ fn read_line<S: Source>(
     }
 }
 
-/// Takes the text of the line with this number: the header, or a step.
+/// Takes the text of the line with this number: the header, which gives the version, or a step.
 fn take_text(
     alloc: Global,
     line: u32,
@@ -103,14 +105,15 @@ fn take_text(
     scratch: &mut Scratch,
 ) -> Result<(), ReadCause>
     requires line { 1 ≤ line }
-    requires first { line ≡ 1 → script.old ≡ [] }
+    requires first { line ≡ 1 → script.old ≡ empty_script }
     ensures { IsSaid (result_map_both (λ _. script.new) (λ e. e) result)
         (script_adds line script.old text.now) }
 {
     if line > 1 {
         return add(script, step(alloc, text, scratch)?);
     }
-    header(alloc, SCRIPTS, 1, text, scratch)?;
+    let version = header(alloc, SCRIPTS, NEWEST, text, scratch)?;
+    script.set_nests(version == NEWEST);
     Ok(())
 }
 
@@ -151,7 +154,7 @@ fn add_within(script: &mut Script, said: SaidStep) -> Result<(), ReadCause>
 
 /// Returns the cause of a line with a number or a list past its limit.
 fn past_limit(script: &Script, said: &SaidStep) -> ReadCause
-    ensures { result ≡ (if may_follow script.now said.now.after said.now.loose.body
+    ensures { result ≡ (if may_follow script.now.steps said.now.after said.now.loose.body
         then ReadCause.Limit
         else ReadCause.Field) }
 {

@@ -1,3 +1,4 @@
+pub mod BegunLemmas
 pub mod LogLemmas
 pub mod RecorderLemmas
 pub mod CreditLemmas

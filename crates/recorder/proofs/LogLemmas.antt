@@ -1,16 +1,18 @@
 -- A record more in the records of one thread.
-use Rattle.std.proofs.Common.{◌≡◌, ◌∙◌, ℕ, ◌≤◌, ◌<◌, true, false, List, [], ◌∷◌, ◌++◌, length, take, refl}
+use Rattle.std.proofs.Common.{◌≡◌, ◌∙◌, ℕ, ◌≤◌, ◌<◌, Bool, true, List, [], ◌∷◌, ◌++◌, length, take, refl}
 use Rattle.std.proofs.Common.{sym, ap, subst, arith, inl, inr}
 use Rattle.std.proofs.lemmas.List.{length_push, take-append-le}
+use Rattle.std.proofs.lemmas.List.Elements.{All-append, All-cons, All-nil}
 use Rattle.std.proofs.lemmas.List.Sums.{fold_push}
 use Rattle.std.proofs.lemmas.Option.{slice_get_within}
+use Rattle.std.specs.BTreeSet.{BTreeSet}
 use Rattle.ompt_events.specs.declared.records.Record.{Record}
 use Rattle.ompt_events.specs.Limits.{max_records}
 use Rattle.ompt_events.specs.Traces.{IsSoundIn, IsInRange}
 use Rattle.ompt_events.proofs.ListLemmas.{pushed_cases}
-use Rattle.recorder.specs.declared.standing.Standing.{Standing}
-use Rattle.recorder.specs.Standing.{standing_at_start, next_standing, allows}
-use Rattle.recorder.specs.Logs.{LogView, standing_of, known_from, known_of, Follows, AreOrderly, AreRecorded}
+use Rattle.recorder.specs.Standing.{Standing, standing_at_start, next_standing, standing_of, allows}
+use Rattle.recorder.specs.Begun.{AreBegun}
+use Rattle.recorder.specs.Logs.{LogView, known_from, known_of, Follows, AreOrderly, AreRecorded, IsKept}
 
 take-all : (own : List Record) → take (length own) own ≡ own
 take-all [] = refl
@@ -32,8 +34,8 @@ orderly-pushed thread own r orderly follows i x is = elim (pushed_cases own r x 
 ]
 
 pub standing-pushed : (own : List Record) (r : Record)
-    → standing_of (own ++ r ∷ []) ≡ next_standing (standing_of own) r.body
-standing-pushed own r = fold_push (λ s (q : Record). next_standing s q.body) standing_at_start own r
+    → standing_of (own ++ r ∷ []) ≡ next_standing r.nests (standing_of own) r.body
+standing-pushed own r = fold_push (λ s (q : Record). next_standing q.nests s q.body) standing_at_start own r
 
 pub known-pushed : (own : List Record) (r : Record) → known_of (own ++ r ∷ []) ≡ known_from r.seen r.body
 known-pushed own r = fold_push (λ k (q : Record). known_from q.seen q.body) 0 own r
@@ -41,18 +43,16 @@ known-pushed own r = fold_push (λ k (q : Record). known_from q.seen q.body) 0 o
 -- the records of a thread with one more
 pub recorded-pushed : (thread known : ℕ) (own : List Record) (r : Record) → AreRecorded thread own known
     → length own < max_records
-    → known ≤ r.seen → allows (standing_of own) r.body ≡ true → IsSoundIn 2 r.body → r.nests ≡ false
-    → IsInRange r
+    → known ≤ r.seen → allows r.nests own r.body ≡ true → IsSoundIn 2 r.body → IsInRange r
     → r.thread ≡ thread
     → r.seq ≡ length own → AreRecorded thread (own ++ r ∷ []) (known_from r.seen r.body)
-recorded-pushed thread known own r recorded few rises allowed sound no_nesting in_range is_thread is_seq =
+recorded-pushed thread known own r recorded few rises allowed sound in_range is_thread is_seq =
     let follows : Follows thread own r = record {
       thread_is = is_thread;
       seq_is = is_seq;
       seen_rises = omega (arith, recorded.known_rises, rises);
       allowed = allowed;
       sound = sound;
-      no_nesting = no_nesting;
       in_range = in_range;
     } in
     record {
@@ -61,26 +61,43 @@ recorded-pushed thread known own r recorded few rises allowed sound no_nesting i
       known_rises = omega (arith, known-pushed own r);
     }
 
+-- what is kept beside them
+pub kept-pushed : (nests : Bool) (own : List Record) (r : Record) (standing next : Standing)
+    → (begun later : BTreeSet (ℕ × ℕ))
+    → IsKept nests own standing begun → r.nests ≡ nests → next ≡ next_standing nests standing r.body
+    → (nests ≡ true → AreBegun (own ++ r ∷ []) later) → IsKept nests (own ++ r ∷ []) next later
+kept-pushed nests own r standing next begun later kept is_kind is_next begun_are = record {
+  of_kind = All-append of_one own (r ∷ []) kept.of_kind (All-cons of_one r [] is_kind (All-nil of_one));
+  standing_is =
+      is_next ∙ ap (λ s. next_standing nests s r.body) kept.standing_is
+      ∙ ap (λ n. next_standing n (standing_of own) r.body) (sym is_kind) ∙ sym (standing-pushed own r);
+  begun_are = begun_are;
+}
+  where
+    of_one : Record → Type 0
+    of_one q = q.nests ≡ nests
+
 -- the log with one more record
-pub log-pushed : (v : LogView) (standing next : Standing) (later : LogView) (r : Record)
-    → AreRecorded v.thread v.records v.known × (standing ≡ standing_of v.records)
-    → length v.records < max_records → v.known ≤ r.seen
-    → allows (standing_of v.records) r.body ≡ true → IsSoundIn 2 r.body → r.nests ≡ false → IsInRange r
-    → r.thread ≡ v.thread
+pub log-pushed : (v later : LogView) (standing next : Standing) (begun grown : BTreeSet (ℕ × ℕ)) (r : Record)
+    → AreRecorded v.thread v.records v.known × IsKept v.nests v.records standing begun
+    → length v.records < max_records → v.known ≤ r.seen → allows v.nests v.records r.body ≡ true
+    → IsSoundIn 2 r.body → IsInRange r → r.thread ≡ v.thread → r.nests ≡ v.nests
     → r.seq ≡ length v.records
-    → later.thread ≡ v.thread → later.records ≡ v.records ++ r ∷ [] → later.known ≡ known_from r.seen r.body
-    → next ≡ next_standing standing r.body
-    → AreRecorded later.thread later.records later.known × (next ≡ standing_of later.records)
-log-pushed v standing next later r kept few rises allowed sound no_nesting in_range is_thread is_seq same
-    is_later
-    is_known
-    is_next =
-    let all = recorded-pushed v.thread v.known v.records r kept.0 few rises allowed sound no_nesting in_range
-    is_thread
-    is_seq in (
+    → later.thread ≡ v.thread → later.nests ≡ v.nests → later.records ≡ v.records ++ r ∷ []
+    → later.known ≡ known_from r.seen r.body
+    → next ≡ next_standing v.nests standing r.body
+    → (v.nests ≡ true → AreBegun (v.records ++ r ∷ []) grown)
+    → AreRecorded later.thread later.records later.known × IsKept later.nests later.records next grown
+log-pushed v later standing next begun grown r kept few rises allowed sound in_range is_thread is_kind is_seq
+    same same_kind is_later is_known is_next begun_are =
+    let may = subst (λ n. allows n v.records r.body ≡ true) (sym is_kind) allowed in
+    let all = recorded-pushed v.thread v.known v.records r kept.0 few rises may sound in_range is_thread
+    is_seq in
+    let beside =
+    kept-pushed v.nests v.records r standing next begun grown kept.1 is_kind is_next begun_are in (
       subst (λ t. AreRecorded t later.records later.known) (sym same)
           (subst (λ l. AreRecorded v.thread l later.known) (sym is_later)
           (subst (AreRecorded v.thread (v.records ++ r ∷ [])) (sym is_known) all)),
-      is_next ∙ ap (λ s. next_standing s r.body) kept.1 ∙ sym (standing-pushed v.records r)
-          ∙ ap standing_of (sym is_later),
+      subst (λ n. IsKept n later.records next grown) (sym same_kind)
+          (subst (λ l. IsKept v.nests l next grown) (sym is_later) beside),
     )

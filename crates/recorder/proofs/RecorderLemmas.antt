@@ -157,12 +157,19 @@ small-known v w e index body extends = by (is_some (finish body))
 -- a call that the ledger refuses, after room was made in the log
 pub refused-late : (old : RecorderView) (log kept : LogView) (first id : TableId) (v w : View)
     (entry : Entry) (seen : ℕ) (fault : CallFault)
-    → record { thread = log.thread; records = log.records; known = log.known; ledger = first; seat = v }
-    ≡ old
+    → record {
+      thread = log.thread;
+      nests = log.nests;
+      records = log.records;
+      known = log.known;
+      ledger = first;
+      seat = v;
+    } ≡ old
     → IsSameLog log kept → id ≡ first
     → Extends v Look seen w → fault ≡ ledger_refusal (ledger.entry_fault (entries_of w) entry)
     → IsFinishRefused old None (Some entry) (record {
       thread = kept.thread;
+      nests = kept.nests;
       records = kept.records;
       known = kept.known;
       ledger = id;
@@ -172,6 +179,7 @@ refused-late old log kept first id v w entry seen fault is same same_id looked f
     subst (λ (o : RecorderView). IsFinishRefused o None (Some entry)
     (record {
       thread = kept.thread;
+      nests = kept.nests;
       records = kept.records;
       known = kept.known;
       ledger = id;
@@ -180,6 +188,6 @@ refused-late old log kept first id v w entry seen fault is same same_id looked f
     (by_ledger entry refl refl (record {
       seen = seen;
       looked = looked;
-      unchanged = rw (same.thread, same.records, same.known, same_id) refl;
+      unchanged = rw (same.thread, same.nests, same.records, same.known, same_id) refl;
       fault_is = fault_is;
     }))

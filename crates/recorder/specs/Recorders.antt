@@ -1,5 +1,5 @@
 -- What a recorder is: the records of one thread, and a seat of the ledger that threads share.
-use Rattle.std.specs.Prelude.{ℕ, ◌≡◌, ◌≤◌, ◌||◌, ◌&&◌, Bool, false, List, [], ◌∷◌, ◌++◌, length, Option, None}
+use Rattle.std.specs.Prelude.{ℕ, ◌≡◌, ◌≤◌, ◌||◌, ◌&&◌, Bool, List, [], ◌∷◌, ◌++◌, length, Option, None}
 use Rattle.std.specs.Prelude.{Some, nat_le, slice_get, option_map, option_and_then}
 use Rattle.atomic_table.specs.Seated.{TableId}
 use Rattle.ompt_events.specs.declared.records.Record.{Record}
@@ -15,13 +15,15 @@ use Rattle.credit_ledger.specs.Seats.{Extends}
 use Rattle.trace_ledger.specs.Entries.{claimed_entry, entry_of}
 use Rattle.recorder.specs.declared.fault.CallFault.{CallFault}
 use Rattle.recorder.specs.Standing.{allows}
-use Rattle.recorder.specs.Logs.{standing_of, known_from}
+use Rattle.recorder.specs.Logs.{known_from}
 use Rattle.recorder.specs.Calls.{call_fault, refusal, ledger_refusal}
+use Rattle.recorder.specs.Tasks.{TaskView, is_initial_task}
 
--- the view of a recorder: the thread's number, its records, the ledger length that it knew last, its
--- ledger, and what its seat has seen of that
+-- the view of a recorder: the thread's number, whether regions may lie inside others, its records, the
+-- ledger length that it knew last, its ledger, and what its seat has seen of that
 pub record RecorderView : Type 0 where
   pub thread : ℕ
+  pub nests : Bool
   pub records : List Record
   pub known : ℕ
   pub ledger : TableId
@@ -54,9 +56,10 @@ pub record IsBacked (own : List Record) (known : ℕ) (seat : View) : Type 0 whe
 abbrev pub recorded : RecorderView → ℕ → View → Body → RecorderView
 recorded r seen seat body = record {
   thread = r.thread;
+  nests = r.nests;
   records = r.records ++ record {
     thread = r.thread;
-    nests = false;
+    nests = r.nests;
     seq = length r.records;
     seen = seen;
     body = body;
@@ -106,7 +109,11 @@ is_log_full r = nat_le max_records (length r.records)
 
 -- the thread's records show no reason against a record with this body
 abbrev pub allowed : RecorderView → Body → Bool
-allowed r body = allows (standing_of r.records) body
+allowed r body = allows r.nests r.records body
+
+-- where no region may lie inside another one, only an initial task begins a parallel region
+abbrev pub may_fork : RecorderView → TaskView → Bool
+may_fork r t = r.nests || is_initial_task t
 
 -- why a call that would add a record with this body fails before it needs memory; its arguments are whether
 -- the tasks allow it, are too deep, and have no room for more

@@ -22,8 +22,7 @@ use Rattle.ompt_events.specs.States.{is_task}
 use Rattle.credit_ledger.specs.declared.entry.Entry.{Entry}
 use Rattle.recorder.specs.declared.fault.CallFault.{CallFault}
 use Rattle.recorder.specs.declared.fault.CallFault.TheVariants.{WrongState}
-use Rattle.recorder.specs.Standing.{innermost}
-use Rattle.recorder.specs.Logs.{standing_of}
+use Rattle.recorder.specs.Standing.{standing_of, innermost}
 use Rattle.recorder.specs.Tasks.{TaskView, parent_of, place_of, is_root_on, state_moved, current_turn}
 use Rattle.recorder.specs.Tasks.{turn_begun_next}
 use Rattle.recorder.specs.Tasks.{after_stop, entry_of_part}
@@ -62,7 +61,8 @@ may_start r next =
 -- a taskwait with dependences is complete while its parent runs (NotCurrent)
 abbrev pub is_by_parent : RecorderView → TaskView → Status → Bool
 is_by_parent r prior TaskwaitComplete =
-    option_map_or (λ parent. is_task parent (standing_of r.records).current) (parent_of prior.origin) false
+    option_map_or (λ parent. is_task parent (standing_of r.records).walk.current) (parent_of prior.origin)
+    false
 is_by_parent r prior _ = true
 
 -- there is a next task if and only if the status demands one

@@ -10,9 +10,9 @@ ghost use Rattle.ompt_events.specs.Records.{dependences, finish};
 ghost use Rattle.ompt_events.specs.Traces.{IsSoundIn};
 ghost use Rattle.credit.specs.Credits as credits;
 ghost use Rattle.credit.specs.Credits.{shared_halves, whole_credit};
-ghost use Rattle.recorder.specs.Tasks.{is_initial_task, is_root_on, end_of_root, is_deep, is_crowded, root_of, child_of, with_child, credit_of, holder_in};
+ghost use Rattle.recorder.specs.Tasks.{is_root_on, end_of_root, is_deep, is_crowded, root_of, child_of, with_child, credit_of, holder_in};
 ghost use Rattle.recorder.specs.Calls.{call_fault, may_cancel};
-ghost use Rattle.recorder.specs.Recorders.{recorded_alone, refusal_at};
+ghost use Rattle.recorder.specs.Recorders.{recorded_alone, may_fork, refusal_at};
 
 use crate::fault::CallFault;
 use crate::recording::Recorder;
@@ -44,7 +44,7 @@ impl Recorder {
     }
 
     /// Records that the task begins a parallel region, for which it requests this many threads (19.5.2.3).
-    /// The task must be the thread's initial task, and run.
+    /// The task must run; in a trace of version 2 it must also be the thread's initial task.
     pub fn ompt_callback_parallel_begin(
         &mut self,
         task: &TaskData,
@@ -54,10 +54,10 @@ impl Recorder {
         ensures made { OnOk result (self.new ≡ recorded_alone self.old
             (ParallelBegin requested task.now.id parallel)) }
         ensures unchanged { OnErr result (self.new ≡ self.old) }
-        ensures refused { IsSome (refusal_at self.old (is_initial_task task.now) false false
+        ensures refused { IsSome (refusal_at self.old (may_fork self.old task.now) false false
             (ParallelBegin requested task.now.id parallel)) → IsErr result }
         ensures fault { IfErr result (λ fault. fault
-            ≡ call_fault (refusal_at self.old (is_initial_task task.now) false false
+            ≡ call_fault (refusal_at self.old (may_fork self.old task.now) false false
             (ParallelBegin requested task.now.id parallel))) }
     {
         let body = Body::ParallelBegin {
@@ -65,7 +65,8 @@ impl Recorder {
             task: task.id(),
             parallel,
         };
-        self.record(task.is_initial(), body)
+        let may = self.may_fork(task);
+        self.record(may, body)
     }
 
     /// Records that the task, which must run, ends a parallel region (19.5.2.4).

@@ -2,10 +2,11 @@
 //! that append records.
 //!
 //! A `TaskData` is the tool's own value of one task; a `Recorder` has the records of one thread. Read
-//! `task` and `standing` first, then `log`, `recording` and the calls (`calls`, `regions`, `schedule`). The
-//! definitions are in `specs/`; `specs/Lib.antt` gives their order.
+//! `task`, `begun` and `standing` first, then `log`, `recording` and the calls (`calls`, `regions`,
+//! `schedule`). The definitions are in `specs/`; `specs/Lib.antt` gives their order.
 #![tactic(auto)]
 
+mod begun;
 mod calls;
 mod fault;
 mod log;
@@ -17,5 +18,4 @@ mod task;
 
 pub use fault::CallFault;
 pub use recording::{Note, Recorder};
-pub use standing::Standing;
 pub use task::{Origin, TaskData, TeamPlace};

@@ -1,5 +1,6 @@
 //! The recorder of one thread.
 ghost use Rattle.std.specs.Prelude.{◌≡◌, ◌≤◌, ◌<◌, ◌+◌, [], None, Some, true, false, length, ℕ, IfOk, IfErr, OnOk, OnErr, IsErr, IsOkUnless};
+ghost use Rattle.ompt_events.specs.Records.{begun_root, forked};
 ghost use Rattle.ompt_events.specs.Limits.{max_records};
 ghost use Rattle.ompt_events.specs.Records.{finish};
 ghost use Rattle.ompt_events.specs.Traces.{IsSoundIn};
@@ -9,12 +10,13 @@ ghost use Rattle.credit_ledger.specs.Seats.{Extends, IsCopy, told_of, with_given
 ghost use Rattle.credit_ledger.specs.Places.{ledger_id, seat_id, view_of};
 ghost use Rattle.recorder.specs.declared.fault.CallFault.TheVariants.{Memory};
 ghost use Rattle.recorder.specs.Calls.{ledger_refusal};
-ghost use Rattle.recorder.specs.Standing.{innermost};
-ghost use Rattle.recorder.specs.Logs.{AreRecorded, standing_of};
-ghost use Rattle.recorder.specs.Recorders.{IsBacked, entries_of, recorded_alone, IsObserved, IsConcluded, IsFinishRefused, entry_by, allowed, refusal_at};
+ghost use Rattle.recorder.specs.Standing.{standing_of, innermost};
+ghost use Rattle.recorder.specs.Logs.{AreRecorded, AreOfKind};
+ghost use Rattle.recorder.specs.Recorders.{IsBacked, entries_of, recorded_alone, IsObserved, IsConcluded, IsFinishRefused, entry_by, allowed, may_fork, refusal_at};
 
 use crate::fault::{CallFault, of_ledger};
 use crate::log::Log;
+use crate::task::TaskData;
 use credit_ledger::{Entry, Seat, SharedLedger};
 use ompt_events::Body;
 use std::alloc::Global;
@@ -40,6 +42,7 @@ impl Model for Recorder {
 
     ghost view = { λ recorder. record {
       thread = recorder.log.thread;
+      nests = recorder.log.nests;
       records = recorder.log.records;
       known = recorder.log.known;
       ledger = seat_id recorder.seat;
@@ -68,10 +71,12 @@ impl Model for Note {
 }
 
 impl Recorder {
-    /// Returns a recorder without records, for the thread with this number. Each recorder of a ledger needs
-    /// its own seat and its own number. Takes no memory.
+    /// Returns a recorder without records, for the thread with this number, whose records become part of a
+    /// trace of version 2: no parallel region is begun inside another one. Each recorder of a ledger needs its
+    /// own seat and its own number. Takes no memory.
     pub fn new(alloc: Global, thread: u8, seat: Seat) -> Recorder
         ensures thread { result.thread ≡ thread }
+        ensures nests { result.nests ≡ false }
         ensures records { result.records ≡ [] }
         ensures known { result.known ≡ 0 }
         ensures ledger { result.ledger ≡ seat_id seat }
@@ -79,7 +84,24 @@ impl Recorder {
     {
         Recorder {
             alloc,
-            log: Log::new(alloc, thread),
+            log: Log::new(alloc, thread, false),
+            seat,
+        }
+    }
+
+    /// Returns the same for a trace of version 3: any task that runs may begin a parallel region (OpenMP 5.2,
+    /// 10.1), and a thread inside a region begins a root only of a region that its current task began there.
+    pub fn for_version_3(alloc: Global, thread: u8, seat: Seat) -> Recorder
+        ensures thread { result.thread ≡ thread }
+        ensures nests { result.nests ≡ true }
+        ensures records { result.records ≡ [] }
+        ensures known { result.known ≡ 0 }
+        ensures ledger { result.ledger ≡ seat_id seat }
+        ensures seat { result.seat ≡ view_of seat }
+    {
+        Recorder {
+            alloc,
+            log: Log::new(alloc, thread, true),
             seat,
         }
     }
@@ -93,9 +115,9 @@ impl Recorder {
 
     /// Returns the task that the thread runs, by its records.
     pub fn current(&self) -> Option<u64>
-        ensures { result ≡ (standing_of self.now.records).current }
+        ensures { result ≡ (standing_of self.now.records).walk.current }
     {
-        self.log.standing().current
+        self.log.standing().current()
     }
 
     /// Returns the innermost initial or implicit task that is open on the thread.
@@ -110,7 +132,7 @@ impl Recorder {
     pub fn awaits(&self) -> Option<u64>
         ensures { result ≡ (standing_of self.now.records).awaited }
     {
-        self.log.standing().awaited
+        self.log.standing().awaited()
     }
 
     /// Returns the length of the ledger that the recorder knew last.
@@ -140,6 +162,7 @@ impl Recorder {
         requires ledger { self.old.ledger ≡ ledger_id ledger.now }
         requires note { note.ledger ≡ ledger_id ledger.now }
         ensures thread { self.new.thread ≡ self.old.thread }
+        ensures nests { self.new.nests ≡ self.old.nests }
         ensures records { self.new.records ≡ self.old.records }
         ensures ledger { self.new.ledger ≡ self.old.ledger }
         ensures looked { Extends (told_of self.old.seat note.seat) Look self.new.known self.new.seat }
@@ -155,6 +178,7 @@ impl Recorder {
         ensures records { result.0.records ≡ self.records }
         ensures ledger { seat_id result.1 ≡ self.ledger }
         ensures seat { view_of result.1 ≡ self.seat }
+        ensures of_kind { AreOfKind self.nests self.records }
         ensures recorded { AreRecorded self.thread self.records self.known }
         ensures backed { IsBacked self.records self.known self.seat }
     {
@@ -165,6 +189,14 @@ impl Recorder {
 
 // How records are made.
 impl Recorder {
+    /// Returns whether the task may begin a parallel region: any task where regions may lie inside others, else
+    /// only an initial task.
+    pub(crate) fn may_fork(&self, task: &TaskData) -> bool
+        ensures { result ≡ may_fork self.now task.now }
+    {
+        self.log.nests() || task.is_initial()
+    }
+
     /// Returns the allocator of the recorder.
     pub(crate) fn allocator(&self) -> Global {
         self.alloc
@@ -189,7 +221,7 @@ impl Recorder {
         ensures full { OnOk result (full ≡ false) }
         ensures few { OnOk result (length self.now.records < max_records) }
     {
-        if !may || !self.log.standing().allows(body) {
+        if !may || !self.log.allows(body) {
             return Err(CallFault::WrongState);
         }
         if deep {
@@ -215,12 +247,12 @@ impl Recorder {
             return Err(body);
         };
         let seen = self.log.known();
-        self.log.push(seen, body);
+        self.log.try_push(seen, body)?;
         Ok(())
     }
 
     /// Looks at the ledger, adds a record that names its length, and returns that length. Fails only when
-    /// out of memory.
+    /// out of memory. Requires that the record begins neither a root nor a region.
     pub(crate) fn observe<R: Wait>(
         &mut self,
         ledger: &SharedLedger,
@@ -232,6 +264,8 @@ impl Recorder {
         requires allowed { allowed self.old body ≡ true }
         requires sound { IsSoundIn 2 body }
         requires unfinished { finish body ≡ None }
+        requires no_root { begun_root body ≡ None }
+        requires no_region { forked body ≡ None }
         ensures ledger { self.new.ledger ≡ self.old.ledger }
         ensures made { IfOk result (λ seen. IsObserved self.old seen body self.new) }
         ensures unchanged { OnErr result (self.new ≡ self.old) }
@@ -244,7 +278,8 @@ impl Recorder {
     }
 
     /// Puts an entry into the ledger, adds the record that makes it, and returns the entry's index. Fails
-    /// when out of memory, or if the ledger refuses the entry.
+    /// when out of memory, or if the ledger refuses the entry. Requires that the record begins neither a root
+    /// nor a region.
     pub(crate) fn conclude<R: Wait>(
         &mut self,
         ledger: &SharedLedger,
@@ -257,6 +292,8 @@ impl Recorder {
         requires allowed { allowed self.old body ≡ true }
         requires sound { IsSoundIn 2 body }
         requires makes { entry_by self.old.thread body ≡ Some entry }
+        requires no_root { begun_root body ≡ None }
+        requires no_region { forked body ≡ None }
         requires short { length entry.path ≤ 1024 }
         ensures ledger { self.new.ledger ≡ self.old.ledger }
         ensures made { IfOk result (λ index. IsConcluded self.old entry index body self.new) }

@@ -1,52 +1,105 @@
 //! The state of a thread while it records.
-ghost use Rattle.std.specs.Prelude.{◌≡◌};
+ghost use Rattle.std.specs.Prelude.{◌≡◌, None, slice_get, OnOk, OnErr, IsOk};
+ghost use Rattle.ompt_events.specs.Records.{begun_root};
 ghost use Rattle.ompt_events.specs.States.{is_task};
-ghost use Rattle.recorder.specs.Standing.{standing_at_start, innermost, next_standing, with_root, without_root, is_same, is_in_place, runs_its_task, ends_innermost, is_outside, is_on_host, allows};
+ghost use Rattle.recorder.specs.Standing.{standing_at_start, innermost, with_root, without_root, next_standing, is_same, is_in_place, runs_its_task, ends_innermost, fits, is_outside, is_on_host};
 
 use bitflags::Flags;
 use ompt_events::{Body, Endpoint, TaskFlags};
+use std::alloc::{AllocError, Global};
+use std::marker::Model;
 
-/// The open roots of a thread (its initial and implicit tasks), the task that it runs, and the creation
-/// that awaits its dependences. Parallel regions are not nested, so at most two roots are open: an initial
-/// task, and above it a member of a team.
-#[derive(Clone, Copy, Debug)]
-pub struct Standing {
-    /// The initial task that is open.
-    pub initial: Option<u64>,
-    /// The member of a team that is open.
-    pub member: Option<u64>,
+/// An initial or implicit task that is open on a thread.
+#[derive(Clone, Copy)]
+struct OpenRoot {
+    task: u64,
+    /// Whether it is an initial task, or else a member of a team.
+    is_initial: bool,
+    /// The task that ran when it began, if one did.
+    outer: Option<u64>,
+}
+
+/// The open roots of a thread (its initial and implicit tasks), the task that it runs, and the creation that
+/// awaits its dependences.
+#[derive(Drop)]
+pub(crate) struct Standing {
+    /// The innermost last.
+    roots: Vec<OpenRoot>,
     /// The task that the thread runs.
-    pub current: Option<u64>,
+    current: Option<u64>,
     /// The task that was created with dependences, which come next.
-    pub awaited: Option<u64>,
+    awaited: Option<u64>,
+}
+
+impl Model for Standing {
+    ghost use Rattle.std.specs.Prelude.{map, reverse};
+    ghost use Rattle.recorder.specs.Standing as specs;
+
+    ghost Value = { specs.Standing };
+
+    ghost view = { λ standing. record {
+      walk = record {
+        roots = map (λ r. r.task) (reverse standing.roots.items);
+        outer = map (λ r. r.outer) (reverse standing.roots.items);
+        current = standing.current;
+      };
+      initial = map (λ r. r.is_initial) (reverse standing.roots.items);
+      awaited = standing.awaited;
+    } };
 }
 
 impl Standing {
-    /// Returns the state of a thread that has recorded nothing.
-    pub(crate) fn at_start() -> Standing
+    /// Returns the state of a thread that has recorded nothing. Takes no memory.
+    pub(crate) fn at_start(alloc: Global) -> Standing
         ensures { result ≡ standing_at_start }
     {
         Standing {
-            initial: None,
-            member: None,
+            roots: Vec::new(alloc),
             current: None,
             awaited: None,
         }
     }
 
-    /// Returns the innermost open root.
-    pub fn innermost(self) -> Option<u64>
-        ensures { result ≡ innermost self }
+    /// Returns the task that the thread runs.
+    pub(crate) fn current(&self) -> Option<u64>
+        ensures { result ≡ self.now.walk.current }
     {
-        match self.member {
-            Some(member) => Some(member),
-            None => self.initial,
+        self.current
+    }
+
+    /// Returns the task that was created with dependences, which come next.
+    pub(crate) fn awaited(&self) -> Option<u64>
+        ensures { result ≡ self.now.awaited }
+    {
+        self.awaited
+    }
+
+    /// Returns the innermost open root.
+    pub(crate) fn innermost(&self) -> Option<u64>
+        ensures { result ≡ innermost self.now }
+    {
+        match self.roots.last() {
+            Some(root) => Some(root.task),
+            None => None,
         }
     }
 
-    /// Returns the state of the thread after a record with this body.
-    pub(crate) fn after(self, body: &Body) -> Standing
-        ensures { result ≡ next_standing self body.now }
+    /// Returns whether the innermost open root is an initial task, or else a member of a team.
+    fn is_initial(&self) -> Option<bool>
+        ensures { result ≡ slice_get self.now.initial 0 }
+    {
+        match self.roots.last() {
+            Some(root) => Some(root.is_initial),
+            None => None,
+        }
+    }
+
+    /// Changes the state to that after a record with this body, in a trace where regions may lie inside others
+    /// or not. Fails only where a root begins, when out of memory, and changes nothing then.
+    pub(crate) fn advance(&mut self, body: &Body, nests: bool) -> Result<(), AllocError>
+        ensures advanced { OnOk result (self.new ≡ next_standing nests self.old body.now) }
+        ensures unchanged { OnErr result (self.new ≡ self.old) }
+        ensures infallible { begun_root body.now ≡ None → IsOk result }
     {
         match body {
             Body::ImplicitTask {
@@ -54,81 +107,60 @@ impl Standing {
                 flags,
                 task,
                 ..
-            } => self.with_root(*flags, *task),
+            } => self.begin_root(*flags, *task)?,
             Body::ImplicitTask {
                 endpoint: Endpoint::End,
                 ..
-            } => self.without_root(),
-            Body::TaskSchedule { status, next, .. } => Standing {
-                current: if status.demands_next() {
-                    *next
-                } else {
-                    self.current
-                },
-                awaited: None,
-                ..self
-            },
-            _ => Standing {
-                awaited: body.created_with_deps(),
-                ..self
-            },
+            } => self.end_root(nests),
+            Body::TaskSchedule { status, next, .. } if status.demands_next() => {
+                self.current = *next;
+            }
+            _ => {}
         }
-    }
-
-    /// Returns whether a record with this body may come next, as far as the thread's records show.
-    pub(crate) fn allows(self, body: &Body) -> bool
-        ensures { result ≡ allows self body.now }
-    {
-        self.is_in_place(body)
-            && self.runs_its_task(body)
-            && self.ends_innermost(body)
-            && self.is_outside(body)
-            && is_on_host(body)
+        self.awaited = body.created_with_deps();
+        Ok(())
     }
 }
 
 impl Standing {
-    /// Returns the state after a root begins and runs.
-    fn with_root(self, flags: TaskFlags, task: u64) -> Standing
-        ensures { result ≡ with_root self flags.0 task }
+    /// Begins a root, which runs.
+    fn begin_root(&mut self, flags: TaskFlags, task: u64) -> Result<(), AllocError>
+        ensures begun { OnOk result (self.new ≡ with_root self.old flags.0 task) }
+        ensures unchanged { OnErr result (self.new ≡ self.old) }
     {
-        if flags.contains(TaskFlags::INITIAL) {
-            Standing {
-                initial: Some(task),
-                current: Some(task),
-                awaited: None,
-                ..self
-            }
-        } else {
-            Standing {
-                member: Some(task),
-                current: Some(task),
-                awaited: None,
-                ..self
-            }
-        }
+        self.roots.push(OpenRoot {
+            task,
+            is_initial: flags.contains(TaskFlags::INITIAL),
+            outer: self.current,
+        })?;
+        self.current = Some(task);
+        Ok(())
     }
 
-    /// Returns the state after the innermost root ends, and the one below it runs.
-    fn without_root(self) -> Standing
-        ensures { result ≡ without_root self }
+    /// Ends the innermost root. Where regions may lie inside others the task that ran when it began runs
+    /// again, else the root below it.
+    fn end_root(&mut self, nests: bool)
+        ensures { self.new ≡ without_root nests self.old }
     {
-        let below = match self.member {
-            Some(_) => self.initial,
-            None => None,
+        let ended = self.roots.pop();
+        self.current = match ended {
+            Some(root) if nests => root.outer,
+            _ => self.innermost(),
         };
-        Standing {
-            initial: below,
-            member: None,
-            current: below,
-            awaited: None,
-        }
+    }
+
+    /// Returns whether the record comes in its place and is of the task that runs, as far as it must be, and
+    /// ends no root but the innermost.
+    pub(crate) fn fits(&self, body: &Body) -> bool
+        ensures { result ≡ fits self.now body.now }
+    {
+        self.is_in_place(body) && self.runs_its_task(body) && self.ends_innermost(body)
     }
 
     /// Returns whether the record lists the dependences that are awaited, or none are awaited and it lists
     /// none.
-    fn is_in_place(self, body: &Body) -> bool
-        ensures { result ≡ is_in_place self body.now }
+    fn is_in_place(&self, body: &Body) -> bool
+        ensures { result ≡ is_in_place self.now body.now }
     {
         let listed = match body {
             Body::Dependences { task, .. } => Some(*task),
@@ -138,8 +170,8 @@ impl Standing {
     }
 
     /// Returns whether the record, if it must be of the running task, is of the task that the thread runs.
-    fn runs_its_task(self, body: &Body) -> bool
-        ensures { result ≡ runs_its_task self body.now }
+    fn runs_its_task(&self, body: &Body) -> bool
+        ensures { result ≡ runs_its_task self.now body.now }
     {
         match body.running() {
             Some(task) => is_task(task, self.current),
@@ -148,8 +180,8 @@ impl Standing {
     }
 
     /// Returns whether a root that ends is the innermost open one.
-    fn ends_innermost(self, body: &Body) -> bool
-        ensures { result ≡ ends_innermost self body.now }
+    fn ends_innermost(&self, body: &Body) -> bool
+        ensures { result ≡ ends_innermost self.now body.now }
     {
         match body.ended_root() {
             Some(task) => is_task(task, self.innermost()),
@@ -158,15 +190,16 @@ impl Standing {
     }
 
     /// Returns whether no parallel region, member or initial task begins inside a parallel region.
-    fn is_outside(self, body: &Body) -> bool
-        ensures { result ≡ is_outside self body.now }
+    pub(crate) fn is_outside(&self, body: &Body) -> bool
+        ensures { result ≡ is_outside self.now body.now }
     {
+        let is_initial = self.is_initial();
         let is_forked_outside = match body.forked() {
-            Some((task, _)) => is_task(task, self.initial),
+            Some((task, _)) => is_task(task, self.innermost()) && is_initial == Some(true),
             None => true,
         };
         is_forked_outside
-            && !(body.joined().is_some() && self.member.is_some())
+            && !(body.joined().is_some() && is_initial == Some(false))
             && !(body.begun_initial().is_some() && self.innermost().is_some())
     }
 }
@@ -193,7 +226,7 @@ pub(crate) fn is_task(task: u64, found: Option<u64>) -> bool
 }
 
 /// Returns whether the record makes no task that is to run on a device.
-fn is_on_host(body: &Body) -> bool
+pub(crate) fn is_on_host(body: &Body) -> bool
     ensures { result ≡ is_on_host body.now }
 {
     let is_target = match body.flags() {

@@ -50,7 +50,7 @@ pub fn run<R: Threads + Wait + Sync + Print + AllocGlobal>(
     };
     let recorders = recorded::<Brand, R>(rt, rt.alloc(), &ledger, seat, plan)?;
     match close_all(rt.alloc(), ledger, rt, recorders) {
-        Ok(closed) => print_trace(rt, closed),
+        Ok(closed) => print_trace(rt, false, closed),
         Err((_ledger, _recorders, fault)) => bail!("{fault:?}"),
     }
 }

@@ -7,9 +7,11 @@ use crate::calls::{Command, Outcome, perform, tell_fault};
 use crate::tasks::Tasks;
 use crate::words::words_of;
 use anyhow::{Result, bail};
-use callbacks::{CallFault, Closed, Note, Recorder, close_all, gather};
+use callbacks::{CallFault, Closed, Note, Recorder, close_all, gather, gather_version_3};
 use certificate::{ToWrite, write};
 use credit_ledger::{Seat, SharedLedger};
+use ompt_events::Trace;
+use std::alloc::Global;
 use std::io::writer;
 use std::sync::Wait;
 
@@ -29,9 +31,10 @@ struct Session {
 
 /// Does what each line of the text says, and prints what comes of it behind the line. The first word is the
 /// number of a recorder, counted from 0 in the order in which they were made, and the second a call of it
-/// (`calls`); or: `new THREAD` makes a recorder; `N note` keeps a note of a recorder, and `N meet M` lets it
-/// meet the note with the number M; `gather` closes all recorders and prints the trace that is gathered from
-/// them, and `gather N` leaves those from the number N on out. After either the next line begins anew.
+/// (`calls`); or: `new THREAD` makes a recorder, and `new THREAD 3` one for version 3; `N note` keeps a note of
+/// a recorder, and `N meet M` lets it meet the note with the number M; `gather` closes all recorders and prints
+/// the trace that is gathered from them, `gather N` leaves those from the number N on out, and
+/// `gather_version_3` does the same for version 3. After each of these the next line begins anew.
 ///
 /// Where a call of the library is refused for memory, `memory, ` is printed in front of its answer; that of
 /// a new ledger stands in front of the next line. The call must have changed nothing that can be asked for,
@@ -42,8 +45,9 @@ pub fn each<R: Wait + Print + AllocGlobal>(rt: &R, text: &str) -> Result<()> {
     for line in text.lines() {
         let words = words_of(line);
         print!(rt; "{line}: ")?;
-        if words[0] == "gather" {
-            session.end(rt, words[1])?;
+        let nests = words[0] == "gather_version_3";
+        if nests || words[0] == "gather" {
+            session.end(rt, nests, words[1])?;
             session = Session::new(rt)?;
         } else {
             session.answer(rt, words)?;
@@ -76,18 +80,22 @@ impl Session {
     /// Does what the words say.
     fn answer<R: Wait + Print + AllocGlobal>(&mut self, rt: &R, words: [&str; 8]) -> Result<()> {
         match (words[0], words[1]) {
-            ("new", thread) => self.add(rt, thread.parse()?),
+            ("new", thread) => self.add(rt, thread.parse()?, words[2] == "3"),
             (number, "note") => self.note(rt, number.parse()?),
             (number, "meet") => self.meet(rt, number.parse()?, words[2].parse()?),
             (number, _) => self.call(rt, number.parse()?, words),
         }
     }
 
-    /// One more recorder.
-    fn add<R: Print + AllocGlobal>(&mut self, rt: &R, thread: u8) -> Result<()> {
+    /// One more recorder, of a trace where regions may lie inside others or not.
+    fn add<R: Print + AllocGlobal>(&mut self, rt: &R, thread: u8, nests: bool) -> Result<()> {
         let seat = self.ledger.split(&mut self.seat);
-        self.recorders
-            .push(Recorder::new(rt.alloc(), thread, seat))?;
+        let recorder = if nests {
+            Recorder::for_version_3(rt.alloc(), thread, seat)
+        } else {
+            Recorder::new(rt.alloc(), thread, seat)
+        };
+        self.recorders.push(recorder)?;
         println!(rt; "ok")?;
         Ok(())
     }
@@ -176,7 +184,7 @@ impl Session {
     }
 
     /// Closes the recorders below a number, or all of them, and prints the trace.
-    fn end<R: Wait + Print + AllocGlobal>(self, rt: &R, upto: &str) -> Result<()> {
+    fn end<R: Wait + Print + AllocGlobal>(self, rt: &R, nests: bool, upto: &str) -> Result<()> {
         let mut session = self;
         if !upto.is_empty() {
             session.recorders.truncate(upto.parse()?);
@@ -190,7 +198,7 @@ impl Session {
             }
         };
         match closed {
-            Ok(closed) => print_trace(rt, closed),
+            Ok(closed) => print_trace(rt, nests, closed),
             Err(_session) => tell_fault(rt, CallFault::Memory),
         }
     }
@@ -217,19 +225,28 @@ impl Session {
     }
 }
 
+/// Returns the trace of closed recorders, in which regions may lie inside others or not.
+fn gathered(alloc: Global, nests: bool, closed: Closed) -> Result<Trace, (Closed, CallFault)> {
+    if nests {
+        gather_version_3(alloc, closed)
+    } else {
+        gather(alloc, closed)
+    }
+}
+
 /// Prints the trace of closed recorders behind a line `ok`, or why there is none.
-pub fn print_trace<R: Print + AllocGlobal>(rt: &R, closed: Closed) -> Result<()> {
+pub fn print_trace<R: Print + AllocGlobal>(rt: &R, nests: bool, closed: Closed) -> Result<()> {
     let alloc = rt.alloc();
     let before = ClosedAnswers::of(alloc, &closed)?;
-    let gathered = match gather(alloc, closed) {
+    let made = match gathered(alloc, nests, closed) {
         Err((closed, CallFault::Memory)) => {
             print!(rt; "memory, ")?;
             ClosedAnswers::of(alloc, &closed)?.test(&before)?;
-            gather(alloc, closed)
+            gathered(alloc, nests, closed)
         }
-        gathered => gathered,
+        made => made,
     };
-    match gathered {
+    match made {
         Ok(trace) => {
             println!(rt; "ok")?;
             write(alloc, &trace, &mut ToWrite::new(writer(rt)))?;

@@ -1,5 +1,5 @@
 -- A call of a recorder adds one record, with that call.
-use Rattle.std.proofs.Common.{ℕ, length, ◌≡◌, ◌∙◌, ◌++◌, ◌∷◌, [], false, Some, None, Option, map, ap}
+use Rattle.std.proofs.Common.{ℕ, length, ◌≡◌, ◌∙◌, ◌++◌, ◌∷◌, [], Some, None, Option, ap}
 use Rattle.std.proofs.Common.{arith}
 use Rattle.std.proofs.lemmas.List.{map-append}
 use Rattle.std.specs.Prelude.{option_map}
@@ -35,7 +35,7 @@ call_recorded old new seen seat body told is same = record {
     added : Record
     added = record {
       thread = old.thread;
-      nests = false;
+      nests = old.nests;
       seq = length old.records;
       seen = seen;
       body = body;

@@ -1,5 +1,5 @@
 -- The records of each thread in the trace that is gathered.
-use Rattle.std.proofs.Common.{ℕ, zero, suc, ◌≡◌, ◌≢◌, ◌∙◌, ◌++◌, ◌∷◌, ◌+◌, ◌⊎◌, [], List, Some, None, Option}
+use Rattle.std.proofs.Common.{ℕ, zero, suc, ◌≡◌, ◌≢◌, ◌∙◌, ◌++◌, ◌∷◌, ◌⊎◌, [], List, Some, None, Option}
 use Rattle.std.proofs.Common.{map, refl, ap, sym, inl, inr, arith}
 use Rattle.std.specs.Prelude.{◌==◌, Contains, slice_get, option_map}
 use Rattle.std.specs.List.Sorted.{IsPermutation}

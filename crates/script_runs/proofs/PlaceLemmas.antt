@@ -1,7 +1,7 @@
 -- The steps of one thread, one after another.
 use Rattle.std.proofs.Common.{ℕ, ◌≡◌, ◌≢◌, ◌∙◌, ◌++◌, ◌∷◌, ◌+◌, ◌≤◌, [], List, Some, None, Option, map, take}
 use Rattle.std.proofs.Common.{length, refl, ap, sym, subst, cond, inl, inr, arith}
-use Rattle.std.specs.Prelude.{◌==◌, filter, slice_get, option_map}
+use Rattle.std.specs.Prelude.{◌==◌, slice_get, option_map}
 use Rattle.std.specs.Global.{Vec}
 use Rattle.std.proofs.lemmas.Bool.{eq-eqb, ne_eqb}
 use Rattle.std.proofs.lemmas.Bool.Decides.{eqb_tells}

@@ -1,16 +1,24 @@
--- The recorders of the threads, the last thread first.
-use Rattle.std.proofs.Common.{ℕ, ◌≡◌, ◌∙◌, ◌++◌, ◌∷◌, ◌+◌, ◌≤◌, ◌⊎◌, [], List, length, refl, ap, inl, inr}
-use Rattle.std.proofs.Common.{arith}
-use Rattle.std.specs.Prelude.{Contains, slice_get}
+-- The recorders of the threads, the last thread first, and the trace that they gather.
+use Rattle.std.proofs.Common.{ℕ, ◌≡◌, ◌∙◌, ◌++◌, ◌∷◌, ◌+◌, ◌≤◌, ◌⊎◌, [], List, length, refl, sym, ap, subst}
+use Rattle.std.proofs.Common.{inl, inr, arith}
 use Rattle.std.specs.Global.{Vec}
 use Rattle.std.proofs.lemmas.Bool.{cases_order}
 use Rattle.std.proofs.lemmas.Option.{slice_get_past}
 use Rattle.std.proofs.lemmas.List.Elements.{All-nil, All-cons, All-append, Contains-append_left}
 use Rattle.std.proofs.lemmas.List.Elements.{Contains-append_right}
+use Rattle.ompt_events.specs.Traces.{TraceView}
 use Rattle.scripts.specs.declared.script.Step.{Step}
+use Rattle.scripts.specs.Scripts.{ScriptView}
 use Rattle.task_states.specs.Rows.{row_items}
 use Rattle.recorder.specs.Recorders.{RecorderView}
-use Rattle.script_runs.specs.Calls.{calls_of}
+use Rattle.callbacks.specs.Closed.{ClosedView, AreClosed}
+use Rattle.callbacks.specs.Gathered.{gathered, HaveOwnThreads, ArePaired, version_of}
+use Rattle.callbacks.proofs.ThreadLaws.{threads_numbered, none_on_device}
+use Rattle.callbacks.proofs.NestedLaw.{none_nested, none_misnested}
+use Rattle.callbacks.proofs.PairLaw.{none_ahead}
+use Rattle.callbacks.proofs.KnownLaw.{none_back}
+use Rattle.script_runs.specs.Calls.{thread_records, recorded_calls, calls_of}
+use Rattle.script_runs.specs.Runs.{IsRunOf}
 use Rattle.script_runs.specs.Parts.{ArePlaces, HasRecorded, HaveRun, IsAmong}
 use Rattle.script_runs.proofs.PlaceLemmas.{no_places}
 
@@ -51,3 +59,27 @@ one_more steps first recorders r own of run = record {
     further thread (inl none) = inl none
     further thread (inr (other, among, is)) =
         inr (other, Contains-append_left recorders (r ∷ []) other among, is)
+
+-- the trace of the closed recorders of a run
+pub run_of : (script : ScriptView) (trace : TraceView) (closed : ClosedView)
+    → trace ≡ record { version = version_of script.nests; records = gathered closed.buffers }
+    → AreClosed closed → HaveOwnThreads closed.buffers → ArePaired closed
+    → ((thread : ℕ)
+    → recorded_calls (thread_records (gathered closed.buffers) thread) ≡ calls_of script.steps thread)
+    → IsRunOf script trace
+run_of script trace closed is are apart paired calls = subst (IsRunOf script) (sym is) (record {
+  version = refl;
+  calls = calls;
+  closed = closed;
+  are_closed = are;
+  gathered_from = refl;
+  apart = apart;
+  paired = paired;
+  numbered = threads_numbered closed are apart;
+  outside = none_nested closed are apart;
+  nested = none_misnested closed are apart;
+  once = paired.once;
+  not_ahead = none_ahead closed are apart paired;
+  on_host = none_on_device closed are;
+  rising = none_back closed are apart;
+})

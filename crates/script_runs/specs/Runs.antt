@@ -2,21 +2,24 @@
 use Rattle.std.specs.Prelude.{ℕ, ◌≡◌, ◌≤◌, ◌+◌, List, length}
 use Rattle.ompt_events.specs.declared.cause.Cause.TheVariants.{SeqGap, CreatedTwice, NestedParallel}
 use Rattle.ompt_events.specs.declared.cause.Cause.TheVariants.{EntryTwice, LengthAhead, LengthBack}
-use Rattle.ompt_events.specs.declared.cause.Cause.TheVariants.{TargetTask}
+use Rattle.ompt_events.specs.declared.cause.Cause.TheVariants.{RegionNesting, TargetTask}
 use Rattle.ompt_events.specs.Causes.{IsFreeOf}
 use Rattle.ompt_events.specs.Traces.{TraceView}
 use Rattle.scripts.specs.declared.script.Step.{Step}
+use Rattle.scripts.specs.Scripts.{ScriptView}
 use Rattle.callbacks.specs.Closed.{ClosedView, AreClosed}
-use Rattle.callbacks.specs.Gathered.{gathered, HaveOwnThreads, ArePaired, AreHandedOver}
+use Rattle.callbacks.specs.Gathered.{gathered, HaveOwnThreads, ArePaired, AreHandedOver, version_of}
 use Rattle.script_runs.specs.Calls.{thread_records, recorded_calls, calls_of}
 use Rattle.script_runs.specs.declared.fault.RunFault.{RunFault}
 use Rattle.script_runs.specs.declared.fault.RunFault.TheVariants.{Memory, Thread, Call}
 
 -- the trace is gathered from the recorders of a run of the script: the records of each thread are its
--- steps, in their order, and the finishing records pair off with the entries of the one ledger
-pub record IsRunOf (steps : List Step) (trace : TraceView) : Type 0 where
-  pub version : trace.version ≡ 2
-  pub calls : (thread : ℕ) → recorded_calls (thread_records trace.records thread) ≡ calls_of steps thread
+-- steps, in their order, and the finishing records pair off with the entries of the one ledger. It is of
+-- version 3 where regions may lie inside others, else of version 2
+pub record IsRunOf (script : ScriptView) (trace : TraceView) : Type 0 where
+  pub version : trace.version ≡ version_of script.nests
+  pub calls : (thread : ℕ)
+      → recorded_calls (thread_records trace.records thread) ≡ calls_of script.steps thread
   pub closed : ClosedView
   pub are_closed : AreClosed closed
   pub gathered_from : trace.records ≡ gathered closed.buffers
@@ -24,6 +27,7 @@ pub record IsRunOf (steps : List Step) (trace : TraceView) : Type 0 where
   pub paired : ArePaired closed
   pub numbered : IsFreeOf trace.records SeqGap
   pub outside : IsFreeOf trace.records CreatedTwice → IsFreeOf trace.records NestedParallel
+  pub nested : IsFreeOf trace.records RegionNesting
   pub once : IsFreeOf trace.records EntryTwice
   pub not_ahead : IsFreeOf trace.records LengthAhead
   pub on_host : IsFreeOf trace.records TargetTask

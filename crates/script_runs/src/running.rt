@@ -1,14 +1,15 @@
 //! The run of a script.
-ghost use Rattle.std.specs.Prelude.{◌≡◌, All, IfOk, IfErr, IfSome};
+ghost use Rattle.std.specs.Prelude.{◌≡◌, All, IfOk, IfErr, IfSome, OnOk};
 ghost use Rattle.std.specs.Thread.{IsSync};
 ghost use Rattle.credit_ledger.specs.Places.{ledger_id, seat_id};
+ghost use Rattle.callbacks.specs.Gathered.{gathered, HaveOwnThreads, ArePaired, version_of};
 ghost use Rattle.script_runs.specs.Runs.{IsRunOf, IsOfLine};
 ghost use Rattle.script_runs.specs.Parts.{HasRunFor, HaveRun};
 
 use crate::board::Context;
 use crate::fault::RunFault;
 use crate::shared::Shared;
-use callbacks::{Recorder, close_all, gather};
+use callbacks::{CallFault, Closed, Recorder, close_all, gather, gather_version_3};
 use credit_ledger::{Seat, SharedLedger};
 use ompt_events::Trace;
 use scripts::Script;
@@ -19,9 +20,10 @@ use std::thread::{Promise, PromisedHandle, Scope, Threads, scope, scope_env};
 use task_states::row;
 
 /// Makes the calls of a script, each thread of the script on a thread of its own, and returns the trace
-/// that their recorders gather. A step waits until the step named by its `after` is done, and until all
-/// earlier steps that name one of its tasks are done. The first refused call, in the order of the script,
-/// ends the run. If the run has no trace, it returns the script with the fault.
+/// that their recorders gather: one of version 3 if regions may lie inside others, else one of version 2. A
+/// step waits until the step named by its `after` is done, and until all earlier steps that name one of its
+/// tasks are done. The first refused call, in the order of the script, ends the run. If the run has no trace,
+/// it returns the script with the fault.
 pub fn run<R: Threads + Wait + Sync>(
     rt: &R,
     alloc: Global,
@@ -29,7 +31,7 @@ pub fn run<R: Threads + Wait + Sync>(
 ) -> Result<Trace, (Script, RunFault)>
     ensures trace { IfOk result (IsRunOf script) }
     ensures returned { IfErr result (λ refused. refused.0 ≡ script) }
-    ensures line { IfErr result (λ refused. IsOfLine script refused.1) }
+    ensures line { IfErr result (λ refused. IsOfLine script.steps refused.1) }
 {
     let last = script.steps().len() as u32 + 1;
     let Ok((ledger, seat)) = SharedLedger::new(alloc) else {
@@ -39,9 +41,28 @@ pub fn run<R: Threads + Wait + Sync>(
     let Ok(closed) = close_all(alloc, ledger, rt, recorders) else {
         return Err((script, RunFault::Memory));
     };
-    match gather(alloc, closed) {
+    match trace_of(alloc, script.nests(), closed) {
         Ok(trace) => Ok(trace),
-        Err((_, fault)) => Err((script, RunFault::of_call(last, fault))),
+        Err(fault) => Err((script, RunFault::of_call(last, fault))),
+    }
+}
+
+/// Returns the trace of closed recorders: one of version 3 if regions may lie inside others, else one of
+/// version 2.
+fn trace_of(alloc: Global, nests: bool, closed: Closed) -> Result<Trace, CallFault>
+    ensures trace { IfOk result (λ trace. trace
+        ≡ record { version = version_of nests; records = gathered closed.buffers }) }
+    ensures apart { OnOk result (HaveOwnThreads closed.buffers) }
+    ensures paired { OnOk result (ArePaired closed) }
+{
+    let made = if nests {
+        gather_version_3(alloc, closed)
+    } else {
+        gather(alloc, closed)
+    };
+    match made {
+        Ok(trace) => Ok(trace),
+        Err((_, fault)) => Err(fault),
     }
 }
 
@@ -55,7 +76,7 @@ fn recorded<C: Context + Send + Sync, R: Threads + Wait + Sync>(
 ) -> Result<(Script, SharedLedger, Vec<Recorder>), (Script, RunFault)>
     requires seat { seat_id seat ≡ C.ledger }
     requires ledger { ledger_id ledger ≡ C.ledger }
-    requires steps { script ≡ C.steps }
+    requires steps { script.steps ≡ C.steps }
     ensures script { IfOk result (λ made. made.0 ≡ script) }
     ensures same_ledger { IfOk result (λ made. made.1 ≡ ledger) }
     ensures ledger { IfOk result (λ made. All (λ r. r.ledger ≡ C.ledger) made.2.items) }
@@ -175,7 +196,11 @@ fn run_thread<C: Context, R: Wait>(
     requires { seat_id seat ≡ C.ledger }
     ensures { IfSome result (HasRunFor C.ledger C.steps thread) }
 {
-    let mut recorder = Recorder::new(shared.alloc, thread, seat);
+    let mut recorder = if shared.script.nests() {
+        Recorder::for_version_3(shared.alloc, thread, seat)
+    } else {
+        Recorder::new(shared.alloc, thread, seat)
+    };
     let places = row(shared.threads.as_slice(), usize::from(thread));
     for index in 0..places.len() {
         if !shared.take_step(rt, &mut recorder, places[index] as usize) {

@@ -30,7 +30,7 @@ pub(crate) struct Shared<C: Context> {
     /// By number of the thread, the condition on which it waits until it may go on.
     pub changes: Vec<Condvar>,
     pub ghost of_the_ledger: { ledger_id ledger ≡ C.ledger },
-    pub ghost of_the_script: { script ≡ C.steps },
+    pub ghost of_the_script: { script.steps ≡ C.steps },
     pub ghost by_thread: { ArePlaces C.steps (length C.steps) threads.items },
     pub ghost few: { length threads.items ≤ 256 },
 }
@@ -44,11 +44,11 @@ impl<C: Context> Shared<C> {
         script: Script,
     ) -> Result<Shared<C>, (Script, RunFault)>
         requires ledger { ledger_id ledger ≡ C.ledger }
-        requires steps { script ≡ C.steps }
+        requires steps { script.steps ≡ C.steps }
         ensures ledger { IfOk result (λ shared. shared.ledger ≡ ledger) }
         ensures script { IfOk result (λ shared. shared.script ≡ script) }
         ensures returned { IfErr result (λ refused. refused.0 ≡ script) }
-        ensures line { IfErr result (λ refused. IsOfLine script refused.1) }
+        ensures line { IfErr result (λ refused. IsOfLine script.steps refused.1) }
     {
         match tables(alloc, script.steps()) {
             Ok((threads, uses, board, changes)) => Ok(Shared {

@@ -15,6 +15,15 @@ use Rattle.scripts.specs.declared.lives.Life.TheVariants.{Live, Over}
 use Rattle.scripts.specs.declared.fault.ScriptFault.{ScriptFault}
 use Rattle.scripts.specs.declared.fault.ScriptFault.TheVariants.{Memory, Full, Misplaced}
 
+-- the view of a script: whether regions may lie inside others in the trace of its run, and its steps
+pub record ScriptView : Type 0 where
+  pub nests : Bool
+  pub steps : List Step
+
+-- the script without a step, whose run has a trace of version 2
+abbrev pub empty_script : ScriptView
+empty_script = record { nests = false; steps = [] }
+
 -- ---- what becomes of a task
 
 -- whether it is a call for a recorder: it has no claim and no turns

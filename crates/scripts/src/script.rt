@@ -1,6 +1,6 @@
 //! A script and its steps.
 ghost use Rattle.std.specs.Prelude.{◌≡◌, ◌+◌, ◌++◌, ◌∷◌, [], false, true, IfErr, IfSome, IsErr, OnOk, OnErr, is_some};
-ghost use Rattle.scripts.specs.Scripts.{may_follow, may_name, is_full, step_fault, step_of, IsScript};
+ghost use Rattle.scripts.specs.Scripts.{empty_script, may_follow, may_name, is_full, step_fault, step_of, IsScript};
 
 use crate::calls::{has_twice, is_call};
 use crate::fault::ScriptFault;
@@ -27,38 +27,56 @@ pub struct Step {
 /// Calls in the order of their lines, each of which may follow those before it.
 #[derive(Drop)]
 pub struct Script {
+    /// Whether regions may lie inside others in the trace of its run.
+    nests: bool,
     steps: Vec<Step>,
     lives: BTreeMap<u64, Life>,
     tally: Tally,
 }
 
 impl Model for Script {
-    ghost use Rattle.std.specs.Prelude.{List};
-    ghost use Rattle.scripts.specs.declared.script.Step.{Step};
+    ghost use Rattle.scripts.specs.Scripts.{ScriptView};
     ghost use Rattle.scripts.specs.Keeping.{IsScriptKept};
 
-    ghost Value = { List Step };
+    ghost Value = { ScriptView };
 
-    ghost view = { λ script. script.steps.items };
+    ghost view = { λ script. record { nests = script.nests; steps = script.steps.items } };
 
     ghost invariant = { λ script. IsScriptKept script.steps.items script.lives script.tally };
 }
 
 impl Script {
-    /// Returns a script without a step. Takes no memory.
+    /// Returns a script without a step, whose run has a trace of version 2. Takes no memory.
     pub fn new(alloc: Global) -> Script
-        ensures { result ≡ [] }
+        ensures { result ≡ empty_script }
     {
         Script {
+            nests: false,
             steps: Vec::new(alloc),
             lives: BTreeMap::new(alloc),
             tally: Tally::new(),
         }
     }
 
+    /// Sets whether regions may lie inside others in the trace of its run, which is then of version 3. Takes no
+    /// memory.
+    pub fn set_nests(&mut self, nests: bool)
+        ensures { self.new ≡ record self.old { nests = nests } }
+    {
+        self.nests = nests;
+    }
+
+    /// Returns whether regions may lie inside others in the trace of its run, which is then of version 3. Takes
+    /// no memory.
+    pub fn nests(&self) -> bool
+        ensures { result ≡ self.now.nests }
+    {
+        self.nests
+    }
+
     /// Returns the steps. Takes no memory.
     pub fn steps(&self) -> &[Step]
-        ensures value { result.now ≡ self.now }
+        ensures value { result.now ≡ self.now.steps }
         ensures is_script { IsScript result.now }
     {
         self.steps.as_slice()
@@ -66,7 +84,7 @@ impl Script {
 
     /// Returns whether a call may follow the steps. Takes no memory.
     pub fn may_follow(&self, after: Option<(u64, u64)>, body: &Body) -> bool
-        ensures { result ≡ may_follow self.now after body.now }
+        ensures { result ≡ may_follow self.now.steps after body.now }
     {
         self.place_of(after, body).is_some()
     }
@@ -79,12 +97,14 @@ impl Script {
         after: Option<(u64, u64)>,
         body: Body,
     ) -> Result<(), (Body, ScriptFault)>
-        ensures added { OnOk result (self.new ≡ self.old ++ step_of self.old thread after body ∷ []) }
+        ensures added { OnOk result (self.new ≡ record self.old {
+          steps = self.old.steps ++ step_of self.old.steps thread after body ∷ [];
+        }) }
         ensures unchanged { OnErr result (self.new ≡ self.old) }
         ensures returned { IfErr result (λ refusal. refusal.0 ≡ body) }
-        ensures misplaced { may_follow self.old after body ≡ false → IsErr result }
-        ensures full { is_full self.old body ≡ true → IsErr result }
-        ensures fault { IfErr result (λ refusal. refusal.1 ≡ step_fault self.old after body) }
+        ensures misplaced { may_follow self.old.steps after body ≡ false → IsErr result }
+        ensures full { is_full self.old.steps body ≡ true → IsErr result }
+        ensures fault { IfErr result (λ refusal. refusal.1 ≡ step_fault self.old.steps after body) }
     {
         let Some(after) = self.place_of(after, &body) else {
             return Err((body, ScriptFault::Misplaced));
@@ -109,7 +129,7 @@ impl Script {
     /// Returns the step that is taken before a call, or that none is named, if the call may follow the
     /// steps.
     fn place_of(&self, after: Option<(u64, u64)>, body: &Body) -> Option<Option<(u8, u32)>>
-        ensures may { is_some result ≡ may_follow self.now after body.now }
+        ensures may { is_some result ≡ may_follow self.now.steps after body.now }
         ensures same { IfSome result (λ found. found ≡ after) }
     {
         if self.may_name(body) {
@@ -122,7 +142,7 @@ impl Script {
     /// Returns whether a call has no claim and no turns, names no task twice, and may name each after the
     /// steps.
     fn may_name(&self, body: &Body) -> bool
-        ensures { result ≡ may_name self.now body.now }
+        ensures { result ≡ may_name self.now.steps body.now }
     {
         let named = body.named();
         let tasks = named.as_slice();
@@ -132,7 +152,7 @@ impl Script {
     /// Returns whether the script has as many steps as it may, or the call makes a task and the script makes
     /// as many as it may.
     fn is_full(&self, body: &Body) -> bool
-        ensures { result ≡ is_full self.now body.now }
+        ensures { result ≡ is_full self.now.steps body.now }
     {
         if self.steps.len() >= MAX_RECORDS {
             return true;

@@ -8,39 +8,40 @@ use Rattle.certificate.specs.ScriptFiles.{scripts}
 use Rattle.certificate.specs.TraceTexts.{trace_text}
 use Rattle.checker.specs.declared.verdict.CheckFault.TheVariants as check
 use Rattle.recorder.specs.declared.fault.CallFault.{CallFault}
-use Rattle.scripts.specs.declared.script.Step.{Step}
+use Rattle.scripts.specs.Scripts.{ScriptView}
 use Rattle.script_runs.specs.Runs.{IsRunOf, IsOfLine}
 use Rattle.script_runs.specs.declared.fault.RunFault.{RunFault}
 use Rattle.script_runs.specs.declared.fault.RunFault.TheVariants as run
 use Rattle.taskaudit.specs.declared.work.AuditFault.{AuditFault}
 use Rattle.taskaudit.specs.declared.work.AuditFault.TheVariants.{Read, Write, Check, Call, Upgrade, Memory}
 
--- the bytes that were read, where they are known, are a script with these steps
-abbrev pub AreSteps : Option (List ℕ) → List Step → Type 0
-AreSteps bytes steps = IfSome bytes (λ known. said scripts known ≡ Ok steps)
+-- the bytes that were read, where they are known, are this script
+abbrev pub ReadsAs : Option (List ℕ) → ScriptView → Type 0
+ReadsAs bytes script = IfSome bytes (λ known. said scripts known ≡ Ok script)
 
--- the text of the trace of a run of the script was written, and nothing else
+-- the text of the trace of a run of the script was written, and nothing else: of version 2, or of version 3
+-- for a script of version 2
 pub record Records (bytes old new : Option (List ℕ)) : Type 0 where
-  pub steps : List Step
+  pub script : ScriptView
   pub trace : TraceView
-  pub script : AreSteps bytes steps
-  pub run : IsRunOf steps trace
+  pub reads : ReadsAs bytes script
+  pub run : IsRunOf script trace
   pub written : Appends old new (trace_text trace)
 
 -- that text was written up to somewhere
 pub record BreaksOffRecording (bytes old new : Option (List ℕ)) : Type 0 where
-  pub steps : List Step
+  pub script : ScriptView
   pub trace : TraceView
-  pub script : AreSteps bytes steps
-  pub run : IsRunOf steps trace
+  pub reads : ReadsAs bytes script
+  pub run : IsRunOf script trace
   pub count : ℕ
   pub written : Appends old new (take count (trace_text trace))
 
 -- the bytes are a script, and a call on this line of it was refused
 pub record IsRefusedAt (bytes : Option (List ℕ)) (line : ℕ) (fault : CallFault) : Type 0 where
-  pub steps : List Step
-  pub script : AreSteps bytes steps
-  pub within : IsOfLine steps (run.Call line fault)
+  pub script : ScriptView
+  pub reads : ReadsAs bytes script
+  pub within : IsOfLine script.steps (run.Call line fault)
 
 -- what a fault leaves: a prefix of that text where the sink failed, or memory ran out while it was written,
 -- and else nothing. A recording checks and upgrades no trace

@@ -111,7 +111,8 @@ of taskaudit check. Where a call is refused nothing is written.
 
 Input: one JSON object a line, in UTF-8. The first line is
   {"format":"task-credit-script","version":1}
-and each other one a call: an event as in the input of check, but without seq, seen,
+(or 2: parallel regions may be inside others, and the trace is of version 3), and
+each other one a call: an event as in the input of check, but without seq, seen,
 root, path, kept, prior_turn and next_turn, which the recorders find. It may have the
 member
   after          [thread, step]: a step on an earlier line, by its thread and its

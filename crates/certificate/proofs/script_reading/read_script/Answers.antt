@@ -1,5 +1,5 @@
-use Rattle.std.proofs.Common.{List, length, refl, arith, ap, ◌∙◌, Some, Ok}
-use Rattle.scripts.specs.declared.script.Step.{Step}
+use Rattle.std.proofs.Common.{length, refl, arith, ap, ◌∙◌, Some, Ok}
+use Rattle.scripts.specs.Scripts.{ScriptView}
 use Rattle.lines.specs.declared.cause.ReadCause.TheVariants.{Memory}
 use Rattle.certificate.specs.ScriptFiles.{scripts}
 use Rattle.certificate.proofs.CountLemmas.{TakesTurns-none, TakesTurns-more, TakesTurns-other}
@@ -23,8 +23,8 @@ lines-init g c = record {
       (IsBetween-start scripts (g.S.Source.remaining c.args.source.now));
   turns = TakesTurns-none 0 _ (omega arith);
   breaks = refl;
-  counted = ap (λ (steps : List Step). length steps) c.new-script.ensures;
-  room = omega (arith, ap (λ (steps : List Step). length steps) c.new-script.ensures);
+  counted = ap (λ (v : ScriptView). length v.steps) c.new-script.ensures;
+  room = omega (arith, ap (λ (v : ScriptView). length v.steps) c.new-script.ensures);
 }
 
 pub returns-in-Ok-false-clause-turns : goal.returns-in-Ok-false-clause-turns
@@ -46,7 +46,7 @@ lines-preserved g c =
     let now = c.lines.invariant in
     let call = c.in-Ok-true.ensures in
     let counted =
-    Grows-counted c.lines.line c.lines.script c.read_line.new.script now.low now.counted now.room
+    Grows-counted c.lines.line c.lines.script.steps c.read_line.new.script.steps now.low now.counted now.room
     (call.grows (ap Ok c.in-Ok-true.field-0-test)) in
     record {
       low = omega arith;

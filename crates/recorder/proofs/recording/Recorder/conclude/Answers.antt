@@ -1,4 +1,4 @@
-use Rattle.std.proofs.Common.{◌≡◌, ◌≤◌, false, subst, sym, length, Some}
+use Rattle.std.proofs.Common.{◌≡◌, ◌≤◌, subst, sym, length, Some}
 use Rattle.ompt_events.specs.declared.records.Record.{Record}
 use Rattle.credit_ledger.specs.declared.view.Call.TheVariants.{Enter}
 use Rattle.credit_ledger.specs.Places.{seat_id, view_of}
@@ -24,7 +24,7 @@ invariant_of-self-2 g c =
     let i = c.self.inside in
     let r : Record = record {
       thread = c.reserve.new.self.thread;
-      nests = false;
+      nests = c.reserve.new.self.nests;
       seq = length c.reserve.new.self.records;
       seen = c.in_ok-index.index;
       body = c.args.body;

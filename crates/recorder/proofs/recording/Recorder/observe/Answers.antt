@@ -1,4 +1,4 @@
-use Rattle.std.proofs.Common.{◌≤◌, false, subst, sym, length}
+use Rattle.std.proofs.Common.{◌≤◌, subst, sym, length}
 use Rattle.ompt_events.specs.declared.records.Record.{Record}
 use Rattle.credit_ledger.specs.declared.view.Call.TheVariants.{Look}
 use Rattle.credit_ledger.specs.Places.{view_of}
@@ -17,7 +17,7 @@ invariant_of-self-2 g c =
     let i = c.self.inside in
     let r : Record = record {
       thread = c.reserve.new.self.thread;
-      nests = false;
+      nests = c.reserve.new.self.nests;
       seq = length c.reserve.new.self.records;
       seen = c.look-seen.result;
       body = c.args.body;

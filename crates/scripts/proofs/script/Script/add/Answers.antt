@@ -1,7 +1,7 @@
 use Rattle.std.proofs.Common.{◌≡◌, ◌∙◌, ◌++◌, ◌∷◌, [], List, sym, ap, true, false, rules, arith}
 use Rattle.std.specs.Prelude.{is_some}
 use Rattle.scripts.specs.declared.script.Step.{Step}
-use Rattle.scripts.specs.Scripts.{may_follow, is_full, step_of}
+use Rattle.scripts.specs.Scripts.{ScriptView, may_follow, is_full, step_of}
 use Rattle.scripts.proofs.ScriptLemmas.{IsScript-more, AreLives-more}
 use Rattle.scripts.proofs.script.Script.add.Goals as goal
 
@@ -10,7 +10,7 @@ invariant_of-self-2 c =
     let steps = c.self.inside.steps.items in
     let body = c.args.body in
     let s : Step = step_of steps c.args.thread c.args.after body in
-    let view : c.args.self.now ≡ steps = sym c.self.view_is in
+    let view : c.args.self.now.steps ≡ steps = ap (λ (v : ScriptView). v.steps) (sym c.self.view_is) in
     let follows : may_follow steps c.args.after body ≡ true =
     ap (λ (xs : List Step). may_follow xs c.args.after body) (sym view) ∙ sym c.place_of.ensures.may
     ∙ ap is_some c.in-Some.is in
