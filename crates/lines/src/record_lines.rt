@@ -231,14 +231,16 @@ fn on_tape(
 
 /// Returns the record that a line has in front, if nothing follows it and it may be in a file of this version.
 #[inline(always)]
-fn alone(version: u32, line: &[u8], mut event: Record, behind: &[u8]) -> Option<Record>
+fn alone(version: u32, line: &[u8], event: Record, behind: &[u8]) -> Option<Record>
     requires { IsRecordInFront line.now event behind.now }
     ensures { IfSome result (λ event. spec.line_says version line.now ≡ Ok event) }
 {
     event.read_numbers();
     if behind.is_empty() && event.body.is_sound_in(version) {
-        event.nests = nests_in(version);
-        Some(event)
+        Some(Record {
+            nests: nests_in(version),
+            ..event
+        })
     } else {
         None
     }
@@ -254,11 +256,14 @@ pub fn record_in_front(alloc: Global, version: u32, text: &[u8]) -> Option<(Reco
     ensures short { IfSome result (λ front. front.1 ≤ max_line) }
     ensures says { IfSome result (λ front. spec.line_says version (take front.1 text.now) ≡ Ok front.0) }
 {
-    let (mut event, behind) = canonical(alloc, version, text)?;
+    let (event, behind) = canonical(alloc, version, text)?;
     event.read_numbers();
     let len = text.len() - behind.len();
     if begins_with_line_feed(behind) && len <= MAX_LINE && event.body.is_sound_in(version) {
-        event.nests = nests_in(version);
+        let event = Record {
+            nests: nests_in(version),
+            ..event
+        };
         Some((event, len))
     } else {
         None
