@@ -34,6 +34,7 @@ pub record Follows (thread : ℕ) (before : List Record) (r : Record) : Type 0 w
   pub seq_is : r.seq ≡ length before
   pub seen_rises : known_of before ≤ r.seen
   pub allowed : allows r.nests before r.body ≡ true
+  -- what a body may be by itself is the same in versions 2 and 3
   pub sound : IsSoundIn 2 r.body
   pub in_range : IsInRange r
 
