@@ -44,8 +44,8 @@ pub fn read<S: Source>(alloc: Global, source: &mut S) -> Result<Trace, ReadFault
     read_to(alloc, NEWEST_VERSION, source)
 }
 
-/// Reads a file of a version up to `newest`: 1, 2 for files that may have turns, or 3 for files in which parallel
-/// regions may also lie inside others. Fails as [`read`] does.
+/// Reads a file of a version up to `newest`: 1, 2 for files that may have turns, or 3 for files in which
+/// parallel regions may also lie inside others. Fails as [`read`] does.
 pub fn read_to<S: Source>(alloc: Global, newest: u32, source: &mut S) -> Result<Trace, ReadFault>
     requires { (1 ≤ newest) × (newest ≤ 3) }
 

@@ -21,11 +21,11 @@ const SCRIPTS: &str = "task-credit-script";
 /// Their newest version: in the trace of its run parallel regions may lie inside others.
 const NEWEST: u32 = 2;
 
-/// Reads a script file of version 1 or 2 to its end. Fails at the first faulty line, if the source fails, or out of memory;
-/// then it is not defined how far the source was read. Has a buffer of 131,074 bytes, two of the longest
-/// lines with their line feeds.
+/// Reads a script file of version 1 or 2 to its end. Fails at the first faulty line, if the source fails, or
+/// out of memory; then it is not defined how far the source was read. Has a buffer of 131,074 bytes, two of
+/// the longest lines with their line feeds.
 pub fn read_script<S: Source>(alloc: Global, source: &mut S) -> Result<Script, ReadFault>
-    // The steps that the bytes stand for, their first fault, or a failure of the device or of memory.
+    // The script that the bytes stand for, their first fault, or a failure of the device or of memory.
     ensures file { IfSome (S.remaining source.old)
         (λ bytes. IsAnswerIn scripts result bytes (S.remaining source.new)) }
 

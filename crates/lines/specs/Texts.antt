@@ -1,7 +1,6 @@
 -- The text of each line: a header with its version, and records.
 use Rattle.std.specs.Prelude.{codes, decimal, ℕ, ◌≡◌, Bool, true, false, not, ◌&&◌, ◌==◌, nat_lt, nat_le}
-use Rattle.std.specs.Prelude.{List}
-use Rattle.std.specs.Prelude.{[], ◌∷◌, ◌++◌, map, Option, Some, None, if◌then◌else◌}
+use Rattle.std.specs.Prelude.{List, [], ◌∷◌, ◌++◌, map, Option, Some, None, if◌then◌else◌}
 use Rattle.json.specs.Print.{quoted}
 use Rattle.serde_json.specs.Data.{Data, null, boolean, number, string, array, object, unsigned, Members}
 use Rattle.serde_json.specs.Data.{no_members, put}
