@@ -202,9 +202,17 @@ static bool take_version(void) {
     return refuse("TASKAUDIT_VERSION", "no version of a trace file; 1, 2 and 3 are");
 }
 
+/* Takes from the environment what else the recorder is to do. */
+static bool take_wishes(void) {
+    const char *times = getenv("TASKAUDIT_TIME"), *shaking = getenv("TASKAUDIT_SHAKE");
+    settings.has_times = times && *times && strcmp(times, "0") != 0;
+    if (!shaking || !*shaking || take_shaking(shaking)) return true;
+    return refuse("TASKAUDIT_SHAKE", "must be a seed, or a seed and the number of a run, as 7 or 7:3");
+}
+
 bool begin_file(void) {
     if (!take_setting(settings.run, "TASKAUDIT_RUN")) return false;
-    if (!take_version() || !take_file()) return false;
+    if (!take_version() || !take_file() || !take_wishes()) return false;
     find_modules();
     return name_file() && make_part();
 }

@@ -9,6 +9,7 @@
 #include <string.h>
 #include <sys/mman.h>
 #include <sys/syscall.h>
+#include <time.h>
 #include <unistd.h>
 
 /* The memory that a thread allocates at once: first little, since it may have few records, then two of the processor's
@@ -109,7 +110,8 @@ static struct record *room(struct thread *thread) {
     uint32_t count = atomic_load_explicit(&thread->count, memory_order_relaxed);
     if (count == thread->capacity) {
         bool is_full = atomic_fetch_add(&block_count, 1) >= MAX_RECORDS / RECORDS_OF_BLOCK;
-        struct block *made = is_full ? NULL : take(thread, sizeof *made);
+        size_t times = settings.has_times ? RECORDS_OF_BLOCK * sizeof *thread->last->times : 0;
+        struct block *made = is_full ? NULL : take(thread, sizeof *made + times);
         if (!made) {
             stop(is_full ? MANY_RECORDS : NO_MEMORY, NULL);
             return NULL;
@@ -122,35 +124,47 @@ static struct record *room(struct thread *thread) {
     return &thread->last->records[count % RECORDS_OF_BLOCK];
 }
 
+/* Returns the time in nanoseconds, where the file is to have times. */
+static uint64_t now(void) {
+    struct timespec time;
+    if (!settings.has_times) return 0;
+    clock_gettime(CLOCK_MONOTONIC, &time);
+    return (uint64_t)time.tv_sec * 1000000000 + (uint64_t)time.tv_nsec;
+}
+
 /* Adds a record. What comes before the count is written when the count is. */
-static bool keep(struct thread *thread, struct record record) {
+static bool keep(struct thread *thread, struct record record, uint64_t time) {
     struct record *at = room(thread);
     if (!at) return false;
     *at = record;
-    atomic_store_explicit(&thread->count, atomic_load_explicit(&thread->count, memory_order_relaxed) + 1,
-                          memory_order_release);
+    uint32_t count = atomic_load_explicit(&thread->count, memory_order_relaxed);
+    if (settings.has_times) thread->last->times[count % RECORDS_OF_BLOCK] = time;
+    atomic_store_explicit(&thread->count, count + 1, memory_order_release);
     return true;
 }
 
 /* Adds a record that repeats what its thread last knew. */
 static bool keep_known(struct thread *thread, struct record record) {
     record.seen = thread->known;
-    return keep(thread, record);
+    return keep(thread, record, now());
 }
 
 /* Adds a record that reads the ledger's length. */
 static void keep_reading(struct thread *thread, struct record record) {
     record.seen = thread->known = atomic_load(&ledger);
-    keep(thread, record);
+    keep(thread, record, now());
 }
 
-/* Adds a record that finishes a task: it appends an entry. Room comes first, so that no index is without a record. */
+/* Adds a record that finishes a task: it appends an entry. Room comes first, so that no index is without a record. The
+   time is from before, so that no record that has seen the entry has an earlier one. */
 static void keep_finishing(struct thread *thread, struct record record) {
+    shake(thread, BEFORE_FINISH);
     if (!room(thread)) return;
+    uint64_t time = now();
     record.seen = atomic_fetch_add(&ledger, 1);
     record.size = record.task->children;
     thread->known = record.seen + 1;
-    keep(thread, record);
+    keep(thread, record, time);
 }
 
 static struct task *task_of(const ompt_data_t *data) {
@@ -273,8 +287,10 @@ static void on_implicit_task(ompt_scope_endpoint_t endpoint, ompt_data_t *region
     if (!thread) return;
     struct record record = {.callback = IMPLICIT_TASK, .endpoint = endpoint, .size = actual, .index = index,
                             .flags = flags, .region = region ? region->value : 0};
-    if (endpoint == ompt_scope_begin) begin_root(thread, record, data);
-    else end_root(thread, record, task_of(data));
+    if (endpoint == ompt_scope_begin) {
+        begin_root(thread, record, data);
+        if (!(flags & ompt_task_initial)) shake(thread, MEMBER_BEGINS);
+    } else end_root(thread, record, task_of(data));
 }
 
 /* A task is the child of the one that creates it. Parts of a taskloop are created in the name of a task that does not
@@ -303,6 +319,7 @@ static void on_task_create(ompt_data_t *encountering, const ompt_frame_t *frame,
     made->number = creator->children++;
     keep_known(thread, (struct record){.callback = TASK_CREATE, .task = creator, .other = made, .flags = flags,
                                        .code = code});
+    shake(thread, BEHIND_CREATION);
 }
 
 /* Copies the items that a file can say, and returns how many there are. */
@@ -387,6 +404,7 @@ static void on_task_schedule(ompt_data_t *prior_data, ompt_task_status_t status,
     if (next) record.turns.next = run_next(thread, next);
     if (is_finishing(status)) keep_finishing(thread, record);
     else keep_reading(thread, record);
+    if (next) shake(thread, BEHIND_START);
 }
 
 /* Whether this is the kind of the barrier at a region's end. */
@@ -417,8 +435,13 @@ static void on_sync_region(ompt_sync_region_t kind, ompt_scope_endpoint_t endpoi
     if (endpoint == ompt_scope_end && task != thread->current) task = ending_task(thread, kind, task);
     struct record record = {.callback = SYNC_REGION, .kind = kind, .endpoint = endpoint, .task = task, .code = code,
                             .region = region ? region->value : 0};
-    if (endpoint == ompt_scope_begin) keep_known(thread, record);
-    else keep_reading(thread, record);
+    if (endpoint == ompt_scope_begin) {
+        shake(thread, BEFORE_WAIT);
+        keep_known(thread, record);
+    } else {
+        keep_reading(thread, record);
+        shake(thread, BEHIND_WAIT);
+    }
 }
 
 static void on_reduction(ompt_sync_region_t kind, ompt_scope_endpoint_t endpoint, ompt_data_t *region,

@@ -76,6 +76,7 @@ struct record {
 struct block {
     struct block *next;
     struct record records[RECORDS_OF_BLOCK];
+    uint64_t times[];      /* of the records, in nanoseconds, where the file is to have them */
 };
 
 /* A thread of the run. Only this thread writes here, except `count`, which the writer reads too. */
@@ -91,6 +92,9 @@ struct thread {
     uint32_t tasks_left;
     char *memory;              /* room for all of these */
     size_t memory_left;
+    uint64_t random;           /* the last number that was drawn, where the run is shaken */
+    uint64_t places;           /* at how many places it could be delayed so far */
+    bool is_bound;             /* to fewer processors */
 };
 
 /* What was changed or left out, and what the audit does not cover: each with its name in the header of the file. */
@@ -130,11 +134,18 @@ void find_modules(void);
 /* The length of text that files have no more of: names, and sentences on them. */
 enum { LONGEST_NAME = 4096 };
 
+/* The ways in which a run is shaken: what the callbacks do to its timing. */
+enum way { AS_IT_IS, YIELDS, DELAYS_AT_BEGINS, DELAYS_AT_ENDS, FEWER_CORES, WAYS };
+
 /* What the environment asks for. */
 struct settings {
     char file[LONGEST_NAME];    /* the pattern of the file's name, from the root */
     char run[LONGEST_NAME];     /* the list of a run's files that taskaudit-run reads, or nothing */
     int version;
+    bool has_times;             /* each record has a time */
+    bool is_shaken;             /* in this way, by numbers that are drawn from the seed and the number of the run */
+    enum way way;
+    uint64_t seed, run_number;
 };
 extern struct settings settings;
 
@@ -142,6 +153,18 @@ extern struct settings settings;
 static inline bool is_nesting(void) {
     return settings.version >= NESTING_VERSION;
 }
+
+/* Where the timing of a run may be changed. */
+enum place { BEFORE_WAIT, BEHIND_WAIT, BEFORE_FINISH, BEHIND_START, BEHIND_CREATION, MEMBER_BEGINS };
+/* Changes the timing at this place of the thread. It holds nothing there, and the record that reads the ledger's length is
+   made already, or the one that adds to it is not made yet: so no fault is hidden. */
+void shake_at(struct thread *thread, enum place place);
+static inline void shake(struct thread *thread, enum place place) {
+    if (settings.way != AS_IT_IS) shake_at(thread, place);
+}
+/* Takes from a text as `7:3` the seed and the number of the run, which choose the way; returns whether it is one. */
+bool take_shaking(const char *text);
+const char *name_of_way(void);
 
 /* Takes the settings from the environment and makes the file that will be written; says why not, and returns false. */
 bool begin_file(void);

@@ -6,18 +6,21 @@ import subprocess
 
 # What ends a run: it is for the program, which then writes its file.
 PASSED_ON = (signal.SIGINT, signal.SIGTERM, signal.SIGHUP, signal.SIGQUIT)
+# How long after the time limit a program may take to end, in seconds, before it is killed.
+GRACE = 5
 # Why a process behind others stops: it reads the terminal, or writes to it where that is set up so.
 WANTS_TERMINAL = (signal.SIGTTIN, signal.SIGTTOU)
 
 
 class Ended:
-    """How a program ended: its exit status, where a signal counts as 128 and its number, and that in words; and whether
-    all processes that it started were to end."""
+    """How a program ended: its exit status, where a signal counts as 128 and its number, and that in words; whether it took
+    too long; whether this process was told to end; and whether all processes that it started were."""
 
-    def __init__(self, code, was_told):
+    def __init__(self, code, was_told, is_late):
         self.status = 128 - code if code < 0 else code
         self.words = f'by {name_of_signal(-code)}' if code < 0 else f'with status {code}'
-        self.are_all_told = was_told or -code in PASSED_ON
+        self.was_told, self.is_late = was_told, is_late
+        self.are_all_told = was_told or is_late or -code in PASSED_ON
 
 
 def name_of_signal(number):
@@ -39,10 +42,10 @@ class Run:
     """A run of the program, from its start to its end. It has the terminal only from when it wants it, since others that
     were started with this process, as by `make -j`, are in front too, and Ctrl-C is for all of them."""
 
-    def __init__(self, words, environment):
-        self.terminal, self.group = terminal(), os.getpgrp()
-        self.was_told = self.has_terminal = False
-        self.before = {it: signal.getsignal(it) for it in (*PASSED_ON, signal.SIGTSTP, signal.SIGTTOU)}
+    def __init__(self, words, environment, seconds=None):
+        self.terminal, self.group, self.seconds = terminal(), os.getpgrp(), seconds
+        self.was_told = self.has_terminal = self.is_late = False
+        self.before = {it: signal.getsignal(it) for it in (*PASSED_ON, signal.SIGTSTP, signal.SIGTTOU, signal.SIGALRM)}
         signal.pthread_sigmask(signal.SIG_BLOCK, PASSED_ON)
         try:
             self.program = subprocess.Popen(words, env=environment, preexec_fn=lead)
@@ -57,6 +60,15 @@ class Run:
             # what was ignored before, as by nohup, the program ignores too
             if self.before[it] != signal.SIG_IGN:
                 signal.signal(it, self.stop if it == signal.SIGTSTP else self.pass_on)
+        if self.seconds:
+            signal.signal(signal.SIGALRM, self.end_late)
+            signal.setitimer(signal.ITIMER_REAL, self.seconds, GRACE)
+
+    def end_late(self, _number, _frame):
+        """The time is over: the first time all of the program get time to write their files, the second time none."""
+        self.send(signal.SIGKILL if self.is_late else signal.SIGTERM)
+        self.send(signal.SIGCONT)
+        self.is_late = True
 
     def pass_on(self, number, _frame):
         self.was_told = True
@@ -75,11 +87,12 @@ class Run:
             while os.WIFSTOPPED(status := os.waitpid(self.program.pid, os.WUNTRACED)[1]):
                 self.on_stopped(os.WSTOPSIG(status))
         finally:
+            signal.setitimer(signal.ITIMER_REAL, 0)
             self.take_terminal()
             for number, handler in self.before.items():
                 signal.signal(number, handler)
         self.program.returncode = os.waitstatus_to_exitcode(status)
-        return Ended(self.program.returncode, self.was_told)
+        return Ended(self.program.returncode, self.was_told, self.is_late)
 
     def is_in_front(self, group):
         try:

@@ -186,6 +186,11 @@ static const struct record *next(struct cursor *cursor) {
     return &cursor->block->records[cursor->at++ % RECORDS_OF_BLOCK];
 }
 
+/* Returns the time of the record that came last, where the file has times. */
+static uint64_t time_of_last(const struct cursor *cursor) {
+    return settings.has_times ? cursor->block->times[(cursor->at - 1) % RECORDS_OF_BLOCK] : 0;
+}
+
 /* Whether the parallel region that begins here is inside another one, which a file of this version cannot have. */
 static bool may_leave_out(const struct record *begin) {
     return !is_nesting() && !begin->task->is_initial;
@@ -266,23 +271,33 @@ static void put_list(const struct record *record) {
     put("]");
 }
 
-static void put_implicit_task(const struct record *record) {
+/* Puts what the format does not know, in the one place where such members cost a reader little: the time of the record,
+   where the file has times, and where the code of it is, if it has one. */
+static void put_others(uint64_t time, const void *code) {
+    put_code(code);
+    if (settings.has_times) put_member(",\"time\":", time);
+}
+
+static void put_implicit_task(const struct record *record, uint64_t time) {
     put_member("{\"actual\":", record->size);
-    put_name(",\"cb\":\"implicit_task\",\"endpoint\":", endpoints[record->endpoint]);
+    put(",\"cb\":\"implicit_task\"");
+    put_others(time, NULL);
+    put_name(",\"endpoint\":", endpoints[record->endpoint]);
     put_flags(task_flags, record->flags);
     put_member(",\"index\":", record->index);
     put_member(",\"parallel\":", record->region);
 }
 
-static void put_task_create(const struct record *record) {
+static void put_task_create(const struct record *record, uint64_t time) {
     put_member("{\"cb\":\"task_create\",\"child\":", record->other->id);
-    put_code(record->code);
+    put_others(time, record->code);
     put(record->kind ? ",\"deps\":true" : ",\"deps\":false");
     put_flags(task_flags, record->flags);
 }
 
-static void put_task_schedule(const struct record *record) {
+static void put_task_schedule(const struct record *record, uint64_t time) {
     put("{\"cb\":\"task_schedule\"");
+    put_others(time, NULL);
     if (is_finishing(record)) put_claim(record);
     else put_next(record);
     put_member(",\"prior\":", record->task->id);
@@ -290,10 +305,10 @@ static void put_task_schedule(const struct record *record) {
     if (is_finishing(record)) put_member(",\"root\":", record->task->root->id);
 }
 
-static void put_sync_region(const struct record *record) {
+static void put_sync_region(const struct record *record, uint64_t time) {
     bool is_renamed = renames_barriers && record->kind == ompt_sync_region_barrier_implementation;
     put("{\"cb\":\"sync_region\"");
-    put_code(record->code);
+    put_others(time, record->code);
     put_name(",\"endpoint\":", endpoints[record->endpoint]);
     put_name(",\"kind\":", region_kinds[is_renamed ? ompt_sync_region_barrier : record->kind]);
     put(",\"parallel\":");
@@ -301,33 +316,48 @@ static void put_sync_region(const struct record *record) {
     else put("null");
 }
 
-static void put_cancel(const struct record *record) {
+static void put_cancel(const struct record *record, uint64_t time) {
     put("{\"cb\":\"cancel\"");
-    put_code(record->code);
+    put_others(time, record->code);
     put_flags(cancel_flags, record->flags);
     if (!is_finishing(record)) return;
     put_claim(record);
     put_member(",\"root\":", record->task->root->id);
 }
 
-/* Puts the line of a record, which is number `seq` of the thread. The members are in the order of their names. */
-static void put_record(const struct record *record, int thread, uint32_t seq) {
+static void put_thread_record(const struct record *record, uint64_t time) {
+    put(record->callback == THREAD_BEGIN ? "{\"cb\":\"thread_begin\"" : "{\"cb\":\"thread_end\"");
+    put_others(time, NULL);
+    if (record->callback == THREAD_BEGIN) put_name(",\"kind\":", thread_kinds[record->kind]);
+}
+
+static void put_parallel(const struct record *record, uint64_t time) {
+    put(record->callback == PARALLEL_BEGIN ? "{\"cb\":\"parallel_begin\"" : "{\"cb\":\"parallel_end\"");
+    put_others(time, record->code);
+    put_member(",\"parallel\":", record->region);
+    if (record->callback == PARALLEL_BEGIN) put_member(",\"requested\":", record->size);
+}
+
+static void put_dependences(const struct record *record, uint64_t time) {
+    put("{\"cb\":\"dependences\"");
+    put_others(time, NULL);
+    put_list(record);
+}
+
+/* Puts the line of a record, which is number `seq` of the thread. The members are in the order of their names, but for
+   those that the format does not know. */
+static void put_record(const struct record *record, uint64_t time, int thread, uint32_t seq) {
     switch ((enum callback)record->callback) {
-    case THREAD_BEGIN: put_name("{\"cb\":\"thread_begin\",\"kind\":", thread_kinds[record->kind]); break;
-    case THREAD_END: put("{\"cb\":\"thread_end\""); break;
+    case THREAD_BEGIN:
+    case THREAD_END: put_thread_record(record, time); break;
     case PARALLEL_BEGIN:
-    case PARALLEL_END:
-        put(record->callback == PARALLEL_BEGIN ? "{\"cb\":\"parallel_begin\"" : "{\"cb\":\"parallel_end\"");
-        put_code(record->code);
-        put_member(",\"parallel\":", record->region);
-        if (record->callback == PARALLEL_BEGIN) put_member(",\"requested\":", record->size);
-        break;
-    case IMPLICIT_TASK: put_implicit_task(record); break;
-    case TASK_CREATE: put_task_create(record); break;
-    case DEPENDENCES: put("{\"cb\":\"dependences\""); put_list(record); break;
-    case TASK_SCHEDULE: put_task_schedule(record); break;
-    case SYNC_REGION: put_sync_region(record); break;
-    case CANCEL: put_cancel(record); break;
+    case PARALLEL_END: put_parallel(record, time); break;
+    case IMPLICIT_TASK: put_implicit_task(record, time); break;
+    case TASK_CREATE: put_task_create(record, time); break;
+    case DEPENDENCES: put_dependences(record, time); break;
+    case TASK_SCHEDULE: put_task_schedule(record, time); break;
+    case SYNC_REGION: put_sync_region(record, time); break;
+    case CANCEL: put_cancel(record, time); break;
     }
     put_member(",\"seen\":", record->seen);
     put_member(",\"seq\":", seq);
@@ -343,7 +373,7 @@ static void put_thread(const struct thread *thread) {
     uint32_t seq = 0;
     for (const struct record *record; (record = next(&cursor));) {
         if (record->callback == PARALLEL_BEGIN && may_leave_out(record) && passes_inner_region(&cursor, record)) continue;
-        put_record(record, thread->number, seq++);
+        put_record(record, time_of_last(&cursor), thread->number, seq++);
     }
 }
 
@@ -361,6 +391,7 @@ static uint32_t open_regions;
 static struct team {
     uint32_t size, begun, index;
     bool is_in_league; /* an initial task of a teams construct began it */
+    uint64_t time;     /* when the last one began */
 } *teams;
 static uint32_t last_region;
 
@@ -368,12 +399,13 @@ static void count(enum note what, const void *code) {
     if (atomic_fetch_add(&notes[what], 1) == 0) atomic_store(&first_code[what], code);
 }
 
-static void look_at_root(const struct record *record) {
+static void look_at_root(const struct record *record, uint64_t time) {
     if (record->endpoint != ompt_scope_begin) return;
     record->task->id = ++last_id;
     if (!teams || record->task->is_initial || record->region > last_region) return;
     teams[record->region].size = record->size;
     teams[record->region].index = record->index;
+    teams[record->region].time = time;
     teams[record->region].begun++;
 }
 
@@ -410,7 +442,7 @@ static void look_at(const struct thread *thread) {
     uint32_t left_out = 0;
     for (const struct record *record; (record = next(&cursor));) {
         if (record->callback == TASK_CREATE) record->other->id = ++last_id;
-        else if (record->callback == IMPLICIT_TASK) look_at_root(record);
+        else if (record->callback == IMPLICIT_TASK) look_at_root(record, time_of_last(&cursor));
         else if (record->callback == SYNC_REGION) look_at_region(record);
         else if (record->callback == TASK_SCHEDULE) look_at_schedule(record);
         else if (record->callback == PARALLEL_END) open_regions--;
@@ -470,17 +502,19 @@ static void find_begun(uint32_t region, bool *is_begun) {
 static void put_missing_members(void) {
     static bool is_begun[MAX_THREADS];
     uint32_t seq = 0;
+    uint64_t time = 0;
     for (uint32_t region = 1; teams && region <= last_region; region++) {
         if (!lacks_members(region)) continue;
         find_begun(region, is_begun);
+        if (time < teams[region].time) time = teams[region].time;
         for (uint32_t index = 0; index < teams[region].size; index++) {
             if (is_begun[index]) continue;
             struct task member = {.id = ++last_id};
             struct record record = {.callback = IMPLICIT_TASK, .endpoint = ompt_scope_begin, .flags = ompt_task_implicit,
                                     .size = teams[region].size, .index = index, .region = region, .task = &member};
-            put_record(&record, thread_total, seq++);
+            put_record(&record, time, thread_total, seq++);
             record.endpoint = ompt_scope_end;
-            put_record(&record, thread_total, seq++);
+            put_record(&record, time, thread_total, seq++);
         }
     }
 }
@@ -529,6 +563,14 @@ static void put_notes(void) {
     put("}");
 }
 
+/* Puts how the run was shaken, by which it can be tried again. */
+static void put_shaking(void) {
+    put_member(",\"shake\":{\"seed\":", settings.seed);
+    put_member(",\"run\":", settings.run_number);
+    put_name(",\"way\":", name_of_way());
+    put("}");
+}
+
 /* The header, whose member `recorder` says how the run ended, what the file has of it, and what was changed. */
 static void put_header(const char *ending) {
     static char program[256];
@@ -537,6 +579,7 @@ static void put_header(const char *ending) {
     put_name("\"program\":", program);
     put_member(",\"process\":", (uint64_t)getpid());
     put_name(",\"ending\":", ending);
+    if (settings.is_shaken) put_shaking();
     put_recording(strncmp(ending, "SIG", 3) == 0);
     put_member(",\"threads\":", (uint64_t)thread_total);
     put_member(",\"waits\":", wait_count);

@@ -1,0 +1,108 @@
+/* Changes the timing of the program that is recorded, so that its runs differ more than they do by themselves. No way of
+   it finds each fault, so runs take them by turns. Which way a run takes, and what it does where, is drawn from a seed
+   and the number of the run. */
+#define _GNU_SOURCE
+#include "recorder.h"
+
+#include <sched.h>
+#include <stdlib.h>
+#include <time.h>
+
+/* The longest delay, in nanoseconds; the most yields at one place; and at how many of its places a thread is delayed in
+   any case. Later places are taken ever more seldom, so that long runs end too: of n places about
+   FIRST_PLACES * (1 + log(n / FIRST_PLACES)). */
+enum { LONGEST_DELAY = 1000000, MOST_YIELDS = 8, FIRST_PLACES = 256 };
+
+static const char *const ways[WAYS] = {"as it is", "yields", "delays at begins", "delays at ends", "fewer cores"};
+
+const char *name_of_way(void) {
+    return ways[settings.way];
+}
+
+/* The next number after this one (splitmix64). */
+static uint64_t following(uint64_t *state) {
+    uint64_t drawn = *state += 0x9e3779b97f4a7c15;
+    drawn = (drawn ^ drawn >> 30) * 0xbf58476d1ce4e5b9;
+    drawn = (drawn ^ drawn >> 27) * 0x94d049bb133111eb;
+    return drawn ^ drawn >> 31;
+}
+
+/* Where the numbers of a run begin. */
+static uint64_t begin_of_run(void) {
+    uint64_t state = settings.seed;
+    return following(&state) + settings.run_number;
+}
+
+/* Draws a number below the bound. */
+static uint64_t draw(struct thread *thread, uint64_t bound) {
+    if (!thread->random) thread->random = begin_of_run() * MAX_THREADS + (uint64_t)thread->number + 1;
+    return following(&thread->random) % bound;
+}
+
+static bool take_number(const char **text, uint64_t *number) {
+    char *end;
+    if (**text < '0' || **text > '9') return false;
+    *number = strtoull(*text, &end, 10);
+    *text = end;
+    return *number <= INT64_MAX;
+}
+
+bool take_shaking(const char *text) {
+    settings.run_number = 1;
+    if (!take_number(&text, &settings.seed)) return false;
+    if (*text == ':' && (text++, !take_number(&text, &settings.run_number))) return false;
+    if (*text) return false;
+    /* runs behind one another take each way once, and runs of other seeds begin with another one */
+    settings.way = (enum way)((settings.seed % WAYS + settings.run_number % WAYS) % WAYS);
+    return settings.is_shaken = true;
+}
+
+/* Draws whether the thread is delayed at this place. */
+static bool is_taken(struct thread *thread) {
+    return draw(thread, ++thread->places) < FIRST_PLACES;
+}
+
+static void yield(struct thread *thread) {
+    if (!is_taken(thread)) return;
+    for (uint64_t left = draw(thread, MOST_YIELDS); left; left--) sched_yield();
+}
+
+static void delay(struct thread *thread) {
+    if (is_taken(thread)) nanosleep(&(struct timespec){.tv_nsec = (long)draw(thread, LONGEST_DELAY)}, NULL);
+}
+
+/* Leaves the thread one processor or up to half of them, the same ones that the others of this run have. The runtime has
+   counted the processors before, so teams stay as large as they were. */
+static void bind(struct thread *thread) {
+    cpu_set_t all, some;
+    thread->is_bound = true;
+    if (sched_getaffinity(0, sizeof all, &all) != 0) return;
+    uint64_t random = begin_of_run();
+    int count = CPU_COUNT(&all), wanted = following(&random) % 2 || count < 4 ? 1 : 1 + (int)(following(&random) % (count / 2));
+    CPU_ZERO(&some);
+    for (int number = 0; number < CPU_SETSIZE && wanted; number++) {
+        if (!CPU_ISSET(number, &all)) continue;
+        /* each choice of so many has the same chance */
+        if ((int)(following(&random) % (uint64_t)count--) < wanted) CPU_SET(number, &some), wanted--;
+    }
+    sched_setaffinity(0, sizeof some, &some);
+}
+
+void shake_at(struct thread *thread, enum place place) {
+    switch (settings.way) {
+    case YIELDS:
+        if (place != MEMBER_BEGINS) yield(thread);
+        break;
+    case DELAYS_AT_BEGINS:
+        if (place == BEFORE_WAIT) delay(thread);
+        break;
+    case DELAYS_AT_ENDS:
+        if (place == BEFORE_FINISH || place == BEHIND_WAIT) delay(thread);
+        break;
+    case FEWER_CORES:
+        if (place == MEMBER_BEGINS && !thread->is_bound) bind(thread);
+        break;
+    default:
+        break;
+    }
+}

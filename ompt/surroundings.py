@@ -1,0 +1,105 @@
+"""The environment in which taskaudit-run starts a program: the recorder, beside another tool where one is named, and for
+programs that gcc compiled LLVM's runtime under the name of GCC's."""
+import glob
+import os
+import re
+import tempfile
+
+from outcomes import NOT_RECORDED, End
+from runs import is_gcc, is_llvm, lacking, libraries_of, sentence_on_lacking
+
+OUT = os.path.join(os.path.dirname(os.path.realpath(__file__)), 'out')
+RECORDER, BESIDE = 'libtaskaudit_ompt.so', 'libtaskaudit_beside.so'
+# Where LLVM's runtime is for programs that gcc compiled; TASKAUDIT_LIBOMP names another one.
+RUNTIMES = '/usr/lib/llvm-*/lib/libomp.so.5'
+
+
+def from_the_root(file):
+    """The pattern with the current folder before it, in which a % is no part of the pattern."""
+    return file if file.startswith('/') else os.path.join(os.getcwd().replace('%', '%%'), file)
+
+
+def find_runtime():
+    """The newest of LLVM's runtimes, or None."""
+    newest = max(glob.glob(RUNTIMES), key=lambda it: int(re.search(r'llvm-(\d+)', it)[1]), default=None)
+    return os.environ.get('TASKAUDIT_LIBOMP') or newest
+
+
+def library(name):
+    return os.path.join(OUT, name)
+
+
+def other_tools():
+    """The tools that are named already; within another taskaudit-run those that were named there."""
+    named = os.environ.get('OMP_TOOL_LIBRARIES', '')
+    is_within = any(os.path.basename(it) in (RECORDER, BESIDE) for it in named.split(':'))
+    return os.environ.get('TASKAUDIT_TOOL_LIBRARIES', '') if is_within else named
+
+
+class Place:
+    """A folder that is there while a program runs, and the environment of that: the list of its files, and LLVM's runtime
+    where the program has to find it."""
+
+    def __init__(self, told, runtime):
+        self.folder = tempfile.TemporaryDirectory(prefix='taskaudit-', ignore_cleanup_errors=True)
+        self.list = os.path.join(self.folder.name, 'list')
+        self.told = {**told, 'TASKAUDIT_RUN': self.list}
+        with open(self.list, 'wb'):
+            pass
+        if runtime:
+            os.symlink(os.path.abspath(runtime), os.path.join(self.folder.name, 'libgomp.so.1'))
+            path = filter(None, [self.folder.name, os.environ.get('LD_LIBRARY_PATH')])
+            self.told['LD_LIBRARY_PATH'] = ':'.join(path)
+
+    def __enter__(self):
+        return self
+
+    def __exit__(self, *_):
+        self.folder.cleanup()
+
+
+class Surroundings:
+    """What all runs of the program have."""
+
+    def __init__(self, asked, program, log):
+        self.log = log
+        self.told = {**os.environ, 'OMP_TOOL': 'enabled', 'OMP_TOOL_LIBRARIES': library(RECORDER),
+                     'TASKAUDIT_FILE': from_the_root(asked.o), 'TASKAUDIT_PARENT': str(os.getpid())}
+        if asked.time:
+            self.told['TASKAUDIT_TIME'] = '1'
+        if os.environ.get('OMP_TOOL') == 'disabled':
+            log.say('OMP_TOOL=disabled is set to enabled for this run')
+        self.add_other_tool()
+        self.runtime = self.runtime_for(program, asked.allow_none)
+
+    def add_other_tool(self):
+        """A tool that is named already runs too."""
+        others = other_tools()
+        if not others:
+            return
+        if not os.path.exists(library(BESIDE)):
+            raise End(NOT_RECORDED, f"OMP_TOOL_LIBRARIES names another tool, {others}, and LLVM's header"
+                                    ' ompt-multiplex.h, by which both can run, is not there; install libomp-dev, or unset'
+                                    ' OMP_TOOL_LIBRARIES')
+        self.told |= {'OMP_TOOL_LIBRARIES': library(BESIDE), 'TASKAUDIT_TOOL_LIBRARIES': others}
+        self.log.say(f'{others} runs beside the recorder, as OMP_TOOL_LIBRARIES names it')
+
+    def runtime_for(self, program, is_allowed_none):
+        """LLVM's runtime, where programs that gcc compiled are to find it, also those that a script starts; or None."""
+        libraries, runtime = libraries_of(program), find_runtime()
+        if is_gcc(libraries) and not runtime:
+            raise End(NOT_RECORDED, "the program was compiled by gcc, whose libgomp has no OMPT; install LLVM's runtime,"
+                                    ' which can run it too (Debian: libomp-dev)')
+        if not runtime or not is_gcc(libraries):
+            return None if is_llvm(libraries) else runtime
+        with Place(self.told, runtime) as place:
+            versions = lacking(program, place.told)[0]
+        if versions and not is_allowed_none:
+            raise End(NOT_RECORDED, sentence_on_lacking(versions))
+        if versions:
+            self.log.say(f'{sentence_on_lacking(versions)}; it runs so, and nothing is recorded')
+        return None if versions else runtime
+
+    def place(self, shaking=None):
+        """A place for one run, which is shaken so."""
+        return Place({**self.told, 'TASKAUDIT_SHAKE': shaking} if shaking else self.told, self.runtime)
