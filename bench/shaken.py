@@ -3,8 +3,10 @@
 
 Runs a program for each of four faults under a runtime that is broken so (ompt/broken.c), by `taskaudit-run
 --repeat 5 --shake SEED` for BATCHES seeds (50), so that each batch has one run of each way, and prints in how
-many runs of each way and in how many batches something was found. Then runs right programs, under the right
-runtime, RIGHT times in all (500), where nothing may be found. The teams have four threads."""
+many runs of each way and in how many batches something was found. Tries the first run in which each way found
+something ten times again, by its seed and its number, and prints how often that found it. Then runs right
+programs, under the right runtime, RIGHT times in all (500), where nothing may be found. The teams have four
+threads."""
 import os
 import re
 import subprocess
@@ -24,8 +26,9 @@ FAULTS = {
     "a detached task complete too early": ("early_detach", ["device", "1"]),
 }
 RIGHT = [["children", "4"], ["wavefront", "4", "2"], ["wavefront", "8", "1"], ["device", "4"], ["fib", "8"]]
-# A run of five, as taskaudit-run tells it.
-TOLD = re.compile(r"run \d+ of \d+ \(--shake \d+:\d+, ([a-z ]+)\): (\w+)")
+# A run of several, as taskaudit-run tells it: its seed and number, its way, and what came of it.
+TOLD = re.compile(r"run \d+ of \d+ \(--shake (\d+:\d+), ([a-z ]+)\): (\w+)")
+BATCH, TRIES = 5, 10
 
 
 def compile_all(folder):
@@ -36,32 +39,34 @@ def compile_all(folder):
         subprocess.run(["clang", "-O2", "-fopenmp", "-pthread", *paths], check=True)
 
 
-def batch(folder, words, seed, fault=None):
-    """Way and outcome of each run of a batch."""
+def runs(folder, words, shaking, count, fault=None):
+    """Seed and number, way and outcome of each of so many runs."""
     told = {**os.environ, "OMP_NUM_THREADS": "4"}
     if fault:
         told |= {"LD_PRELOAD": os.path.join(OMPT, "out/libtaskaudit_broken.so"), "TASKAUDIT_BREAK": fault}
-    command = [os.path.join(OMPT, "taskaudit-run"), "--checker", PROGRAM, "--repeat", "5", "--keep-going",
-               "--shake", str(seed), "-o", os.path.join(folder, "%p.jsonl"), os.path.join(folder, words[0]), *words[1:]]
+    command = [os.path.join(OMPT, "taskaudit-run"), "--checker", PROGRAM, "--repeat", str(count), "--keep-going",
+               "--shake", shaking, "-o", os.path.join(folder, "%p.jsonl"), os.path.join(folder, words[0]), *words[1:]]
     ran = subprocess.run(command, env=told, stdout=subprocess.DEVNULL, stderr=subprocess.PIPE, text=True)
     for name in os.listdir(folder):
         if name.endswith(".jsonl"):
             os.remove(os.path.join(folder, name))
     found = TOLD.findall(ran.stderr)
-    if len(found) != 5:
+    if len(found) != count:
         sys.exit(f"{' '.join(command)}: {ran.stderr}")
     return found
 
 
 def show_fault(folder, name, batches):
-    """Prints in how many runs and batches a fault was found."""
+    """Prints in how many runs and batches a fault was found, and how often again."""
     fault, words = FAULTS[name]
-    ways, hits = Counter(), 0
+    ways, hits, firsts = Counter(), 0, {}
     for seed in range(1, batches + 1):
-        found = [way for way, outcome in batch(folder, words, seed, fault) if outcome != "yes"]
+        found = {way: it for it, way, outcome in runs(folder, words, str(seed), BATCH, fault) if outcome != "yes"}
         ways.update(found)
         hits += bool(found)
-    row(name, *(str(ways[it]) for it in WAYS), f"{hits} of {batches}")
+        firsts = found | firsts
+    again = [outcome != "yes" for it in firsts.values() for _, _, outcome in runs(folder, words, it, TRIES, fault)]
+    row(name, *(str(ways[it]) for it in WAYS), f"{hits} of {batches}", f"{sum(again)} of {len(again)}")
 
 
 def main():
@@ -69,11 +74,11 @@ def main():
     batches, right = [*numbers, *[50, 500][len(numbers):]]
     with tempfile.TemporaryDirectory() as folder:
         compile_all(folder)
-        table("Fault", *WAYS, "batches of five")
+        table("Fault", *WAYS, "batches of five", "tried again")
         for name in FAULTS:
             show_fault(folder, name, batches)
-        outcomes = Counter(outcome for at in range(right // 5)
-                           for _, outcome in batch(folder, RIGHT[at % len(RIGHT)], at))
+        outcomes = Counter(outcome for at in range(right // BATCH)
+                           for *_, outcome in runs(folder, RIGHT[at % len(RIGHT)], str(at), BATCH))
         print(f"\nRight programs: {dict(outcomes)}")
 
 

@@ -124,21 +124,24 @@ static struct record *room(struct thread *thread) {
     return &thread->last->records[count % RECORDS_OF_BLOCK];
 }
 
-/* Returns the time in nanoseconds, where the file is to have times. */
-static uint64_t now(void) {
+static __attribute__((noinline)) uint64_t time_of_clock(void) {
     struct timespec time;
-    if (!settings.has_times) return 0;
     clock_gettime(CLOCK_MONOTONIC, &time);
     return (uint64_t)time.tv_sec * 1000000000 + (uint64_t)time.tv_nsec;
 }
 
-/* Adds a record. What comes before the count is written when the count is. */
+/* Returns the time in nanoseconds, or 0 where the file is to have no times. */
+static uint64_t now(void) {
+    return settings.has_times ? time_of_clock() : 0;
+}
+
+/* Adds a record, with its time if it has one. What comes before the count is written when the count is. */
 static bool keep(struct thread *thread, struct record record, uint64_t time) {
     struct record *at = room(thread);
     if (!at) return false;
     *at = record;
     uint32_t count = atomic_load_explicit(&thread->count, memory_order_relaxed);
-    if (settings.has_times) thread->last->times[count % RECORDS_OF_BLOCK] = time;
+    if (time) thread->last->times[count % RECORDS_OF_BLOCK] = time;
     atomic_store_explicit(&thread->count, count + 1, memory_order_release);
     return true;
 }

@@ -274,7 +274,7 @@ static void put_list(const struct record *record) {
 /* Puts what the format does not know, in the one place where such members cost a reader little: the time of the record,
    where the file has times, and where the code of it is, if it has one. */
 static void put_others(uint64_t time, const void *code) {
-    put_code(code);
+    if (code) put_code(code);
     if (settings.has_times) put_member(",\"time\":", time);
 }
 
