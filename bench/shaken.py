@@ -62,7 +62,7 @@ def show_fault(folder, name, batches):
     ways, hits, firsts = Counter(), 0, {}
     for seed in range(1, batches + 1):
         found = {way: it for it, way, outcome in runs(folder, words, str(seed), BATCH, fault) if outcome != "yes"}
-        ways.update(found)
+        ways.update(found.keys())
         hits += bool(found)
         firsts = found | firsts
     again = [outcome != "yes" for it in firsts.values() for _, _, outcome in runs(folder, words, it, TRIES, fault)]

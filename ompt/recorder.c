@@ -161,7 +161,6 @@ static void keep_reading(struct thread *thread, struct record record) {
 /* Adds a record that finishes a task: it appends an entry. Room comes first, so that no index is without a record. The
    time is from before, so that no record that has seen the entry has an earlier one. */
 static void keep_finishing(struct thread *thread, struct record record) {
-    shake(thread, BEFORE_FINISH);
     if (!room(thread)) return;
     uint64_t time = now();
     record.seen = atomic_fetch_add(&ledger, 1);
@@ -368,6 +367,19 @@ static bool is_finishing(int status) {
     return status != ompt_task_yield && status != ompt_task_early_fulfill && status != ompt_task_switch;
 }
 
+/* The finish of a task may come later, where its record is none by which a wait ends or a task starts: that has to see
+   what was finished when the runtime went on. */
+static void shake_before(struct thread *thread, ompt_task_status_t status, const struct task *next) {
+    if (settings.way == AS_IT_IS || !is_finishing(status) || status == ompt_taskwait_complete) return;
+    if (!next || next->thread >= 0) shake_at(thread, BEFORE_FINISH);
+}
+
+static void shake_behind(struct thread *thread, ompt_task_status_t status, const struct task *next) {
+    if (settings.way == AS_IT_IS) return;
+    if (next) shake_at(thread, BEHIND_START);
+    else if (status == ompt_taskwait_complete) shake_at(thread, BEHIND_WAIT);
+}
+
 /* Says that the task runs from here on, and returns which of its turns begins. A task starts in turn 0, a root where
    it begins; each time that it resumes, its turn is one greater. The turn stays with the task, which no thread runs
    while it is suspended. Notes where the task runs on another thread than its first one. */
@@ -402,12 +414,13 @@ static void on_task_schedule(ompt_data_t *prior_data, ompt_task_status_t status,
         if (next == thread->current || !thread->current) return;
         prior = thread->current;
     }
+    shake_before(thread, status, next);
     struct record record = {.callback = TASK_SCHEDULE, .kind = status, .task = prior, .other = next,
                             .turns = {.prior = prior->turn}};
     if (next) record.turns.next = run_next(thread, next);
     if (is_finishing(status)) keep_finishing(thread, record);
     else keep_reading(thread, record);
-    if (next) shake(thread, BEHIND_START);
+    shake_behind(thread, status, next);
 }
 
 /* Whether this is the kind of the barrier at a region's end. */
@@ -463,6 +476,7 @@ static void on_cancel(ompt_data_t *data, int flags, const void *code) {
         return;
     }
     task->is_discarded = true;
+    shake(thread, BEFORE_FINISH);
     keep_finishing(thread, record);
 }
 

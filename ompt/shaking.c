@@ -39,6 +39,23 @@ static uint64_t draw(struct thread *thread, uint64_t bound) {
     return following(&thread->random) % bound;
 }
 
+/* The processors that the threads of a run share: one, or in some runs up to half of those that the process may use. */
+static cpu_set_t shared;
+
+static void choose_processors(void) {
+    cpu_set_t all;
+    uint64_t random = begin_of_run();
+    CPU_ZERO(&shared);
+    if (sched_getaffinity(0, sizeof all, &all) != 0) return;
+    int left = CPU_COUNT(&all), most = left < 4 || following(&random) % 2 ? 1 : left / 2;
+    int wanted = 1 + (int)(following(&random) % (uint64_t)most);
+    for (int number = 0; number < CPU_SETSIZE && wanted; number++) {
+        if (!CPU_ISSET(number, &all)) continue;
+        /* each choice of so many has the same chance */
+        if ((int)(following(&random) % (uint64_t)left--) < wanted) CPU_SET(number, &shared), wanted--;
+    }
+}
+
 static bool take_number(const char **text, uint64_t *number) {
     char *end;
     if (**text < '0' || **text > '9') return false;
@@ -54,6 +71,7 @@ bool take_shaking(const char *text) {
     if (*text) return false;
     /* runs behind one another take each way once, and runs of other seeds begin with another one */
     settings.way = (enum way)((settings.seed % WAYS + settings.run_number % WAYS) % WAYS);
+    if (settings.way == FEWER_CORES) choose_processors();
     return settings.is_shaken = true;
 }
 
@@ -71,21 +89,11 @@ static void delay(struct thread *thread) {
     if (is_taken(thread)) nanosleep(&(struct timespec){.tv_nsec = (long)draw(thread, LONGEST_DELAY)}, NULL);
 }
 
-/* Leaves the thread one processor or up to half of them, the same ones that the others of this run have. The runtime has
-   counted the processors before, so teams stay as large as they were. */
+/* Leaves the thread fewer processors. The runtime has counted the processors before, so teams stay as large as they
+   were. */
 static void bind(struct thread *thread) {
-    cpu_set_t all, some;
     thread->is_bound = true;
-    if (sched_getaffinity(0, sizeof all, &all) != 0) return;
-    uint64_t random = begin_of_run();
-    int count = CPU_COUNT(&all), wanted = following(&random) % 2 || count < 4 ? 1 : 1 + (int)(following(&random) % (count / 2));
-    CPU_ZERO(&some);
-    for (int number = 0; number < CPU_SETSIZE && wanted; number++) {
-        if (!CPU_ISSET(number, &all)) continue;
-        /* each choice of so many has the same chance */
-        if ((int)(following(&random) % (uint64_t)count--) < wanted) CPU_SET(number, &some), wanted--;
-    }
-    sched_setaffinity(0, sizeof some, &some);
+    sched_setaffinity(0, sizeof shared, &shared);
 }
 
 void shake_at(struct thread *thread, enum place place) {
