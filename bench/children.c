@@ -1,4 +1,4 @@
-/* children ROUNDS: in each round a task of some ten microseconds, and a taskwait. */
+/* children ROUNDS: in each round a task of about a tenth of a millisecond, and a taskwait. */
 #include <stdlib.h>
 
 static double work(int steps) {
@@ -14,7 +14,7 @@ int main(int count, char **words) {
 #pragma omp single
     for (int round = 0; round < rounds; round++) {
 #pragma omp task
-        sum += work(20000);
+        sum += work(50000);
 #pragma omp taskwait
     }
     return sum < 0;
