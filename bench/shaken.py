@@ -7,6 +7,7 @@ many runs of each way and in how many batches something was found. Tries the fir
 something ten times again, by its seed and its number, and prints how often that found it. Then runs right
 programs, under the right runtime, RIGHT times in all (500), where nothing may be found. The teams have four
 threads."""
+import glob
 import os
 import re
 import subprocess
@@ -25,23 +26,27 @@ FAULTS = {
     "a dropped dependence, 8 by 8": ("one_depend", ["wavefront", "8", "1"]),
     "a detached task complete too early": ("early_detach", ["device", "1"]),
 }
+# Right programs: these, and all of ompt/programs.
 RIGHT = [["children", "4"], ["wavefront", "4", "2"], ["wavefront", "8", "1"], ["device", "4"], ["fib", "8"]]
+OTHERS = [*glob.glob(os.path.join(OMPT, "programs/*.c")), *glob.glob(os.path.join(OMPT, "programs/nested/*.c"))]
 # A run of several, as taskaudit-run tells it: its seed and number, its way, and what came of it.
 TOLD = re.compile(r"run \d+ of \d+ \(--shake (\d+:\d+), ([a-z ]+)\): (\w+)")
 BATCH, TRIES = 5, 10
 
 
 def compile_all(folder):
-    """Compiles the recorder, and the programs into the folder."""
+    """Compiles the recorder, and the programs into the folder. Returns the words of the right programs."""
     subprocess.run([os.path.join(OMPT, "build")], check=True)
-    for name in {words[0] for words in (*RIGHT, *(it for _, it in FAULTS.values()))}:
-        paths = [os.path.join(HERE, f"{name}.c"), "-o", os.path.join(folder, name)]
-        subprocess.run(["clang", "-O2", "-fopenmp", "-pthread", *paths], check=True)
+    names = {words[0] for words in (*RIGHT, *(it for _, it in FAULTS.values()))}
+    for path in (*(os.path.join(HERE, f"{name}.c") for name in names), *OTHERS):
+        made = os.path.join(folder, os.path.basename(path)[:-2])
+        subprocess.run(["clang", "-O2", "-w", "-fopenmp", "-pthread", path, "-o", made], check=True)
+    return RIGHT + [[os.path.basename(path)[:-2]] for path in OTHERS]
 
 
 def runs(folder, words, shaking, count, fault=None):
     """Seed and number, way and outcome of each of so many runs."""
-    told = {**os.environ, "OMP_NUM_THREADS": "4"}
+    told = {**os.environ, "OMP_NUM_THREADS": "4", "OMP_CANCELLATION": "true"}
     if fault:
         told |= {"LD_PRELOAD": os.path.join(OMPT, "out/libtaskaudit_broken.so"), "TASKAUDIT_BREAK": fault}
     command = [os.path.join(OMPT, "taskaudit-run"), "--checker", PROGRAM, "--repeat", str(count), "--keep-going",
@@ -73,12 +78,12 @@ def main():
     numbers = numbers_of(sys.argv[1:], __doc__, 2)
     batches, right = [*numbers, *[50, 500][len(numbers):]]
     with tempfile.TemporaryDirectory() as folder:
-        compile_all(folder)
+        programs = compile_all(folder)
         table("Fault", *WAYS, "batches of five", "tried again")
         for name in FAULTS:
             show_fault(folder, name, batches)
         outcomes = Counter(outcome for at in range(right // BATCH)
-                           for *_, outcome in runs(folder, RIGHT[at % len(RIGHT)], str(at), BATCH))
+                           for *_, outcome in runs(folder, programs[at % len(programs)], str(at), BATCH))
         print(f"\nRight programs: {dict(outcomes)}")
 
 
