@@ -1,7 +1,7 @@
 """What a file in the Trace Event format shows, and its faults, by the description of the format ("Trace Event Format").
 
-It shares no code with tools/timeline.py. Numbers of a file are read as they are written, so that none is rounded. Events
-of a thread are taken by time, and where times are equal as they stand, as viewers take them."""
+It shares no code with tools/timeline.py. Numbers of a file are read as they are written, so that none is rounded. The
+events of a thread are taken by time, and where times are equal as they stand, as viewers take them."""
 import json
 from collections import defaultdict
 from decimal import Decimal

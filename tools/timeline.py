@@ -5,6 +5,7 @@ to read it.
 One pass reads the file; a second one goes along its records in the order of time and writes events. So what is open on
 a thread, and in a task that moves, is known where it is needed."""
 import json
+from bisect import bisect
 from collections import defaultdict, namedtuple
 from sys import intern
 
@@ -396,7 +397,8 @@ class Timeline:
         self.process = process_of(facts.recorder)
         self.tracks = {thread: Track(self.process, thread) for thread in sorted(facts.threads)}
         # by task its open regions that no track has, the outermost first
-        self.out, self.left_open, self.time, self.stamp = [], {}, 0, '0'
+        self.out, self.left_open = [], {}
+        self.time, self.stamp, self.last = 0, '0', max(times, default=0)
         self.takes = {**dict.fromkeys(ROOTS, self.take_root), 'ended': self.take_end_of_root, 'await': self.take_await,
                       **dict.fromkeys(DEMANDS_NEXT, self.take_schedule), 'begin': self.take_begin, 'end': self.take_end,
                       'beginend': self.take_both, 'taskwait_complete': self.take_await_end,
@@ -453,6 +455,13 @@ class Timeline:
         head = track.head + micros(time)
         self.out += [f'{{"ph":"{phase}",{head},"id":{number},"name":"{name}","cat":"{name}"{BOUND[phase]}}}'
                      for phase, number, name in side.pop(it.number)]
+
+    def time_inside(self, it):
+        """Returns a time at which what begins at a record is surely open: a nanosecond later, since at the time itself
+        something else may end; but no later than the next record of the thread."""
+        events = self.facts.threads[it.thread]
+        at = bisect(events, (it.number + 1,))
+        return min(self.time + 1, self.times[events[at].number - 2] if at < len(events) else self.last)
 
     def flow_at_end(self, track, it):
         """Writes the flows that are bound to what ends at a record: a nanosecond before, where that is surely open."""
@@ -541,7 +550,7 @@ class Timeline:
             self.left_open.pop(it.task, None)
         self.go_on(track, it.other, it)
         if it.number in self.flows.at_begin:
-            self.flow(track, self.flows.at_begin, it, self.time)
+            self.flow(track, self.flows.at_begin, it, self.time_inside(it))
 
     def take_begin(self, track, it):
         self.begin_region(track, it, it.other, category(it.other))
