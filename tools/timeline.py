@@ -295,7 +295,7 @@ class Flows:
         """Adds the flows to the start of a task, or to the end of a taskwait with dependences."""
         task, is_wait = made.other, made.what == 'await'
         start = (self.facts.finishes['Whole'] if is_wait else self.facts.starts).get(task)
-        for it in sorted(predecessors - {task}) if start else ():
+        for it in sorted(predecessors) if start else ():
             if it != self.task or start is not self.named:
                 self.add_from(it, 'dependence', self.at_end if is_wait else self.at_begin, start)
 
@@ -303,9 +303,8 @@ class Flows:
         """Adds the flows of a no: to the end of its wait from other children, and the one of the unfinished task. Where
         this finishes after the named record, its flow goes from there to where it finishes."""
         named, begin = self.named, self.begin_of_wait(events)
-        starts = named.started is not None
-        side = self.at_begin if starts else self.at_end
-        self.colours = {named.number: ORANGE if starts else RED, begin.number: ORANGE if starts else RED}
+        side, colour = (self.at_end, RED) if named.started is None else (self.at_begin, ORANGE)
+        self.colours = dict.fromkeys((named.number, begin.number), colour)
         for it in self.children_of_wait(events, begin):
             self.add_from(it, 'wait', side, named)
         if not self.add_from(self.task, 'unfinished', side, named) and self.task in self.done:
@@ -360,8 +359,8 @@ class Track:
     def remove(self):
         """Removes the innermost of what is open, and returns it."""
         it, place = self.open.pop(), len(self.open)
-        if it.cat == 'task' and self.places.get(it.task) == place:
-            del self.places[it.task]
+        if it.cat == 'task':
+            self.places.pop(it.task, None)
         if self.roots and self.roots[-1] == place:
             self.roots.pop()
         return it
@@ -386,7 +385,7 @@ def micros(time):
 def process_of(recorder):
     """Returns the process that the header names."""
     found = recorder.get('process')
-    return found if type(found) is int and 0 <= found <= GREATEST else PROCESS
+    return found if type(found) is int else PROCESS
 
 
 class Timeline:
@@ -414,7 +413,8 @@ class Timeline:
                 yield between + ',\n'.join(self.out)
                 between, self.out = ',\n', []
         self.out += [self.event('E', track, '') for track in self.tracks.values() for _ in track.open]
-        yield between * bool(self.out) + ',\n'.join(self.out)
+        if self.out:
+            yield between + ',\n'.join(self.out)
 
     def metadata(self):
         """Yields the names of the process and of the threads."""
@@ -510,11 +510,11 @@ class Timeline:
         while len(track.open) > depth:
             closed = track.remove()
             self.write('E', track, f',"args":{{"end line":{it.number}}}' if closed.cat == 'task' else '')
-            if closed.cat == 'task':
+            if closed.cat != 'task':
+                regions.append(closed)
+            elif regions:
                 self.left_open.setdefault(closed.task, []).extend(reversed(regions))
                 regions = []
-            else:
-                regions.append(closed)
 
     def go_on(self, track, task, it):
         """Closes what is open above a task; begins a slice of the task where it has none here."""
@@ -546,8 +546,6 @@ class Timeline:
         place = track.place_of(it.task)
         if place is not None and it.number not in self.facts.stays and not self.facts.is_root(it.task):
             self.close(track, place, it)
-        if it.what not in SUSPENDS:
-            self.left_open.pop(it.task, None)
         self.go_on(track, it.other, it)
         if it.number in self.flows.at_begin:
             self.flow(track, self.flows.at_begin, it, self.time_inside(it))
