@@ -224,22 +224,22 @@ def times_of(facts, order):
 # What waits for what
 
 class Location:
-    """A location so far among the children of one task: the latest ones that list it in one class, and of those before
-    them the one that finishes last."""
+    """A location so far among the children of one task: the latest ones that list it in one class, and those before
+    them, or of these the one that finishes last."""
     __slots__ = ('kind', 'latest', 'before')
 
     def __init__(self):
-        self.kind, self.latest, self.before = 'out', [], None
+        self.kind, self.latest, self.before = 'out', [], []
 
     def add(self, task, kind, last_of):
         """Adds a task. Returns those that it waits for: where it begins a class all the latest ones, and where it joins
         one only the last of those before, so that there are no more flows than dependences."""
         if kind == self.kind != 'out':
             self.latest.append(task)
-            return [self.before] * (self.before is not None)
-        found, self.kind, self.latest = self.latest, kind, [task]
-        self.before = last_of(found)
-        return found
+            self.before = last_of(self.before) if len(self.before) > 1 else self.before
+        else:
+            self.before, self.kind, self.latest = self.latest, kind, [task]
+        return self.before
 
 
 class Flows:
@@ -266,8 +266,9 @@ class Flows:
     def add(self, name, one, other):
         """Adds a flow from one record to another; of each it has where it is bound."""
         self.count += 1
-        for phase, (side, event) in (('s', one), ('f', other)):
-            side[event.number].append((phase, self.count, name))
+        (one_side, first), (other_side, last) = one, other
+        one_side[first.number].append(('s', self.count, name))
+        other_side[last.number].append(('f', self.count, name))
 
     def add_from(self, task, name, side, event):
         """Adds a flow from the record that finishes the task to this one, where that comes before: no flow goes back.
@@ -279,8 +280,9 @@ class Flows:
         return is_before
 
     def last_of(self, tasks):
-        """Returns the one of these tasks that finishes last; None where none finishes."""
-        return max((it for it in tasks if it in self.done), key=lambda it: self.moment(self.done[it]), default=None)
+        """Returns the one of these tasks that finishes last, in a list; none where none finishes."""
+        finished = [it for it in tasks if it in self.done]
+        return [max(finished, key=lambda it: self.moment(self.done[it]))] if finished else []
 
     def add_dependences(self, events):
         """Adds flows to the start of each task from those that it waits for; `events` are in the order of time."""
