@@ -43,19 +43,15 @@ def read(text):
 
 
 def faults_of_event(it):
-    """Yields what is wrong with an event by itself."""
+    """Returns what is wrong with an event by itself."""
     must, may = MEMBERS.get(it.get('ph'), (set(), set(it)))
-    for name in (must | OF_ALL) - set(it):
-        yield f'no {name}'
-    for name in set(it) - must - may - OF_ALL:
-        yield f'{name} is not of this phase'
-    for name in set(it) & set(IS_RIGHT):
-        if not IS_RIGHT[name](it[name]):
-            yield f'{name} is {it[name]!r}'
-    if it.get('ph') == 'M':
-        name, kind = METADATA.get(it.get('name'), ('name', str))
-        if it.get('name') not in METADATA or type(it['args'].get(name)) is not kind:
-            yield 'no such metadata'
+    faults = [f'no {name}' for name in (must | OF_ALL) - set(it)]
+    faults += [f'{name} is not of this phase' for name in set(it) - must - may - OF_ALL]
+    faults += [f'{name} is {it[name]!r}' for name in set(it) & set(IS_RIGHT) if not IS_RIGHT[name](it[name])]
+    if it.get('ph') == 'M' and not faults:
+        name, kind = METADATA.get(it['name'], (None, None))
+        faults += ['no such metadata'] * (name is None or type(it['args'].get(name)) is not kind)
+    return faults
 
 
 class Thread:
@@ -109,10 +105,11 @@ class Thread:
         elif self.open:
             flow.bound = self.open[-1]
 
-    def finish(self):
+    def finished(self):
+        """Returns what is wrong with the thread, behind its last event."""
         while self.open and self.open[-1].end is not None:
             self.close(self.open[-1].end)
-        self.faults += [f'{it.name} does not end' for it in self.open]
+        return self.faults + [f'{it.name} does not end' for it in self.open]
 
 
 class Shown:
@@ -149,9 +146,7 @@ class Shown:
                 self.instants.append(it)
             thread.take(it)
         self.names = {(it['name'], it['pid'], it['tid']): it['args'] for it in events if it['ph'] == 'M'}
-        for thread in self.threads.values():
-            thread.finish()
-            self.faults += [f'thread {thread.tid}: {it}' for it in thread.faults]
+        self.faults += [f'thread {thread.tid}: {it}' for thread in self.threads.values() for it in thread.finished()]
         self.faults += [f'flow {key}: {it}' for key, flow in self.flows.items() for it in faults_of_flow(flow)]
 
 
