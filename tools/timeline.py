@@ -284,11 +284,15 @@ class Flows:
         finished = [it for it in tasks if it in self.done]
         return [max(finished, key=lambda it: self.moment(self.done[it]))] if finished else []
 
+    def is_discarded(self, task):
+        return task in self.done and self.done[task].what == 'discard'
+
     def add_dependences(self, events):
-        """Adds flows to the start of each task from those that it waits for; `events` are in the order of time."""
+        """Adds flows to the start of each task from those that it waits for; `events` are in the order of time. A
+        discarded task has none: it waits for nothing, so what is before it would be lost behind it."""
         locations, lists = defaultdict(Location), self.facts.lists
         for it in events:
-            if it.what in CREATES and it.other in lists:
+            if it.what in CREATES and it.other in lists and not self.is_discarded(it.other):
                 found = [locations[it.task, place].add(it.other, kind, self.last_of)
                          for place, kind in lists[it.other].items()]
                 self.add_start(it, {task for tasks in found for task in tasks})
@@ -309,8 +313,9 @@ class Flows:
         self.colours = dict.fromkeys((named.number, begin.number), colour)
         for it in self.children_of_wait(events, begin):
             self.add_from(it, 'wait', side, named)
-        if not self.add_from(self.task, 'unfinished', side, named) and self.task in self.done:
-            self.add('unfinished', (side, named), (self.at_end, self.done[self.task]))
+        done = self.done.get(self.task, named)
+        if not self.add_from(self.task, 'unfinished', side, named) and self.moment(done)[0] > self.moment(named)[0]:
+            self.add('unfinished', (side, named), (self.at_end, done))
 
     def begin_of_wait(self, events):
         """Returns the record at which the wait begins that ends at the named one; the named one where none ends."""
@@ -397,8 +402,8 @@ class Timeline:
         self.facts, self.times, self.flows, self.found = facts, times, flows, found
         self.process = process_of(facts.recorder)
         self.tracks = {thread: Track(self.process, thread) for thread in sorted(facts.threads)}
-        # by task its open regions that no track has, the outermost first
-        self.out, self.left_open = [], {}
+        # by task its open regions that no track has, the outermost first; by number the times at which flows begin
+        self.out, self.left_open, self.begun = [], {}, {}
         self.time, self.stamp, self.last = 0, '0', max(times, default=0)
         self.takes = {**dict.fromkeys(ROOTS, self.take_root), 'ended': self.take_end_of_root, 'await': self.take_await,
                       **dict.fromkeys(DEMANDS_NEXT, self.take_schedule), 'begin': self.take_begin, 'end': self.take_end,
@@ -453,10 +458,11 @@ class Timeline:
                                f',"args":{told}')
 
     def flow(self, track, side, it, time):
-        """Writes the flows of a record that are bound on one side, at this time."""
-        head = track.head + micros(time)
-        self.out += [f'{{"ph":"{phase}",{head},"id":{number},"name":"{name}","cat":"{name}"{BOUND[phase]}}}'
-                     for phase, number, name in side.pop(it.number)]
+        """Writes the flows of a record that are bound on one side, at this time or, if that is later, where they begin."""
+        for phase, number, name in side.pop(it.number):
+            begun = self.begun.pop(number, time) if phase == 'f' else self.begun.setdefault(number, time)
+            self.out.append(f'{{"ph":"{phase}",{track.head}{micros(max(time, begun))},"id":{number},"name":"{name}"'
+                            f',"cat":"{name}"{BOUND[phase]}}}')
 
     def time_inside(self, it):
         """Returns a time at which what begins at a record is surely open: a nanosecond later, since at the time itself
@@ -561,7 +567,8 @@ class Timeline:
             self.begin(track, Open(it.task, name, cat, it.number, it.code), f'"line":{it.number}')
 
     def take_end(self, track, it):
-        self.end_region(track, it, it.task, it.other)
+        if not self.end_region(track, it, it.task, it.other) and it.number in self.flows.at_end:
+            self.take_both(track, it)
 
     def end_region(self, track, it, task, name):
         """Ends the innermost region of a task, if it has this name. Returns whether a slice ends."""
