@@ -458,7 +458,8 @@ class Timeline:
                                f',"args":{told}')
 
     def flow(self, track, side, it, time):
-        """Writes the flows of a record that are bound on one side, at this time or, if that is later, where they begin."""
+        """Writes the flows of a record that are bound on one side, at this time, or where they begin if that is later:
+        with equal times the nanosecond inside a slice may be too much."""
         for phase, number, name in side.pop(it.number):
             begun = self.begun.pop(number, time) if phase == 'f' else self.begun.setdefault(number, time)
             self.out.append(f'{{"ph":"{phase}",{track.head}{micros(max(time, begun))},"id":{number},"name":"{name}"'
