@@ -23,7 +23,8 @@ DESCRIPTION = """Auditor of recorded OpenMP tasks
  and audits what was recorded. taskaudit-explain explains an answer, and
  taskaudit-audit audits many files."""
 # The documents named in the help, the errors and the scripts.
-DOCUMENTS = ('CAUSES.md', 'FORMAT.md', 'MODEL.md', 'RECORDING.md', 'SUITES.md', 'SUMMARY.md', 'trace.schema.json')
+DOCUMENTS = ('CAUSES.md', 'FORMAT.md', 'MODEL.md', 'RECORDING.md', 'SUITES.md', 'SUMMARY.md',
+             'TIMELINE.md', 'trace.schema.json')
 COMPLETIONS = {'bash': 'usr/share/bash-completion/completions/{}', 'zsh': 'usr/share/zsh/vendor-completions/_{}',
                'fish': 'usr/share/fish/vendor_completions.d/{}.fish'}
 PRIVATE, OVERRIDES = 'usr/lib/taskaudit', 'usr/share/lintian/overrides/taskaudit'
@@ -45,8 +46,8 @@ SCRIPTS = {'taskaudit-run': 'ompt/taskaudit-run', 'taskaudit-explain': 'tools/ex
 # What the scripts import and read.
 NEEDED = ('ompt/outcomes.py', 'ompt/repeating.py', 'ompt/running.py', 'ompt/runs.py', 'ompt/surroundings.py',
           'tools/answers.py', 'tools/checkers.py', 'tools/explanations.py', 'tools/fields.py', 'tools/judging.py',
-          'tools/junit.py', 'tools/orders.py', 'tools/page.py', 'tools/recording.py', 'tools/summary.py', 'tools/traces.py',
-          'tools/texts/version', 'tests/model.py', 'docs/trace.schema.json')
+          'tools/junit.py', 'tools/orders.py', 'tools/page.py', 'tools/recording.py', 'tools/summary.py',
+          'tools/timeline.py', 'tools/traces.py', 'tools/texts/version', 'tests/model.py', 'docs/trace.schema.json')
 LIBRARIES = ('libtaskaudit_ompt.so', 'libtaskaudit_beside.so')
 # The scripts have match statements.
 OLDEST_PYTHON = (3, 10)
