@@ -6,8 +6,10 @@ import subprocess
 import sys
 from contextlib import closing
 
+from contents import BLOCK
 from explanations import explain, lines_of, lines_of_order
 from recording import Recording
+from traces import Trace
 
 # The exit status of each answer, by its first word.
 STATUSES = {'yes': 0, 'no': 1, 'malformed': 2}
@@ -40,13 +42,14 @@ class Places:
 class Answer:
     """What the check says of a file, its exit status, why the file has a part of a run only, and the explanation."""
 
-    def __init__(self, path, checker, log=sys.stderr):
-        self.text, self.status = check(checker, path, log)
+    def __init__(self, path, checker, progress, log=sys.stderr):
+        self.text, self.status = check(checker, path, log, progress)
         self.recording = Recording(path)
         counted = re.match(r'yes: (\d+) records', self.text)
         self.partial = self.recording.partial(int(counted[1]) if counted else None)
-        with closing(order(checker, path)) as it:
-            self.found = explain(path, self.text, it)
+        self.trace = Trace(path, progress)
+        with closing(order(checker, path, progress)) as it:
+            self.found = explain(self.trace, self.text, it)
         if self.partial:
             self.say_of_a_part()
 
@@ -87,13 +90,15 @@ class Answer:
         return '\n'.join(lines)
 
 
-def check(checker, file, log):
+def check(checker, file, log, progress):
     """The answer of the check, and its exit status. Its other output, as that it is built, goes to the log."""
     words = [*checker, 'check']
+    progress.say('checking ..')
     with open(file, 'rb') as trace:
         ran = subprocess.Popen(words, stdin=trace, stdout=subprocess.PIPE, stderr=subprocess.PIPE, text=True)
     last = ''
     for line in ran.stderr:
+        progress.clear()
         log.write(last)
         log.flush()
         last = line
@@ -103,15 +108,16 @@ def check(checker, file, log):
     return answer or last, ran.wait()
 
 
-def order(checker, file):
+def order(checker, file, progress):
     """Yields thread and seq of each record in the order of the answer."""
     words = [*checker, 'order']
-    with open(file, 'rb') as trace, subprocess.Popen(words, stdin=trace, stdout=subprocess.PIPE, text=True) as ran:
+    progress.say('asking for an order ..')
+    with open(file, 'rb') as trace, subprocess.Popen(words, stdin=trace, stdout=subprocess.PIPE) as ran:
         try:
             next(ran.stdout, None)
-            for line in ran.stdout:
-                thread, seq = line.split()
-                yield int(thread), int(seq)
+            while block := ran.stdout.readlines(BLOCK):
+                numbers = [*map(int, b''.join(block).split())]
+                yield from zip(numbers[::2], numbers[1::2])
         finally:
             # nobody asks for the rest of the order
             ran.kill()

@@ -4,6 +4,8 @@ from collections import defaultdict, deque, namedtuple
 from heapq import heapify, heappop, heappush
 from itertools import groupby
 
+from contents import CREATES, MOVES
+
 # The limit of the search for a shortest cycle; past it the shortest one found so far is used.
 MOST_LOOKED_AT = 10**6
 # The number of records kept at the begin and at the end of a segment of an order.
@@ -44,7 +46,7 @@ class Steps:
 
     def __init__(self, trace):
         self.creations, self.suspensions, self.starts, self.events = {}, defaultdict(list), {}, []
-        for record in trace.called('task_create', 'task_schedule', 'cancel'):
+        for record in trace.doing(CREATES | MOVES):
             it = Event(record.number, record.thread, record.seq, record.created, needs(record), record.begun_turn,
                        record.suspended_turn if trace.tells_turns else None)
             if it.created is not None:
@@ -104,8 +106,7 @@ def shortest_circle(trace):
     lines = [it.number for pair in best for it in pair]
     # where a record awaits one and is awaited, it ends a pair and begins the next one
     lines = [it for at, it in enumerate(lines) if it != lines[at - 1]]
-    found = {it.number: it for it in trace.among(set(lines).__contains__)}
-    return [found[it] for it in lines]
+    return [*trace.at(lines)]
 
 
 def circle_of_heads(steps, lanes, left):

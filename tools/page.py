@@ -6,7 +6,6 @@ from html import escape
 from model import AT_START, WAITS_FOR_TASKS, after_record, conflict
 from explanations import lines_of, lines_of_order
 from orders import in_order
-from traces import Trace
 
 # The greatest number of records shown, and of lines of a larger file read around the named one.
 MOST_SHOWN, WHOLE = 1500, 20000
@@ -46,11 +45,11 @@ child</span>%s</p>'''
 KEY_OF_REGION = '<span><i style="border:1px dashed #7a4fa3"></i>a region inside another</span>'
 
 
-def chosen(file, found):
+def chosen(trace, found):
     """The records to show, in an order that they allow."""
-    trace, parts = Trace(file), {it.number for _, it in found.shown}
-    is_small, line = trace.count() <= WHOLE, found.line or 2
-    records = in_order([*trace.among(lambda it: is_small or abs(it - line) < MOST_SHOWN or it in parts)])
+    parts, numbers, line = {it.number for _, it in found.shown}, range(2, len(trace.contents.roles)), found.line or 2
+    is_small = len(numbers) < WHOLE
+    records = in_order(trace.at(it for it in numbers if is_small or abs(it - line) < MOST_SHOWN or it in parts))
     at = next((at for at, it in enumerate(records) if it.number == line), 0)
     begin = max(0, min(at - MOST_SHOWN * 2 // 3, len(records) - MOST_SHOWN))
     return records[begin:begin + MOST_SHOWN]
@@ -223,9 +222,9 @@ def as_they_stand(lines):
     return '<pre>' + escape('\n'.join(lines)) + '</pre>\n'
 
 
-def page(file, found):
+def page(trace, found):
     """The page, as text."""
-    records = [] if found.answer.startswith('unreadable') else chosen(file, found)
+    records = [] if found.answer.startswith('unreadable') else chosen(trace, found)
     order = ''
     if found.order:
         order = f'<p>{escape(found.order.sentence)}</p>\n' + as_they_stand(lines_of_order(found.order))
