@@ -105,10 +105,11 @@ class Contents:
         if turn or (it['thread'], task) in self.turns:
             self.turns[it['thread'], task] = turn
 
-    def lines_of_thread(self, thread, last=None):
-        """Returns the lines of the thread, up to the line `last`."""
+    def lines_of_thread(self, thread, first=0, last=None):
+        """Returns the lines of the thread behind `first`, up to the line `last`."""
         lines = self.threads.get(thread, array('L'))
-        return lines if last is None else lines[:bisect_right(lines, last)]
+        end = len(lines) if last is None else bisect_right(lines, last)
+        return lines[bisect_right(lines, first):end]
 
     def doing(self, roles):
         """Yields the lines whose records do one of these."""

@@ -2,6 +2,7 @@
 words are those of docs/MODEL.md; `model` restates its definitions."""
 import json
 import re
+from array import array
 from collections import Counter, deque, namedtuple
 from itertools import islice
 
@@ -34,14 +35,20 @@ DEEPEST = 127
 
 class Explanation:
     """An answer, sentences about it, and the lines of the file that it is about, each with its part; for a no also
-    an order in which the named task is not complete."""
+    an order in which the named task is not complete, with all lines before the named one there, and that in words."""
 
     def __init__(self, answer):
         self.answer, self.sentences, self.shown = answer.rstrip(), [], []
-        self.line = self.task = self.order = None
+        self.line = self.task = self.order = self.event = None
+        self.before = array('L')
 
     def say(self, text):
         self.sentences.append(text)
+
+    def records(self):
+        """The records that are told: those that it is about, and those of the order."""
+        order = [*self.order.first, *self.order.last] if self.order else []
+        return [it for _, it in [*self.shown, *order]]
 
     def show(self, record, part):
         if all(record.number != it.number for _, it in self.shown):
@@ -50,7 +57,7 @@ class Explanation:
 
 
 def explain(trace, answer, order):
-    """Explains the answer on the file. `order` yields thread and seq of each record in the order of a no."""
+    """Explains the answer on the file. `order` yields the line of each record in the order of a no."""
     told, found = ANSWER.fullmatch(answer), Explanation(answer)
     if told is None or told['other'] is not None:
         found.say('The file was not judged.')
@@ -170,8 +177,8 @@ def say_when_finished(found, record, parts, starts):
 
 def explain_order(found, trace, record, order):
     """The segment of the order from the last record of the task to the named record."""
-    own, lines = {*trace.contents.tasks[found.task]}, (trace.line_of(*it) for it in order)
-    segment = orders.segment_up_to(lines, record.number, own)
+    lines = kept(order, record.number, found.before)
+    segment = orders.segment_up_to(lines, record.number, {*trace.contents.tasks[found.task]})
     if segment is None:
         return
     parts = {it.number: f', {part}' for part, it in found.shown}
@@ -184,8 +191,19 @@ def explain_order(found, trace, record, order):
     else:
         event = f'task {record.started} starts'
     stands = 'created only after' if segment.first[0] == record.number else 'not complete when'
-    sentence = f'The events may also have happened in this order, in which task {found.task} is {stands} {event}:'
+    found.event = f'task {found.task} is {stands} {event}'
+    sentence = f'The events may also have happened in this order, in which {found.event}:'
     found.order = Order(sentence, first, segment.left_out(), last)
+
+
+def kept(order, named, before):
+    """Yields the lines of the order, and keeps those before the named one."""
+    for it in order:
+        yield it
+        if it == named:
+            break
+        before.append(it)
+    yield from order
 
 
 # Regions inside others
@@ -261,7 +279,7 @@ def first(records):
 # The causes, in the order of their numbers
 
 def seq_gap(found, trace, record):
-    before = len(trace.contents.lines_of_thread(record.thread, record.number - 1))
+    before = len(trace.contents.lines_of_thread(record.thread, last=record.number - 1))
     last = previous_in_thread(trace, record)
     if last:
         found.show(last, f'the record before it of thread {record.thread}')
@@ -329,37 +347,32 @@ def turn_gap(found, trace, record):
     """Which of the rules of docs/MODEL.md, HasTurnGap, hold of the record."""
     say_other_turn(found, trace, record)
     (task, turn), made = record.begun_turn, trace.maker(record.started)
-    same = first(it for it in begins_before(trace, record) if it.begun_turn[1] == turn)
+    begins = [(number, it['next_turn'], it['thread'] == record.thread)
+              for number, it in trace.values(trace.lines_of_task(task, RUNS)) if it['next'] == task]
+    same = first(number for number, other, _ in begins if other == turn and number < record.number)
     if same:
-        found.show(same, f'begins turn {turn} of task {task}')
-        found.say(f'Line {same.number} began turn {turn} of task {task} already, so `next_turn` cannot be {turn}.')
-    later = first(it for it in begins_before(trace, record) if it.thread == record.thread and it.begun_turn[1] > turn)
+        found.show(trace.record(same), f'begins turn {turn} of task {task}')
+        found.say(f'Line {same} began turn {turn} of task {task} already, so `next_turn` cannot be {turn}.')
+    later, other = first(it[:2] for it in begins if it[0] < record.number and it[1] > turn and it[2]) or (None, None)
     if later:
-        found.show(later, f'begins turn {later.begun_turn[1]} of task {task}')
-        found.say(f'Line {later.number} of the same thread began turn {later.begun_turn[1]} of task {task}, a later one than'
-                  f' `next_turn`, {turn}.')
+        found.show(trace.record(later), f'begins turn {other} of task {task}')
+        found.say(f'Line {later} of the same thread began turn {other} of task {task}, a later one than `next_turn`,'
+                  f' {turn}.')
     is_root = made.begun_root == task
     if turn == 0 and is_root:
         found.show(made, f'begins task {task}')
         found.say(f'Task {task} is in turn 0 from line {made.number} on, where it begins, so a later turn must begin here:'
                   ' `next_turn` is 0.')
-    if turn > 0 and not (turn == 1 and is_root or any(it.begun_turn == (task, turn - 1)
-                                                     for it in trace.of_task(task, RUNS))):
+    if turn > 0 and not (turn == 1 and is_root or any(it[1] == turn - 1 for it in begins)):
         found.say(f'`next_turn` is {turn}, and no record begins turn {turn - 1} of task {task}.')
-
-
-def begins_before(trace, record):
-    """Yields the earlier records after which the record's next task runs."""
-    return (it for it in trace.of_task(record.started, RUNS, last=record.number - 1) if it.started == record.started)
 
 
 def say_other_turn(found, trace, record):
     """Where `prior_turn` is not the turn of the prior task, the record that began that."""
     task, turn = record.ended_turn
-    begin = None
-    for it in trace.of_task(task, RUNS | ROOT, last=record.number - 1):
-        if it.thread == record.thread and (it.started == task or it.begun_root == task):
-            begin = it
+    lines = trace.lines_of_task(task, RUNS | ROOT, last=record.number - 1)
+    begin = first(it for it in trace.at(reversed(lines))
+                  if it.thread == record.thread and task in (it.started, it.begun_root))
     right = begin.begun_turn[1] if begin and begin.begun_turn else 0
     if turn != right:
         if begin:

@@ -1,5 +1,5 @@
 """Which task a thread runs, and which initial and implicit tasks are open there (docs/MODEL.md, "Walk")."""
-from collections import namedtuple
+from collections import deque, namedtuple
 
 from contents import FORKS, ROOT, RUNS
 
@@ -15,8 +15,8 @@ Opened = namedtuple('Opened', 'number task outer')
 class Walk:
     """What is open on a thread, the innermost last, and the task that it runs."""
 
-    def __init__(self, nests):
-        self.nests, self.opened, self.current = nests, [], None
+    def __init__(self, nests, opened=(), current=None):
+        self.nests, self.opened, self.current = nests, [*opened], current
 
     @property
     def innermost(self):
@@ -35,31 +35,36 @@ class Walk:
             self.current = outer if self.nests else self.innermost and self.innermost.task
 
 
-def walked(trace, thread, last=None):
-    """Yields number and value of each record of the thread that begins or ends a root, up to the line `last`, with the
-    walk before it; and at the end twice None with the walk behind all."""
-    walk = Walk(trace.version == 3)
-    for number, it in trace.values(turns_of_walk(trace.contents, thread, last)):
+def walked(trace, walk, thread, first=0, last=None):
+    """Goes on with the walk of the thread along the lines behind `first`, up to `last`. Yields number and value of each
+    record that begins or ends a root, before it is gone past."""
+    for number, it in trace.values(turns_of_walk(trace.contents, thread, first, last)):
         if it['cb'] != 'task_schedule':
-            yield number, it, walk
+            yield number, it
         walk.take(number, it)
-    yield None, None, walk
 
 
-def turns_of_walk(contents, thread, last):
+def turns_of_walk(contents, thread, first, last):
     """Returns the lines of the thread that begin or end a root, and of those after which a task runs next the last one
     before each of these and before the end."""
     roles = contents.roles
-    lines = [it for it in contents.lines_of_thread(thread, last) if roles[it] & (ROOT | RUNS)]
+    lines = [it for it in contents.lines_of_thread(thread, first, last) if roles[it] & (ROOT | RUNS)]
     return [one for one, other in zip(lines, [*lines[1:], None])
             if other is None or (roles[one] | roles[other]) & ROOT]
 
 
+def walks_behind(trace, thread, lines):
+    """Yields the walk of the thread behind each of these lines, which do not fall."""
+    walk, first = Walk(trace.version == 3), 0
+    for last in lines:
+        deque(walked(trace, walk, thread, first, last), maxlen=0)
+        yield Walk(walk.nests, walk.opened, walk.current)
+        first = last
+
+
 def walk_before(trace, record):
     """The walk of the record's thread before it."""
-    for _, _, walk in walked(trace, record.thread, record.number - 1):
-        pass
-    return walk
+    return next(walks_behind(trace, record.thread, [record.number - 1]))
 
 
 def inner_region(trace, root):
@@ -69,11 +74,11 @@ def inner_region(trace, root):
     begun_by = fork and trace.maker(fork.forked[0])
     if begun_by is None or begun_by.begun_initial is not None:
         return None
-    begin = end = None
-    for number, it, walk in walked(trace, fork.thread):
-        if number is not None and begin is None and number > fork.number and begins_inside(it, walk, *fork.forked):
+    walk, begin, end = Walk(root.nests), None, None
+    for number, it in walked(trace, walk, fork.thread):
+        if begin is None and number > fork.number and begins_inside(it, walk, *fork.forked):
             begin = trace.record(number)
-        elif begin is not None and it and (it['endpoint'], it['task']) == ('end', begin.begun_root):
+        elif begin and (it['endpoint'], it['task']) == ('end', begin.begun_root):
             end = trace.record(number)
             break
     return Inner(fork, begin, end)
@@ -90,10 +95,9 @@ def fork_of(trace, root):
     stops; or None."""
     if root.joined:
         return trace.fork(root.joined.parallel)
-    walk, last = walk_before(trace, root), None
-    for last in begun_there(trace, root, walk.current) if walk.opened else ():
-        pass
-    return last
+    walk = walk_before(trace, root)
+    last = deque(begun_there(trace, root, walk.current) if walk.opened else (), maxlen=1)
+    return last[0] if last else None
 
 
 def begun_there(trace, record, task):
