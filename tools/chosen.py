@@ -17,8 +17,8 @@ Group = namedtuple('Group', 'left_out records walks')
 
 
 class Chosen:
-    """The groups of records to show, and how many are left out behind the last one. `ranks` has by line the place of its
-    record in the order, and `found` is the answer."""
+    """The groups of records to show, and how many are left out behind the last one; their threads, first those that have
+    records of the answer. `ranks` has by line the place of its record in the order, and `found` is the answer."""
 
     def __init__(self, trace, found):
         self.trace, self.found, wanted = trace, found, {it.number for _, it in found.shown}
@@ -31,7 +31,8 @@ class Chosen:
         spans = [(0, self.count)] if self.count <= WHOLE else spans_of(self.ranks, wanted, found.line)
         records = [[*trace.at(lines[begin:end])] for begin, end in spans]
         self.records = [it for some in records for it in some]
-        self.threads = sorted({it.thread for it in self.records})
+        told = {it.thread for _, it in found.shown}
+        self.threads = sorted({it.thread for it in self.records}, key=lambda it: (it not in told, it))
         walks = self.walks_before([begin for begin, _ in spans])
         ends = [0, *(end for _, end in spans)]
         self.groups = [Group(begin - end, some, walk) for (begin, _), end, some, walk in zip(spans, ends, records, walks)]

@@ -158,6 +158,7 @@ class ByLengths:
 
     def __init__(self, trace, wanted, near):
         self.trace, self.wanted, self.near = trace, wanted, near
+        trace.progress.say('sorting the records ..')
         both = zip(trace.contents.lengths, trace.contents.roles)
         self.key = array('Q', (2 * length + bool(role & FINISHES) for length, role in both)).__getitem__
 

@@ -15,7 +15,7 @@ STYLE = '''
 body { font: 14px sans-serif; margin: 16px; color: #222; }
 h1 { font-size: 20px; }
 pre { white-space: pre-wrap; background: #f6f6f6; padding: 8px; }
-.sheet { overflow-x: auto; border: 1px solid #ccc; display: flex; }
+.sheet { overflow: auto; max-height: 85vh; border: 1px solid #ccc; display: flex; }
 .sheet svg { flex: none; }
 .names { position: sticky; left: 0; z-index: 1; flex: none; width: 86px; background: #fff; border-right: 1px solid #ccc; }
 .names div { height: 56px; line-height: 56px; margin-bottom: 8px; padding-left: 8px; }
@@ -46,7 +46,7 @@ text { font: 11px sans-serif; }
 .texts span { position: absolute; white-space: nowrap; }
 .texts .named { color: #c62828; font-weight: bold; }
 .small { position: relative; border: 1px solid #ccc; margin-bottom: 6px; }
-.small svg { display: block; width: 100%; }
+.small svg { display: block; width: 100%; max-height: 200px; }
 .small .at, .small .leader { stroke-width: 2; stroke-dasharray: none; vector-effect: non-scaling-stroke; }
 .small .bar { stroke: none; }
 .small .view { position: absolute; top: -3px; bottom: -3px; border: 2px solid #444; border-radius: 3px; }
@@ -147,6 +147,7 @@ def page(answer, places):
     found, sheet, order = answer.found, '', ''
     if answer.kind in DRAWN:
         chosen = Chosen(answer.trace, found)
+        answer.trace.progress.say('drawing ..')
         places.look_up(it.value.get('codeptr') for it in chosen.records)
         sheet = sheet_of(chosen, places.of)
     if found.order:

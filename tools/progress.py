@@ -3,7 +3,7 @@ import sys
 
 
 class Progress:
-    """What is being done, in one line that each next one replaces."""
+    """What is being done, in one line that each next one replaces; as a context it clears that line at its end."""
 
     def __init__(self, name, out=sys.stderr):
         self.name, self.out, self.is_seen, self.said = name, out, out.isatty(), ''
@@ -24,3 +24,9 @@ class Progress:
 
     def clear(self):
         self.say('')
+
+    def __enter__(self):
+        return self
+
+    def __exit__(self, *_):
+        self.clear()
