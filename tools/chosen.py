@@ -25,7 +25,7 @@ class Chosen:
         self.count = len(trace.contents.roles) - 2
         self.is_malformed = found.line is not None and found.task is None
         lines = self.in_order(wanted, self.count if self.count <= WHOLE else NEAR)
-        self.ranks = array('L', bytes(8 * (self.count + 2)))
+        self.ranks = array('L', [0]) * (self.count + 2)
         for at, line in enumerate(lines):
             self.ranks[line] = at
         spans = [(0, self.count)] if self.count <= WHOLE else spans_of(self.ranks, wanted, found.line)
