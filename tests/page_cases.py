@@ -13,8 +13,8 @@ TOP = os.path.dirname(os.path.dirname(os.path.abspath(__file__)))
 LIMIT = 120
 # More than `explain` may take, in seconds of processor, for a no of 210,000 records; it takes about 2.
 MOST_SECONDS = 4
-# How many arrows of a kind a page has at most: those to the named record, and others.
-MOST_ARROWS = 24 + 1000
+# How many arrows of a kind that do not lead to the named record a page has at most.
+MOST_ARROWS = 1000
 
 SYMBOLIZER = """#!/bin/sh
 echo "$*" >> "${0%/*}/calls"
@@ -34,10 +34,10 @@ document.body.append("looked: " + told.join(" ") + ";");
 
 
 class File:
-    """The lines of a trace file of version 2."""
+    """The lines of a trace file."""
 
-    def __init__(self):
-        self.lines, self.seqs = ['{"format":"task-credit-audit","version":2}'], {}
+    def __init__(self, version=2):
+        self.lines, self.seqs = [json.dumps({'format': 'task-credit-audit', 'version': version})], {}
 
     def add(self, thread, seen, cb, **members):
         seq = self.seqs[thread] = self.seqs.get(thread, -1) + 1
@@ -45,6 +45,12 @@ class File:
 
     def begin(self, thread, task):
         self.add(thread, 0, 'implicit_task', endpoint='begin', task=task, parallel=0, actual=1, index=0, flags=['initial'])
+
+    def begin_region(self, task, parallel, member):
+        """On thread 0 the task begins a region of one member, which begins."""
+        self.add(0, 0, 'parallel_begin', task=task, parallel=parallel, requested=1)
+        self.add(0, 0, 'implicit_task', endpoint='begin', task=member, parallel=parallel, actual=1, index=0,
+                 flags=['implicit'])
 
     def create(self, thread, seen, parent, child, deps=False):
         self.add(thread, seen, 'task_create', task=parent, child=child, flags=['explicit'], deps=deps)
@@ -71,26 +77,33 @@ class File:
         return '\n'.join([*self.lines, ''])
 
 
-def long_no(count):
+def long_no(count, is_inner=False):
     """A no of 9 * count + 13 records. Task 1 on thread 0 creates task 100, and then 2 * count tasks, of which each runs at
     once; half way task 100 starts on thread 1 and is suspended. Then a taskwait of task 1 ends. On thread 2 count tasks run,
-    and then task 100 goes on, and is finished in the last line."""
-    file = File()
+    and then task 100 goes on, and is finished in the last line. In an inner one task 9 does this in place of task 1, in
+    region 6, which task 3 begins on line 7."""
+    file, task = File(3 if is_inner else 2), 9 if is_inner else 1
     file.begin(0, 1)
-    file.create(0, 0, 1, 100)
+    if is_inner:
+        file.begin_region(1, 5, 2)
+        file.create(0, 0, 2, 3)
+        file.run(0, 0, 'switch', (2, 0), (3, 0))
+        file.begin_region(3, 6, 9)
+    file.create(0, 0, task, 100)
     for at in range(2 * count):
         # entry number `count` is that of task 101
-        file.child(0, at + (at >= count), (1, at), at + 1, 1000 + at)
-    file.wait(0, 2 * count + 1, 1)
-    file.begin(1, 2)
-    file.run(1, count, 'switch', (2, 0), (100, 0))
-    file.run(1, count, 'yield', (100, 0), (2, 1))
-    file.child(1, count, (2, 1), 0, 101)
-    file.begin(2, 3)
+        file.child(0, at + (at >= count), (task, at), at + 1, 1000 + at)
+    file.wait(0, 2 * count + 1, task)
+    second, third = 11, 12
+    file.begin(1, second)
+    file.run(1, count, 'switch', (second, 0), (100, 0))
+    file.run(1, count, 'yield', (100, 0), (second, 1))
+    file.child(1, count, (second, 1), 0, 101)
+    file.begin(2, third)
     for at in range(count):
-        file.child(2, 2 * count + 1 + at, (3, at), at, 10**6 + at)
-    file.run(2, 3 * count + 1, 'switch', (3, count), (100, 1))
-    file.run(2, 3 * count + 1, 'complete', (100, 1), (3, count + 1), root=1, path=[0], kept=0)
+        file.child(2, 2 * count + 1 + at, (third, at), at, 10**6 + at)
+    file.run(2, 3 * count + 1, 'switch', (third, count), (100, 1))
+    file.run(2, 3 * count + 1, 'complete', (100, 1), (third, count + 1), root=task, path=[0], kept=0)
     return file.text()
 
 
@@ -167,7 +180,16 @@ def fault_of_arrows(program):
     with tempfile.TemporaryDirectory() as folder:
         page = page_of(program, folder, many_arrows())
     counts = [page.count(f'<path class="{kind}') for kind in ('dependence', 'waited')]
-    return None if 150 <= counts[0] <= MOST_ARROWS and 350 <= counts[1] <= MOST_ARROWS else f'{counts} arrows'
+    # each of the 350 tasks has one to the first wait behind it
+    return None if counts == [MOST_ARROWS, 350] else f'{counts} arrows'
+
+
+def fault_of_frames(program):
+    """Whether another number of groups than three, all but the last one, has the frame of an inner region, or None."""
+    with tempfile.TemporaryDirectory() as folder:
+        page = page_of(program, folder, long_no(2000, is_inner=True))
+    count = page.count('>region 6, begun by task 3 on line 7; task 3 does not go on here<')
+    return None if count == page.count('class="region"') == 3 else f'{count} frames'
 
 
 def fault_of_places(program, text):
@@ -197,13 +219,15 @@ def fault_of_progress(program):
         it.write(long_no(10))
         it.flush()
         _, errors = explain(program, it.name)
-        subprocess.run([os.path.join(TOP, 'tools/explain'), '--checker', program, it.name], timeout=LIMIT,
-                       stdout=subprocess.DEVNULL, stderr=theirs)
+        for name in (it.name, f'{it.name}.none'):
+            subprocess.run([os.path.join(TOP, 'tools/explain'), '--checker', program, name], timeout=LIMIT,
+                           stdout=subprocess.DEVNULL, stderr=theirs)
     os.close(theirs)
     said = os.read(ours, 1 << 16).decode()
     os.close(ours)
     wanted = ('\rtaskaudit-explain: checking ..', '\rtaskaudit-explain: reading the records .. 100 %')
-    is_cleared = re.search('\r +\r$', said) and '\n' not in said
+    # the line is cleared at the end, and before an error
+    is_cleared = re.search(r'\r +\r\rtaskaudit-explain: checking \.\.\r +\rtaskaudit-explain: .*: No such file', said)
     return None if all(it in said for it in wanted) and is_cleared and not errors else f'{said!r}, {errors!r}'
 
 
@@ -224,6 +248,7 @@ def fault_of_time(program, *words):
 def faults(program, small, chromium):
     """Yields a name for each of these checks, and what is wrong, or None. `small` is the text of a small no."""
     yield 'many arrows', fault_of_arrows(program)
+    yield 'frames in groups', fault_of_frames(program)
     yield 'places on the page', fault_of_places(program, small)
     yield 'progress', fault_of_progress(program)
     yield 'time of a large no', fault_of_time(program)

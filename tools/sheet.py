@@ -217,7 +217,8 @@ class Lane:
             self.bar(self.walk.current, begin, None)
         elif self.records and begin is not self.records[-1]:
             self.bar(self.walk.current, begin, self.records[-1])
-        for frame in self.frames:
+        # a thread without any record from here on has no frame
+        for frame in self.frames if self.goes_on or self.records else ():
             self.region(frame, None)
 
     def take(self, it):
