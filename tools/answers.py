@@ -9,6 +9,7 @@ from contextlib import closing
 
 from contents import BLOCK
 from explanations import explain, lines_of, lines_of_order
+from progress import SILENT
 from recording import Recording
 from traces import Trace
 
@@ -60,7 +61,7 @@ class Places:
 class Answer:
     """What the check says of a file, its exit status, why the file has a part of a run only, and the explanation."""
 
-    def __init__(self, path, checker, progress, log=sys.stderr):
+    def __init__(self, path, checker, log=sys.stderr, progress=SILENT):
         self.text, self.status = check(checker, path, log, progress)
         self.recording = Recording(path)
         counted = re.match(r'yes: (\d+) records', self.text)

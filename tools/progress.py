@@ -6,7 +6,7 @@ class Progress:
     """What is being done, in one line that each next one replaces; as a context it clears that line at its end."""
 
     def __init__(self, name, out=sys.stderr):
-        self.name, self.out, self.is_seen, self.said = name, out, out.isatty(), ''
+        self.name, self.out, self.is_seen, self.said = name, out, bool(name) and out.isatty(), ''
 
     def say(self, what):
         """Says what is done now; an empty text clears the line."""
@@ -30,3 +30,7 @@ class Progress:
 
     def __exit__(self, *_):
         self.clear()
+
+
+# For tools that say nothing.
+SILENT = Progress('')

@@ -9,7 +9,7 @@ from itertools import islice
 
 from contents import RUNS, WAITS, Contents, values_of
 from model import RECORDS_SAY, said_by
-from progress import Progress
+from progress import SILENT
 
 # How many lines are taken from their places and parsed at once.
 SOME = 100
@@ -53,8 +53,8 @@ class Trace:
     """A file. One pass finds what is where in it, once that is asked. `lines`, `matches`, `records` and `among` do without:
     they go along the lines up to those that are wanted."""
 
-    def __init__(self, path, progress=None):
-        self.path, self.progress = path, progress or Progress('')
+    def __init__(self, path, progress=SILENT):
+        self.path, self.progress = path, progress
 
     @cached_property
     def data(self):
