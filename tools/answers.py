@@ -4,10 +4,14 @@ import re
 import shutil
 import subprocess
 import sys
+from collections import defaultdict
 from contextlib import closing
 
+from contents import BLOCK
 from explanations import explain, lines_of, lines_of_order
+from progress import SILENT
 from recording import Recording
+from traces import Trace
 
 # The exit status of each answer, by its first word.
 STATUSES = {'yes': 0, 'no': 1, 'malformed': 2}
@@ -21,32 +25,50 @@ class Places:
     """Where code is in the sources of a program, as far as that is known."""
 
     def __init__(self, program):
-        self.program = program
+        self.program, self.known = program, {}
         self.tool = shutil.which('llvm-symbolizer') or shutil.which('addr2line')
 
     def of(self, code):
         """The function, file and line of a `codeptr`, which is a return address: the call is just before it."""
-        told = re.fullmatch(r'(?:(.*)\+)?(0x[0-9a-f]+)', code) if isinstance(code, str) else None
-        if not told or not self.tool or not (told[1] or self.program):
-            return None
-        option = '--obj' if self.tool.endswith('llvm-symbolizer') else '--exe'
-        words = [self.tool, f'{option}={told[1] or self.program}', '--functions', '--demangle', hex(int(told[2], 16) - 1)]
-        if option == '--obj':
-            words.insert(-1, '--output-style=GNU')
-        lines = subprocess.run(words, stdout=subprocess.PIPE, stderr=subprocess.DEVNULL, text=True).stdout.splitlines()
-        return f'{lines[1]} in {lines[0]}' if len(lines) > 1 and not lines[1].startswith('??') else None
+        if isinstance(code, str) and code not in self.known:
+            self.look_up([code])
+        return self.known.get(code) if isinstance(code, str) else None
+
+    def look_up(self, codes):
+        """Finds the places of these, by one process for each object that has some."""
+        by_object = defaultdict(dict)
+        for code in {it for it in codes if isinstance(it, str)} - self.known.keys():
+            told = re.fullmatch(r'(?:(.*)\+)?(0x[0-9a-f]+)', code)
+            self.known[code] = None
+            if told and self.tool and (told[1] or self.program):
+                by_object[told[1] or self.program][code] = int(told[2], 16) - 1
+        for name, some in by_object.items():
+            self.known |= zip(some, self.found(name, some.values()))
+
+    def found(self, name, places):
+        """Returns the function, file and line at each of these places of an object, or None."""
+        option = ['--output-style=GNU', '--obj'] if self.tool.endswith('llvm-symbolizer') else ['--exe']
+        words = [self.tool, *option[:-1], f'{option[-1]}={name}', '--functions', '--demangle', '--addresses']
+        ran = subprocess.run(words, input=''.join(f'{at:#x}\n' for at in places), stdout=subprocess.PIPE,
+                             stderr=subprocess.DEVNULL, text=True)
+        # behind each address the innermost function comes first
+        told = [it.split('\n') for it in re.split(r'^0x[0-9a-f]+\n', ran.stdout, flags=re.M)[1:]]
+        if len(told) != len(places):
+            return [None] * len(places)
+        return [f'{it[1]} in {it[0]}' if len(it) > 1 and it[1] and not it[1].startswith('??') else None for it in told]
 
 
 class Answer:
     """What the check says of a file, its exit status, why the file has a part of a run only, and the explanation."""
 
-    def __init__(self, path, checker, log=sys.stderr):
-        self.text, self.status = check(checker, path, log)
+    def __init__(self, path, checker, log=sys.stderr, progress=SILENT):
+        self.text, self.status = check(checker, path, log, progress)
         self.recording = Recording(path)
         counted = re.match(r'yes: (\d+) records', self.text)
         self.partial = self.recording.partial(int(counted[1]) if counted else None)
-        with closing(order(checker, path)) as it:
-            self.found = explain(path, self.text, it)
+        self.trace = Trace(path, progress)
+        with closing(order(checker, path, progress)) as pairs:
+            self.found = explain(self.trace, self.text, (self.trace.line_of(*it) for it in pairs))
         if self.partial:
             self.say_of_a_part()
 
@@ -71,6 +93,7 @@ class Answer:
             return [{'line': it.number, 'part': part, 'record': it.value, 'place': places.of(it.value.get('codeptr'))}
                     for part, it in shown]
         found = self.found
+        places.look_up(it.value.get('codeptr') for it in found.records())
         told = {'answer': found.answer, 'status': self.status, 'partial': self.partial, 'line': found.line,
                 'task': found.task, 'records': records(found.shown), 'sentences': found.sentences, 'order': None}
         if found.order:
@@ -81,19 +104,22 @@ class Answer:
     def as_text(self, places):
         """The explanation as lines."""
         found = self.found
+        places.look_up(it.value.get('codeptr') for it in found.records())
         lines = [found.answer, '', *lines_of(found.shown, places.of), *[''] * bool(found.shown), *found.sentences]
         if found.order:
             lines += ['', found.order.sentence, '', *lines_of_order(found.order, places.of)]
         return '\n'.join(lines)
 
 
-def check(checker, file, log):
+def check(checker, file, log, progress):
     """The answer of the check, and its exit status. Its other output, as that it is built, goes to the log."""
     words = [*checker, 'check']
+    progress.say('checking ..')
     with open(file, 'rb') as trace:
         ran = subprocess.Popen(words, stdin=trace, stdout=subprocess.PIPE, stderr=subprocess.PIPE, text=True)
     last = ''
     for line in ran.stderr:
+        progress.clear()
         log.write(last)
         log.flush()
         last = line
@@ -103,15 +129,16 @@ def check(checker, file, log):
     return answer or last, ran.wait()
 
 
-def order(checker, file):
+def order(checker, file, progress):
     """Yields thread and seq of each record in the order of the answer."""
     words = [*checker, 'order']
-    with open(file, 'rb') as trace, subprocess.Popen(words, stdin=trace, stdout=subprocess.PIPE, text=True) as ran:
+    progress.say('asking for an order ..')
+    with open(file, 'rb') as trace, subprocess.Popen(words, stdin=trace, stdout=subprocess.PIPE) as ran:
         try:
             next(ran.stdout, None)
-            for line in ran.stdout:
-                thread, seq = line.split()
-                yield int(thread), int(seq)
+            while block := ran.stdout.readlines(BLOCK):
+                numbers = [*map(int, b''.join(block).split())]
+                yield from zip(numbers[::2], numbers[1::2])
         finally:
             # nobody asks for the rest of the order
             ran.kill()

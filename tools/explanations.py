@@ -2,14 +2,16 @@
 words are those of docs/MODEL.md; `model` restates its definitions."""
 import json
 import re
+from array import array
 from collections import Counter, deque, namedtuple
 from itertools import islice
 
 import orders
+from contents import FINISHES, LISTS, MOVES, ROOT, RUNS, WAITS
 from fields import faults_of
-from model import (AT_START, BARRIERS, CALLED_BARRIERS, DEMANDS_NEXT, DISCARD_STATE, NEXT_STATE, START_STATE,
-                   after_record, conflict, innermost, may, moves_by, state_after)
-from traces import Trace, member
+from model import (BARRIERS, CALLED_BARRIERS, DEMANDS_NEXT, DISCARD_STATE, NEXT_STATE, START_STATE, conflict, may, moves_by,
+                   state_after)
+from walks import begun_there, inner_region, walk_before
 
 ANSWER = re.compile(r'(?:malformed: (?P<malformed>.*): cause (?P<cause>\d+) \w+'
                     r'|no: (?P<no>.*): task (?P<task>\d+) (?:unfinished|must precede task (?P<dependent>\d+))'
@@ -22,11 +24,6 @@ Order = namedtuple('Order', 'sentence first left_out last')
 # A move of a task: its line and thread, and the turn that begins or ends by it, where one does.
 Move = namedtuple('Move', 'number thread turn move')
 
-# A parallel region inside another, begun by a task that is no initial one: the record that begins it, and on its thread
-# the begin of a root of it, for which the task stops, and the end of that root, where the task goes on. Each of the last
-# two is None where it is not in the file.
-Inner = namedtuple('Inner', 'fork begin end')
-
 AFTER_A_NO = 'docs/CAUSES.md, "After a no", says how to tell a recorder that read too early from a runtime that was.'
 # The greatest number of records of one kind shown, and of tasks named in a row.
 MOST_SHOWN = 8
@@ -38,14 +35,20 @@ DEEPEST = 127
 
 class Explanation:
     """An answer, sentences about it, and the lines of the file that it is about, each with its part; for a no also
-    an order in which the named task is not complete."""
+    an order in which the named task is not complete, with all lines before the named one there, and that in words."""
 
     def __init__(self, answer):
         self.answer, self.sentences, self.shown = answer.rstrip(), [], []
-        self.line = self.task = self.order = None
+        self.line = self.task = self.order = self.event = None
+        self.before = array('L')
 
     def say(self, text):
         self.sentences.append(text)
+
+    def records(self):
+        """The records that are told: those that it is about, and those of the order."""
+        order = [*self.order.first, *self.order.last] if self.order else []
+        return [it for _, it in [*self.shown, *order]]
 
     def show(self, record, part):
         if all(record.number != it.number for _, it in self.shown):
@@ -53,9 +56,9 @@ class Explanation:
         return record
 
 
-def explain(path, answer, order):
-    """Explains the answer on the file. `order` yields thread and seq of each record in the order of a no."""
-    told, trace, found = ANSWER.fullmatch(answer), Trace(path), Explanation(answer)
+def explain(trace, answer, order):
+    """Explains the answer on the file. `order` yields the line of each record in the order of a no."""
+    told, found = ANSWER.fullmatch(answer), Explanation(answer)
     if told is None or told['other'] is not None:
         found.say('The file was not judged.')
         return found
@@ -111,7 +114,7 @@ def explain_wait(found, trace, record):
         begin = open_region(trace, record)
         found.show(begin, f'the begin of the {kind} that ends on line {record.number}')
     above = trace.ancestors(found.task)
-    found.show(trace.creation(found.task), f'the creation of task {found.task}')
+    found.show(trace.maker(found.task), f'the creation of task {found.task}')
     chain = few([f'task {one} is a child of task {other}' for one, other in zip(above, above[1:])], ', ')
     found.say(f'Line {record.number} ends a {kind} of task {task}, which waits for task {found.task}: {chain}.')
 
@@ -121,22 +124,26 @@ def explain_start(found, trace, record):
     later = record.wait_completed if record.wait_completed is not None else record.started
     lists = {}
     for task in (found.task, later):
-        for it in trace.of_task(task):
-            if it.created == task:
-                found.show(it, f'the creation of task {task}')
-            if it.dependences and it.dependences[0] == task:
-                found.show(it, f'what task {task} depends on')
-                lists[task] = it.dependences[1]
-    pairs = [(one, other) for one in lists[found.task] for other in lists[later] if conflict(one, other)]
-    one, other = pairs[0]
+        found.show(trace.maker(task), f'the creation of task {task}')
+        for it in trace.of_task(task, LISTS):
+            lists[task] = found.show(it, f'what task {task} depends on').dependences[1]
+    one, other = first_conflict(lists[found.task], lists[later])
     found.say(f"Task {later} depends on task {found.task}, a sibling that was created before it: location {one['var']} is"
               f" {one['type']} there and {other['type']} here. It starts on line {record.number}.")
+
+
+def first_conflict(some, others):
+    """The first dependence of the one list that conflicts with one of the other list, and the first such one."""
+    kinds = {}
+    for it in others:
+        kinds.setdefault(it['var'], {}).setdefault(it['type'], it)
+    return next((one, other) for one in some for other in kinds.get(one['var'], {}).values() if conflict(one, other))
 
 
 def show_life(found, trace, record):
     """The starts and the ends of the unfinished task, and what is missing."""
     parts, starts = {}, []
-    for it in trace.of_task(found.task):
+    for it in trace.of_task(found.task, RUNS | FINISHES):
         if it.started == found.task and len(starts) < MOST_SHOWN:
             starts.append(found.show(it, f'task {found.task} runs from here on'))
         if it.finish and it.finish[0] == found.task:
@@ -170,14 +177,12 @@ def say_when_finished(found, record, parts, starts):
 
 def explain_order(found, trace, record, order):
     """The segment of the order from the last record of the task to the named record."""
-    own = {(it.thread, it.seq) for it in trace.of_task(found.task)}
-    named = (record.thread, record.seq)
-    segment = orders.segment_up_to(order, named, own)
+    lines = kept(order, record.number, found.before)
+    segment = orders.segment_up_to(lines, record.number, {*trace.contents.tasks[found.task]})
     if segment is None:
         return
-    records = trace.placed({*segment.first, *segment.last})
     parts = {it.number: f', {part}' for part, it in found.shown}
-    first, last = ([(f'thread {it.thread}' + parts.get(it.number, ''), it) for it in map(records.get, some)]
+    first, last = ([(f'thread {it.thread}' + parts.get(it.number, ''), it) for it in trace.at(some)]
                    for some in (segment.first, segment.last))
     if record.region:
         event = 'the wait ends'
@@ -185,9 +190,20 @@ def explain_order(found, trace, record, order):
         event = f'taskwait {record.wait_completed} is complete'
     else:
         event = f'task {record.started} starts'
-    stands = 'created only after' if segment.first[0] == named else 'not complete when'
-    sentence = f'The events may also have happened in this order, in which task {found.task} is {stands} {event}:'
+    stands = 'created only after' if segment.first[0] == record.number else 'not complete when'
+    found.event = f'task {found.task} is {stands} {event}'
+    sentence = f'The events may also have happened in this order, in which {found.event}:'
     found.order = Order(sentence, first, segment.left_out(), last)
+
+
+def kept(order, named, before):
+    """Yields the lines of the order, and keeps those before the named one."""
+    for it in order:
+        yield it
+        if it == named:
+            break
+        before.append(it)
+    yield from order
 
 
 # Regions inside others
@@ -196,8 +212,7 @@ def explain_region(found, trace, record):
     """Where the thread is in a region that is inside another one: which task began that, and where it goes on."""
     if not record.nests:
         return
-    walk, begins = walk_before(trace, record)
-    root = record if record.begun_root is not None else begins.get(innermost(walk))
+    root = record if record.begun_root is not None else innermost_root(trace, record)
     inner = root and inner_region(trace, root)
     if not inner:
         return
@@ -216,42 +231,10 @@ def explain_region(found, trace, record):
               f' task {task} began inside another region (line {inner.fork.number}); {goes_on}')
 
 
-def inner_region(trace, root):
-    """The region of the initial or implicit task that this record begins, where a task began it that is no initial one; or
-    None."""
-    fork = fork_of(trace, root)
-    begun_by = fork and is_made(trace, fork.forked[0])
-    if begun_by is None or begun_by.begun_initial is not None:
-        return None
-    begin = end = None
-    for it, walk in walked(trace, fork.thread):
-        if begin is None and it.seq > fork.seq and begins_inside(it, walk, *fork.forked):
-            begin = it
-        elif begin is not None and it.ended_root == begin.begun_root:
-            end = it
-            break
-    return Inner(fork, begin, end)
-
-
-def begins_inside(record, walk, task, parallel):
-    """Whether a root begins, which may be of this region, while this task runs."""
-    is_of_region = record.joined is None or record.joined.parallel == parallel
-    return record.begun_root is not None and walk.current == task and is_of_region
-
-
-def fork_of(trace, root):
-    """The record that begins the region of this root; of an initial task the last parallel_begin by the task that it
-    stops; or None."""
-    if root.joined:
-        return first(it for it in trace.called('parallel_begin') if it.forked[1] == root.joined.parallel)
-    walk, _ = walk_before(trace, root)
-    return last_of(begun_there(trace, root, walk.current)) if walk.roots else None
-
-
-def begun_there(trace, record, task):
-    """Yields the earlier records of the record's thread by which the task begins regions."""
-    earlier = trace.of_thread(record.thread, last=record.number - 1)
-    return (it for it in earlier if it.forked and it.forked[0] == task)
+def innermost_root(trace, record):
+    """The record that begins the innermost root that is open on the record's thread, or None."""
+    inner = walk_before(trace, record).innermost
+    return inner and trace.record(inner.number)
 
 
 def lines_of(shown, place_of=lambda code: None):
@@ -284,50 +267,20 @@ def open_region(trace, record):
     return trace.record(opened[-1]) if opened else None
 
 
-def walked(trace, thread, last=None):
-    """Yields the records of the thread, up to the line `last`, each with the state of the thread before it."""
-    walk = AT_START
-    for it in trace.of_thread(thread, last):
-        yield it, walk
-        walk = after_record(walk, it)
-
-
-def walk_before(trace, record):
-    """The state of the record's thread before it, and the record that began each of its open roots."""
-    walk, begins = AT_START, {}
-    for it, before in walked(trace, record.thread, record.number - 1):
-        walk = after_record(before, it)
-        if it.begun_root is not None:
-            begins[it.begun_root] = it
-    return walk, begins
-
-
 def previous_in_thread(trace, record):
     """The record before it in its thread, or None."""
-    return last_of(trace.of_thread(record.thread, last=record.number - 1))
+    return trace.beside(record, -1)
 
 
 def first(records):
     return next(iter(records), None)
 
 
-def last_of(records):
-    found = None
-    for found in records:
-        pass
-    return found
-
-
-def is_made(trace, task):
-    return first(it for it in trace.of_task(task) if it.made == task)
-
-
 # The causes, in the order of their numbers
 
 def seq_gap(found, trace, record):
-    before, last = 0, None
-    for before, last in enumerate(trace.of_thread(record.thread, last=record.number - 1), 1):
-        pass
+    before = len(trace.contents.lines_of_thread(record.thread, last=record.number - 1))
+    last = previous_in_thread(trace, record)
     if last:
         found.show(last, f'the record before it of thread {record.thread}')
     found.say(f'{before} records of thread {record.thread} stand before it, so its seq must be {before}; it is '
@@ -336,12 +289,12 @@ def seq_gap(found, trace, record):
 
 def created_twice(found, trace, record):
     if record.made is not None:
-        earlier = is_made(trace, record.made)
+        earlier = trace.maker(record.made)
         found.show(earlier, f'made task {record.made} before')
         found.say(f'Task {record.made} was made on line {earlier.number}. Each task needs a number of its own.')
     else:
         parallel = record.forked[1]
-        earlier = first(it for it in trace.called('parallel_begin') if it.forked[1] == parallel)
+        earlier = trace.fork(parallel)
         found.show(earlier, f'began region {parallel} before')
         found.say(f'Parallel region {parallel} began on line {earlier.number}. Each region needs a number of its own.')
 
@@ -349,13 +302,13 @@ def created_twice(found, trace, record):
 def rootless(found, trace, record):
     names = {name: record.value[name] for name in ('task', 'child', 'prior', 'next', 'root')
              if record.value.get(name) in record.named}
-    unmade = {name: task for name, task in names.items() if not is_made(trace, task)}
+    unmade = {name: task for name, task in names.items() if not trace.maker(task)}
     for name, task in unmade.items():
         found.say(f'`{name}` names task {task}, and no record creates it or begins it.')
     if unmade:
         return
     region = record.region_named
-    if region is not None and not any(it.forked[1] == region for it in trace.called('parallel_begin')):
+    if region is not None and not trace.fork(region):
         found.say(f'`parallel` names region {region}, and no parallel_begin begins it.')
         return
     above = trace.ancestors(record.created)
@@ -364,8 +317,7 @@ def rootless(found, trace, record):
 
 
 def not_current(found, trace, record):
-    walk, begins = walk_before(trace, record)
-    last = previous_in_thread(trace, record)
+    walk, last = walk_before(trace, record), previous_in_thread(trace, record)
     if last:
         found.show(last, f'the record before it of thread {record.thread}')
     current = f'task {walk.current}' if walk.current is not None else 'no task'
@@ -376,14 +328,14 @@ def not_current(found, trace, record):
                   f'{trace.creations[record.wait_completed][0]}, which must be the one that runs.')
     else:
         root = record.ended_root if record.ended_root is not None else record.started
-        inner = innermost(walk)
-        told = 'no open root' if inner is None else f'the innermost root {inner} (line {begins[inner].number})'
+        inner = walk.innermost
+        told = f'the innermost root {inner.task} (line {inner.number})' if inner else 'no open root'
         verb = 'run' if record.ended_root is None else 'end'
         found.say(f'Thread {record.thread} has {told}; root {root} cannot {verb} here.')
 
 
 def moved(found, trace, record):
-    earlier = first(it for it in trace.of_task(record.started, last=record.number)
+    earlier = first(it for it in trace.of_task(record.started, RUNS, last=record.number)
                     if it.started == record.started and it.thread != record.thread)
     found.show(earlier, f'task {record.started} ran on thread {earlier.thread}')
     found.say(f'Task {record.started} runs on thread {record.thread} here, and ran on thread {earlier.thread} on line '
@@ -394,37 +346,33 @@ def moved(found, trace, record):
 def turn_gap(found, trace, record):
     """Which of the rules of docs/MODEL.md, HasTurnGap, hold of the record."""
     say_other_turn(found, trace, record)
-    (task, turn), made = record.begun_turn, is_made(trace, record.started)
-    same = first(it for it in begins_before(trace, record) if it.begun_turn[1] == turn)
+    (task, turn), made = record.begun_turn, trace.maker(record.started)
+    begins = [(number, it['next_turn'], it['thread'] == record.thread)
+              for number, it in trace.values(trace.lines_of_task(task, RUNS)) if it['next'] == task]
+    same = first(number for number, other, _ in begins if other == turn and number < record.number)
     if same:
-        found.show(same, f'begins turn {turn} of task {task}')
-        found.say(f'Line {same.number} began turn {turn} of task {task} already, so `next_turn` cannot be {turn}.')
-    later = first(it for it in begins_before(trace, record) if it.thread == record.thread and it.begun_turn[1] > turn)
+        found.show(trace.record(same), f'begins turn {turn} of task {task}')
+        found.say(f'Line {same} began turn {turn} of task {task} already, so `next_turn` cannot be {turn}.')
+    later, other = first(it[:2] for it in begins if it[0] < record.number and it[1] > turn and it[2]) or (None, None)
     if later:
-        found.show(later, f'begins turn {later.begun_turn[1]} of task {task}')
-        found.say(f'Line {later.number} of the same thread began turn {later.begun_turn[1]} of task {task}, a later one than'
-                  f' `next_turn`, {turn}.')
+        found.show(trace.record(later), f'begins turn {other} of task {task}')
+        found.say(f'Line {later} of the same thread began turn {other} of task {task}, a later one than `next_turn`,'
+                  f' {turn}.')
     is_root = made.begun_root == task
     if turn == 0 and is_root:
         found.show(made, f'begins task {task}')
         found.say(f'Task {task} is in turn 0 from line {made.number} on, where it begins, so a later turn must begin here:'
                   ' `next_turn` is 0.')
-    if turn > 0 and not (turn == 1 and is_root or any(it.begun_turn == (task, turn - 1) for it in trace.of_task(task))):
+    if turn > 0 and not (turn == 1 and is_root or any(it[1] == turn - 1 for it in begins)):
         found.say(f'`next_turn` is {turn}, and no record begins turn {turn - 1} of task {task}.')
-
-
-def begins_before(trace, record):
-    """Yields the earlier records after which the record's next task runs."""
-    return (it for it in trace.of_task(record.started, last=record.number - 1) if it.started == record.started)
 
 
 def say_other_turn(found, trace, record):
     """Where `prior_turn` is not the turn of the prior task, the record that began that."""
     task, turn = record.ended_turn
-    begin = None
-    for it in trace.of_task(task, last=record.number - 1):
-        if it.thread == record.thread and (it.started == task or it.begun_root == task):
-            begin = it
+    lines = trace.lines_of_task(task, RUNS | ROOT, last=record.number - 1)
+    begin = first(it for it in trace.at(reversed(lines))
+                  if it.thread == record.thread and task in (it.started, it.begun_root))
     right = begin.begun_turn[1] if begin and begin.begun_turn else 0
     if turn != right:
         if begin:
@@ -442,7 +390,7 @@ def status_order(found, trace, record):
             after = state_after(state, *move) if may(nature, *move) else None
             if after is None:
                 by = {line: f'a move of task {task}: {moved_by(move)}' for line, move in before}
-                for it in trace.among(by.__contains__):
+                for it in trace.at(sorted(by)):
                     found.show(it, by[it.number])
                 say_state(found, task, nature, state, move, line)
                 break
@@ -452,14 +400,11 @@ def status_order(found, trace, record):
 
 def life_of(trace, task):
     """The task's nature, and its moves with their lines in the order in which they are read."""
-    nature, begun, run, moves = 'any', None, None, []
-    for it in trace.of_task(task):
-        if task in (it.begun_root, it.created):
-            nature = 'root' if it.begun_root == task else 'taskwait' if 'taskwait' in it.flags else 'any'
-        begun = it.thread if begun is None and it.begun_root == task else begun
-        run = it.thread if run is None and it.started == task else run
-        moves += [Move(it.number, it.thread, turn_of(it, move), move) for move in moves_by(task, it)]
-    home = begun if nature == 'root' else run
+    made = trace.maker(task)
+    nature = 'root' if made.begun_root == task else 'taskwait' if 'taskwait' in made.flags else 'any'
+    moves = [Move(it.number, it.thread, turn_of(it, move), move) for it in trace.of_task(task, MOVES)
+             for move in moves_by(task, it)]
+    home = made.thread if nature == 'root' else first(it.thread for it in moves if it.move[0] == 'Started')
     has_moved = trace.tells_turns and any(it.move[0] == 'Started' and it.thread != home for it in moves)
     ordered = sorted(moves, key=rank_by_turn if has_moved else lambda it: rank_by_home(it, home))
     return nature, [(it.number, it.move) for it in ordered]
@@ -502,7 +447,7 @@ def say_state(found, task, nature, state, move, line):
 
 def region_order(found, trace, record):
     task, kind, _ = record.region
-    made = is_made(trace, task)
+    made = trace.maker(task)
     if kind in CALLED_BARRIERS and made.created == task:
         found.show(made, f'creates task {task}')
         found.say(f'Task {task} is an explicit task, and barriers are of initial and implicit tasks alone.')
@@ -545,17 +490,17 @@ def say_short_team(found, trace, record):
 
 
 def members_of(trace, parallel):
-    return [it for it in trace.called('implicit_task') if it.joined and it.joined.parallel == parallel]
+    return [it for it in trace.doing(ROOT) if it.joined and it.joined.parallel == parallel]
 
 
 def say_missed_barrier(found, trace, record):
     """A member that began fewer barriers than the one that ends here."""
     task, own, begun = record.region.task, 0, Counter()
-    for it in trace.called('sync_region'):
-        if it.region.kind in BARRIERS and it.region.endpoint != 'end':
-            begun[it.region.task] += 1
-            own += it.region.task == task and it.number <= record.number
-    late = [it for it in members_of(trace, is_made(trace, task).joined.parallel) if begun[it.joined.member] < own]
+    for number, it in trace.values(trace.contents.doing(WAITS)):
+        if it['kind'] in BARRIERS and it['endpoint'] != 'end':
+            begun[it['task']] += 1
+            own += it['task'] == task and number <= record.number
+    late = [it for it in members_of(trace, trace.maker(task).joined.parallel) if begun[it.joined.member] < own]
     found.say(f'Barrier number {own - 1} of task {task} ends here, counted from 0.')
     for it in late[:MOST_SHOWN]:
         count = begun[it.joined.member]
@@ -565,24 +510,23 @@ def say_missed_barrier(found, trace, record):
 
 
 def nested_parallel(found, trace, record):
-    walk, begins = walk_before(trace, record)
-    outer = begins.get(innermost(walk))
+    outer = innermost_root(trace, record)
     if outer:
         found.show(outer, f'begins task {outer.begun_root}, the innermost open root of thread {record.thread}')
     if record.forked:
         found.say(f'Task {record.forked[0]}, which begins the parallel region, is not an initial task: the region is inside'
                   ' another one.')
     else:
-        found.say(f'Thread {record.thread} has an open root, task {innermost(walk)}, so another one cannot begin here: the'
+        found.say(f'Thread {record.thread} has an open root, task {outer.begun_root}, so another one cannot begin here: the'
                   ' region is inside another one, or an implicit_task that ends was not recorded.')
     found.say('A file of version 1 or 2 has no parallel region inside another one; one of version 3 may.')
 
 
 def region_nesting(found, trace, record):
     """Which region the task that runs there would have to begin, and which it begins."""
-    walk, begins = walk_before(trace, record)
-    root, task, thread = innermost(walk), walk.current, record.thread
-    found.show(begins[root], f'begins task {root}, the innermost open root of thread {thread}')
+    walk, thread = walk_before(trace, record), record.thread
+    root, task = walk.innermost.task, walk.current
+    found.show(trace.record(walk.innermost.number), f'begins task {root}, the innermost open root of thread {thread}')
     own = [*begun_there(trace, record, task)]
     for it in own[-MOST_SHOWN:]:
         found.show(it, f'task {task} begins region {it.forked[1]} on thread {thread}')
@@ -593,7 +537,7 @@ def region_nesting(found, trace, record):
                   f' began no region on thread {thread} before.')
         return
     parallel = record.joined.parallel
-    fork = first(it for it in trace.called('parallel_begin') if it.forked[1] == parallel)
+    fork = trace.fork(parallel)
     found.show(fork, f'begins region {parallel}')
     behind = ', behind this record' if fork.thread == thread and fork.seq > record.seq else ''
     found.say(f'Task {record.begun_root} is a member of region {parallel}, which task {fork.forked[0]} began on thread '
@@ -608,7 +552,7 @@ def deps_place(found, trace, record):
         found.say(f'The record before it in its thread must be the task_create of task {record.dependences[0]} with deps'
                   ' true.')
         return
-    follows = first(it for it in trace.of_thread(record.thread) if it.number > record.number)
+    follows = trace.beside(record, 1)
     if follows:
         found.show(follows, f'the next record of thread {record.thread}')
     found.say(f'deps is true, so the next record of thread {record.thread} must be the dependences of task '
@@ -626,20 +570,21 @@ def share_wrong(found, trace, record):
         elif record.value[name] != wanted:
             found.say(f'`{name}` is {record.value[name]}, and must be {wanted}.')
     lines = {trace.creations[task][2] for task in above[:-1][:MOST_SHOWN]}
-    for it in sorted(trace.among(lines.__contains__), key=lambda it: -it.number):
+    for it in trace.at(sorted(lines, reverse=True)):
         parent, number, _ = trace.creations[it.created]
         found.show(it, f'creates task {it.created}, child {number} of task {parent}')
 
 
 def entry_twice(found, trace, record):
-    earlier = first(it for it in trace.records(member(['seen'], record.seen)) if it.finish and it.seen == record.seen)
+    lengths = trace.contents.lengths
+    earlier = trace.record(next(it for it in trace.contents.doing(FINISHES) if lengths[it] == record.seen))
     found.show(earlier, f'makes entry {earlier.seen} too')
     found.say(f'Line {earlier.number} makes entry {record.seen} of the ledger already. Each finishing record has an index'
               ' of its own.')
 
 
 def length_ahead(found, trace, record):
-    entries = sum(1 for it in trace.called('task_schedule', 'cancel') if it.finish)
+    entries = sum(1 for _ in trace.contents.doing(FINISHES))
     names = 'makes entry' if record.finish else 'has seen the length'
     ledger = f'the entries 0 to {entries - 1}' if entries else 'no entry'
     found.say(f'Of the records of the file {entries} finish a task, so its ledger has {ledger}; the record {names} '
@@ -652,10 +597,10 @@ def length_back(found, trace, record):
     steps = {'the record before it in its thread': last}
     for task in (record.started, record.discarded, record.fulfilled):
         if task in trace.creations:
-            steps[f'creates task {task}'] = trace.creation(task)
+            steps[f'creates task {task}'] = trace.maker(task)
     stopped = orders.stopped(record)
     if stopped:
-        suspended = (it for it in trace.of_task(stopped[0]) if it.suspended_turn == stopped)
+        suspended = (it for it in trace.of_task(stopped[0], RUNS) if it.suspended_turn == stopped)
         steps[f'suspends task {stopped[0]}, which goes on here'] = first(suspended)
     for part, other in steps.items():
         if other and other.known_after() > record.seen:

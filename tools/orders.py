@@ -1,8 +1,12 @@
 """Orders of records: what has to come before what, a cycle of that where there is no order, one order where there
 is, and segments of an order."""
+from array import array
+from bisect import bisect_left, bisect_right
 from collections import defaultdict, deque, namedtuple
 from heapq import heapify, heappop, heappush
 from itertools import groupby
+
+from contents import CREATES, FINISHES, MOVES
 
 # The limit of the search for a shortest cycle; past it the shortest one found so far is used.
 MOST_LOOKED_AT = 10**6
@@ -34,8 +38,13 @@ def reason(one, other):
     return f'in thread {one.thread}'
 
 
-# What a record is in the search for cycles: small, since a file may have millions.
+# What a record is in the search for cycles and orders: small, since a file may have millions.
 Event = namedtuple('Event', 'number thread seq created needs begun_turn suspended_turn')
+
+
+def event_of(record, tells_turns):
+    return Event(record.number, record.thread, record.seq, record.created, needs(record), record.begun_turn,
+                 record.suspended_turn if tells_turns else None)
 
 
 class Steps:
@@ -44,9 +53,8 @@ class Steps:
 
     def __init__(self, trace):
         self.creations, self.suspensions, self.starts, self.events = {}, defaultdict(list), {}, []
-        for record in trace.called('task_create', 'task_schedule', 'cancel'):
-            it = Event(record.number, record.thread, record.seq, record.created, needs(record), record.begun_turn,
-                       record.suspended_turn if trace.tells_turns else None)
+        for record in trace.doing(CREATES | MOVES):
+            it = event_of(record, trace.tells_turns)
             if it.created is not None:
                 self.creations.setdefault(it.created, it)
             if it.begun_turn and it.begun_turn[1] == 0:
@@ -104,8 +112,7 @@ def shortest_circle(trace):
     lines = [it.number for pair in best for it in pair]
     # where a record awaits one and is awaited, it ends a pair and begins the next one
     lines = [it for at, it in enumerate(lines) if it != lines[at - 1]]
-    found = {it.number: it for it in trace.among(set(lines).__contains__)}
-    return [found[it] for it in lines]
+    return [*trace.at(lines)]
 
 
 def circle_of_heads(steps, lanes, left):
@@ -145,27 +152,58 @@ def circle_from(pairs, by_thread, start):
     return None
 
 
-def in_order(records):
-    """The records in an order that they allow, if there is one. A record that names a ledger length comes after the
-    entries below it, so these lengths sort all but those that name the same one."""
+class ByLengths:
+    """How records are sorted by the ledger lengths that they name: a record that names one comes after the entries below
+    it. Those of one length are put in an order that they allow, if there is one, where they stand so near to those of a
+    wanted line, or to the first or the last one."""
+
+    def __init__(self, trace, wanted, near):
+        self.trace, self.wanted, self.near = trace, wanted, near
+        trace.progress.say('sorting the records ..')
+        both = zip(trace.contents.lengths, trace.contents.roles)
+        self.key = array('Q', (2 * length + bool(role & FINISHES) for length, role in both)).__getitem__
+
+    def sorted(self, lines):
+        """Returns the lines, which are in file order, in that order."""
+        found = array('L', sorted(lines, key=self.key))
+        places = [at for at, it in enumerate(found) if it in self.wanted or at in (0, len(found) - 1)]
+        for begin, end in {span for at in places for span in self.spans_near(found, at)}:
+            events = [event_of(it, self.trace.tells_turns) for it in self.trace.at(found[begin:end])]
+            found[begin:end] = array('L', (it.number for it in merged(events)))
+        return found
+
+    def spans_near(self, lines, at):
+        """Yields begin and end of each span of one length that is so near to the span of this place."""
+        begin = max(0, bisect_left(lines, self.key(lines[at]), key=self.key) - self.near)
+        end = min(len(lines), bisect_right(lines, self.key(lines[at]), key=self.key) + self.near)
+        while begin < end:
+            begin = bisect_left(lines, self.key(lines[begin]), key=self.key)
+            behind = bisect_right(lines, self.key(lines[begin]), key=self.key)
+            yield begin, behind
+            begin = behind
+
+
+def in_order(events):
+    """Events in an order that they allow, if there is one: by the ledger lengths that they name, and where these are equal
+    as `merged` has them. Each has its length, and whether it finishes a task."""
     def length(it):
         return it.seen, it.finish is not None
-    groups = groupby(sorted(records, key=lambda it: (*length(it), it.number)), length)
+    groups = groupby(sorted(events, key=lambda it: (*length(it), it.number)), length)
     return [it for _, group in groups for it in merged([*group])]
 
 
-def merged(records):
-    """Records that name one length: each after the creations and suspensions that it needs, and in the order of its
-    thread. Those in a cycle come at the end."""
+def merged(events):
+    """Events of one length: each after the creations and suspensions that it needs, and in the order of its thread. Those
+    in a cycle come at the end."""
     lanes, waiting, found = defaultdict(deque), defaultdict(list), []
-    for it in records:
+    for it in events:
         lanes[it.thread].append(it)
-    made = {given for it in records for given in (it.created, it.suspended_turn) if given is not None}
+    made = {given for it in events for given in (it.created, it.suspended_turn) if given is not None}
     ready = [(lane[0].number, thread) for thread, lane in lanes.items()]
     heapify(ready)
     while ready:
         lane = lanes[heappop(ready)[1]]
-        missing = next((needed for needed in (*needs(lane[0]), stopped(lane[0])) if needed in made), None)
+        missing = next((needed for needed in (*lane[0].needs, stopped(lane[0])) if needed in made), None)
         if missing is not None:
             waiting[missing].append(lane[0].thread)
             continue

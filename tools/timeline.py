@@ -10,7 +10,7 @@ from collections import defaultdict, namedtuple
 from sys import intern
 
 from model import DEMANDS_NEXT, STATUS_PART, WAITS_FOR_TASKS
-from orders import in_order
+from orders import in_order, needs
 from summary import CLASS_OF
 
 # The time of a place in an order, in nanoseconds.
@@ -46,6 +46,10 @@ class Event(namedtuple('Event', 'number thread seen what task other turn next_tu
     @property
     def finish(self):
         return self.what in STATUS_PART or self.what == 'discard' or None
+
+    @property
+    def needs(self):
+        return needs(self)
 
     @property
     def created(self):
