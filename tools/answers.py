@@ -129,7 +129,7 @@ def check(checker, file, log, progress):
     return answer or last, ran.wait()
 
 
-def order(checker, file, progress):
+def order(checker, file, progress=SILENT):
     """Yields thread and seq of each record in the order of the answer."""
     words = [*checker, 'order']
     progress.say('asking for an order ..')
