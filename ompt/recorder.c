@@ -1,9 +1,11 @@
 /* An OMPT tool that records a run of an OpenMP program as a trace file of taskaudit. Each callback becomes a record in
    a buffer of its thread; the file is written at the end. taskaudit-run starts programs with it. */
 #define _GNU_SOURCE
+#include "callbacks.h"
 #include "tool.h"
 #include "recorder.h"
 
+#include <pthread.h>
 #include <signal.h>
 #include <stdlib.h>
 #include <string.h>
@@ -51,14 +53,44 @@ static void set_signal_stack(void) {
     if ((ours.ss_sp = malloc(ours.ss_size))) sigaltstack(&ours, NULL);
 }
 
+/* Threads of the system that have ended, whose numbers and buffers others go on with. */
+static struct thread *first_ended;
+static pthread_mutex_t ending = PTHREAD_MUTEX_INITIALIZER;
+static _Atomic int ended_count;
+
+static struct thread *ended_thread(void) {
+    if (atomic_load_explicit(&ended_count, memory_order_relaxed) == 0) return NULL;
+    pthread_mutex_lock(&ending);
+    struct thread *found = first_ended;
+    if (found) {
+        first_ended = found->next_ended;
+        atomic_fetch_sub(&ended_count, 1);
+    }
+    pthread_mutex_unlock(&ending);
+    return found;
+}
+
+void release_thread(struct thread *thread) {
+    pthread_mutex_lock(&ending);
+    thread->next_ended = first_ended;
+    first_ended = thread;
+    atomic_fetch_add(&ended_count, 1);
+    pthread_mutex_unlock(&ending);
+}
+
 /* Returns this thread, which is made at its first callback of any kind: a thread that is not the runtime's may fulfil
    an event. NULL where recording is over. */
-static struct thread *this_thread(void) {
+struct thread *this_thread(void) {
     if (atomic_load_explicit(&is_over, memory_order_relaxed)) return NULL;
     if (own) return own;
     if (!atomic_exchange(&has_file, true) && !begin_file_of_fork()) {
         atomic_store(&is_over, true);
         return NULL;
+    }
+    struct thread *ended = ended_thread();
+    if (ended) {
+        ended->id = (int)syscall(SYS_gettid);
+        return own = ended;
     }
     int number = atomic_fetch_add(&thread_count, 1);
     struct thread *made = number < MAX_THREADS ? calloc(1, sizeof *made) : NULL;
@@ -70,6 +102,12 @@ static struct thread *this_thread(void) {
     made->number = number;
     made->id = (int)syscall(SYS_gettid);
     return threads[number] = own = made;
+}
+
+struct thread *act_as(struct thread *thread) {
+    struct thread *was = own;
+    own = thread;
+    return was;
 }
 
 void end_recording(void) {
@@ -192,14 +230,14 @@ static struct task *new_task(struct thread *thread) {
 
 /* The callbacks, in the order of OpenMP 5.2, 19.5.2 */
 
-static void on_thread_begin(ompt_thread_t kind, ompt_data_t *data) {
+void on_thread_begin(ompt_thread_t kind, ompt_data_t *data) {
     (void)data;
     struct thread *thread = this_thread();
     struct record record = {.callback = THREAD_BEGIN, .kind = (int)kind <= LAST_THREAD_KIND ? kind : 0};
     if (thread) keep_known(thread, record);
 }
 
-static void on_thread_end(ompt_data_t *data) {
+void on_thread_end(ompt_data_t *data) {
     (void)data;
     struct thread *thread = this_thread();
     if (thread) keep_known(thread, (struct record){.callback = THREAD_END});
@@ -250,7 +288,7 @@ static struct task *encountering_task(struct thread *thread, ompt_data_t *data) 
     return task;
 }
 
-static void on_parallel_begin(ompt_data_t *encountering, const ompt_frame_t *frame, ompt_data_t *region,
+void on_parallel_begin(ompt_data_t *encountering, const ompt_frame_t *frame, ompt_data_t *region,
                               unsigned int requested, int flags, const void *code) {
     (void)frame;
     struct thread *thread = this_thread();
@@ -262,7 +300,7 @@ static void on_parallel_begin(ompt_data_t *encountering, const ompt_frame_t *fra
                                        .size = requested, .code = code});
 }
 
-static void on_parallel_end(ompt_data_t *region, ompt_data_t *encountering, int flags, const void *code) {
+void on_parallel_end(ompt_data_t *region, ompt_data_t *encountering, int flags, const void *code) {
     (void)flags;
     struct thread *thread = this_thread();
     struct task *task = task_of(encountering);
@@ -283,7 +321,7 @@ static void end_root(struct thread *thread, struct record record, struct task *r
     keep_known(thread, record);
 }
 
-static void on_implicit_task(ompt_scope_endpoint_t endpoint, ompt_data_t *region, ompt_data_t *data,
+void on_implicit_task(ompt_scope_endpoint_t endpoint, ompt_data_t *region, ompt_data_t *data,
                              unsigned int actual, unsigned int index, int flags) {
     struct thread *thread = this_thread();
     if (!thread) return;
@@ -297,7 +335,7 @@ static void on_implicit_task(ompt_scope_endpoint_t endpoint, ompt_data_t *region
 
 /* A task is the child of the one that creates it. Parts of a taskloop are created in the name of a task that does not
    run there; then it is the one that does. */
-static void on_task_create(ompt_data_t *encountering, const ompt_frame_t *frame, ompt_data_t *data, int flags,
+void on_task_create(ompt_data_t *encountering, const ompt_frame_t *frame, ompt_data_t *data, int flags,
                            int has_dependences, const void *code) {
     (void)frame, (void)has_dependences;
     struct thread *thread = this_thread();
@@ -339,7 +377,7 @@ static uint32_t copy_list(struct dependence *list, const ompt_dependence_t *item
 }
 
 /* Dependences count only directly after the creation of their task, which then says that they follow. */
-static void on_dependences(ompt_data_t *data, const ompt_dependence_t *items, int count) {
+void on_dependences(ompt_data_t *data, const ompt_dependence_t *items, int count) {
     struct thread *thread = this_thread();
     struct task *task = task_of(data);
     if (!thread || !task) return;
@@ -393,7 +431,7 @@ static uint32_t run_next(struct thread *thread, struct task *next) {
     return ++next->turn;
 }
 
-static void on_task_schedule(ompt_data_t *prior_data, ompt_task_status_t status, ompt_data_t *next_data) {
+void on_task_schedule(ompt_data_t *prior_data, ompt_task_status_t status, ompt_data_t *next_data) {
     struct thread *thread = this_thread();
     struct task *prior = task_of(prior_data), *next = is_without_next(status) ? NULL : task_of(next_data);
     if (!thread) return;
@@ -439,7 +477,7 @@ __attribute__((noinline)) static struct task *ending_task(struct thread *thread,
     return member;
 }
 
-static void on_sync_region(ompt_sync_region_t kind, ompt_scope_endpoint_t endpoint, ompt_data_t *region,
+void on_sync_region(ompt_sync_region_t kind, ompt_scope_endpoint_t endpoint, ompt_data_t *region,
                            ompt_data_t *data, const void *code) {
     struct thread *thread = this_thread();
     if (!thread) return;
@@ -460,13 +498,13 @@ static void on_sync_region(ompt_sync_region_t kind, ompt_scope_endpoint_t endpoi
     }
 }
 
-static void on_reduction(ompt_sync_region_t kind, ompt_scope_endpoint_t endpoint, ompt_data_t *region,
+void on_reduction(ompt_sync_region_t kind, ompt_scope_endpoint_t endpoint, ompt_data_t *region,
                          ompt_data_t *data, const void *code) {
     (void)kind;
     on_sync_region(ompt_sync_region_reduction, endpoint, region, data, code);
 }
 
-static void on_cancel(ompt_data_t *data, int flags, const void *code) {
+void on_cancel(ompt_data_t *data, int flags, const void *code) {
     struct thread *thread = this_thread();
     struct task *task = task_of(data);
     if (!thread || !task) return;
