@@ -11,13 +11,13 @@
 #include <stdlib.h>
 #include <string.h>
 
-/* The real function of this name. */
-#define REAL(name)                                                       \
-    ({                                                                   \
-        static void *_Atomic found;                                      \
-        if (!atomic_load_explicit(&found, memory_order_relaxed))         \
-            atomic_store(&found, dlsym(RTLD_NEXT, #name));               \
-        (__typeof__(&name))atomic_load_explicit(&found, memory_order_relaxed); \
+/* The real function of this name, which is looked up once. */
+#define REAL(name)                                                                            \
+    ({                                                                                        \
+        static void *_Atomic found;                                                           \
+        void *function = atomic_load_explicit(&found, memory_order_relaxed);                  \
+        if (!function) atomic_store(&found, function = find_real(#name));                     \
+        (__typeof__(&name))function;                                                          \
     })
 /* Where the program calls this library. */
 #define CODE place(__builtin_return_address(0))
@@ -41,6 +41,14 @@ int omp_get_thread_num(void);
 int omp_get_num_teams(void);
 int omp_get_team_num(void);
 int omp_get_cancellation(void);
+
+/* A plugin that is loaded later may have a libgomp that others do not see. */
+static void *find_real(const char *name) {
+    void *found = dlsym(RTLD_NEXT, name);
+    if (found) return found;
+    void *library = dlopen("libgomp.so.1", RTLD_LAZY | RTLD_NOLOAD);
+    return library ? dlsym(library, name) : NULL;
+}
 
 /* Where code is */
 

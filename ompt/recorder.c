@@ -117,6 +117,8 @@ void end_recording(void) {
 /* The first callback makes a file, so that a process that uses no OpenMP has none. */
 void forget_records(void) {
     own = NULL;
+    first_ended = NULL;
+    ended_count = 0;
     memset(threads, 0, sizeof threads);
     memset(notes, 0, sizeof notes);
     thread_count = 0;
