@@ -127,13 +127,20 @@ static void begin(void) {
     atexit(end);
 }
 
-/* Returns this thread, or NULL where recording is over. */
-static struct thread *recorded_thread(void) {
+/* Whether this thread's end is watched, and so recording has begun. */
+static __thread bool is_watched __attribute__((tls_model("initial-exec")));
+
+static __attribute__((noinline)) void watch_thread(void) {
     static pthread_once_t once = PTHREAD_ONCE_INIT;
     pthread_once(&once, begin);
     struct thread *thread = this_thread();
-    if (thread && !pthread_getspecific(ending_thread)) pthread_setspecific(ending_thread, thread);
-    return thread;
+    if (thread) is_watched = pthread_setspecific(ending_thread, thread) == 0;
+}
+
+/* Returns this thread, or NULL where recording is over. */
+static struct thread *recorded_thread(void) {
+    if (!is_watched) watch_thread();
+    return this_thread();
 }
 
 /* Returns the task that runs here. A thread that runs none begins its initial task. */
@@ -348,7 +355,7 @@ static size_t count_of(void **list) {
    or 0, its count, how many are out, mutexinoutset and in, the addresses in that order, and behind them depend objects. */
 static void tell_list(ompt_data_t *task, void **list) {
     size_t count = count_of(list), outs = (size_t)list[list[0] ? 1 : 2];
-    ompt_dependence_t *items = malloc(count * sizeof *items), *to = items;
+    ompt_dependence_t few[MAX_DEPENDENCES], *items = count > MAX_DEPENDENCES ? malloc(count * sizeof *items) : few, *to = items;
     if (!items) return;
     if (list[0]) {
         to = put_items(to, list + 2, outs, ompt_dependence_type_inout);
@@ -361,7 +368,7 @@ static void tell_list(ompt_data_t *task, void **list) {
         put_objects(to, list + 5 + outs + mutexes + ins, count - outs - mutexes - ins);
     }
     on_dependences(task, items, (int)count);
-    free(items);
+    if (items != few) free(items);
 }
 
 /* A taskwait with dependences is a task for OMPT. */
@@ -590,3 +597,23 @@ EXPORTED bool GOMP_cancellation_point(int which) {
     if (is_cancelled) tell_cancel(which, ompt_cancel_detected, code);
     return is_cancelled;
 }
+
+/* Devices */
+
+#define MEETS_TARGET(name, types, words)              \
+    EXPORTED void name(int device, UNPACK types) {    \
+        if (recorded_thread()) note(TARGET_CONSTRUCTS, CODE); \
+        REAL(name)(device, UNPACK words);             \
+    }
+
+MEETS_TARGET(GOMP_target_ext,
+             (function *call, size_t count, void **addresses, size_t *sizes, unsigned short *kinds, unsigned flags,
+              void **list, void **arguments), (call, count, addresses, sizes, kinds, flags, list, arguments))
+MEETS_TARGET(GOMP_target_data_ext, (size_t count, void **addresses, size_t *sizes, unsigned short *kinds),
+             (count, addresses, sizes, kinds))
+MEETS_TARGET(GOMP_target_update_ext,
+             (size_t count, void **addresses, size_t *sizes, unsigned short *kinds, unsigned flags, void **list),
+             (count, addresses, sizes, kinds, flags, list))
+MEETS_TARGET(GOMP_target_enter_exit_data,
+             (size_t count, void **addresses, size_t *sizes, unsigned short *kinds, unsigned flags, void **list),
+             (count, addresses, sizes, kinds, flags, list))

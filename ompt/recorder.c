@@ -37,7 +37,7 @@ static __thread struct thread *own __attribute__((tls_model("initial-exec")));
 static bool is_forked;
 static _Atomic bool has_file = true;
 
-static void note(enum note what, const void *code) {
+void note(enum note what, const void *code) {
     if (atomic_fetch_add_explicit(&notes[what], 1, memory_order_relaxed) == 0) atomic_store(&first_code[what], code);
 }
 

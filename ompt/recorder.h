@@ -103,7 +103,7 @@ struct thread {
 enum note {
     MOVED, UNTIED, CREATED_FOR_ANOTHER, DISCARDED_TWICE, DOACROSS, ALL_MEMORY, LONG_LIST, LATE_LIST, NO_TASK,
     UNKNOWN, WRONG_END, NESTED, INNER_REGIONS, TEAMS, TARGET, ADDED_MEMBERS, BARRIERS_RENAMED,
-    JOINS_IN_TEAMS, LEAGUE_MEMBERS, HELPERS_WITHOUT_TASK,
+    JOINS_IN_TEAMS, LEAGUE_MEMBERS, HELPERS_WITHOUT_TASK, TARGET_CONSTRUCTS,
     /* why recording stopped */
     MANY_RECORDS, MANY_TASKS, MANY_THREADS, DEEP_TASKS, NO_MEMORY, NOTES
 };
@@ -123,6 +123,9 @@ struct thread *this_thread(void);
 struct thread *act_as(struct thread *thread);
 /* Gives number and buffer of a thread that has ended to the next thread that is made. */
 void release_thread(struct thread *thread);
+
+/* Counts something that was changed or left out. */
+void note(enum note what, const void *code);
 
 /* Forgets all records, in a forked process: they are its parent's. */
 void forget_records(void);
