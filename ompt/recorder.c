@@ -104,10 +104,14 @@ struct thread *this_thread(void) {
     return threads[number] = own = made;
 }
 
+/* Which thread this is, while it tells what another one does. */
+static __thread struct thread *self __attribute__((tls_model("initial-exec")));
+
 struct thread *act_as(struct thread *thread) {
     struct thread *was = own;
-    own = thread;
-    return was;
+    if (!self) self = was;
+    if (thread == self) self = NULL;
+    return own = thread, was;
 }
 
 void end_recording(void) {
@@ -496,7 +500,7 @@ void on_sync_region(ompt_sync_region_t kind, ompt_scope_endpoint_t endpoint, omp
         keep_known(thread, record);
     } else {
         keep_reading(thread, record);
-        shake(thread, BEHIND_WAIT);
+        if (!self) shake(thread, BEHIND_WAIT);
     }
 }
 
