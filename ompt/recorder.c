@@ -78,11 +78,8 @@ void release_thread(struct thread *thread) {
     pthread_mutex_unlock(&ending);
 }
 
-/* Returns this thread, which is made at its first callback of any kind: a thread that is not the runtime's may fulfil
-   an event. NULL where recording is over. */
-struct thread *this_thread(void) {
-    if (atomic_load_explicit(&is_over, memory_order_relaxed)) return NULL;
-    if (own) return own;
+/* Makes this thread, at its first callback of any kind: a thread that is not the runtime's may fulfil an event. */
+static __attribute__((noinline)) struct thread *new_thread(void) {
     if (!atomic_exchange(&has_file, true) && !begin_file_of_fork()) {
         atomic_store(&is_over, true);
         return NULL;
@@ -111,7 +108,13 @@ struct thread *act_as(struct thread *thread) {
     struct thread *was = own;
     if (!self) self = was;
     if (thread == self) self = NULL;
-    return own = thread, was;
+    own = thread;
+    return was;
+}
+
+struct thread *this_thread(void) {
+    if (atomic_load_explicit(&is_over, memory_order_relaxed)) return NULL;
+    return own ? own : new_thread();
 }
 
 void end_recording(void) {
@@ -149,22 +152,26 @@ static void *take(struct thread *thread, size_t bytes) {
     return taken;
 }
 
+/* Adds room for more records; returns false where a limit is reached. */
+static __attribute__((noinline)) bool add_block(struct thread *thread) {
+    bool is_full = atomic_fetch_add(&block_count, 1) >= MAX_RECORDS / RECORDS_OF_BLOCK;
+    size_t times = settings.has_times ? RECORDS_OF_BLOCK * sizeof *thread->last->times : 0;
+    struct block *made = is_full ? NULL : take(thread, sizeof *made + times);
+    if (!made) {
+        stop(is_full ? MANY_RECORDS : NO_MEMORY, NULL);
+        return false;
+    }
+    if (thread->last) thread->last->next = made;
+    else thread->first = made;
+    thread->last = made;
+    thread->capacity += RECORDS_OF_BLOCK;
+    return true;
+}
+
 /* Returns room for one more record, or NULL where a limit is reached. */
 static struct record *room(struct thread *thread) {
     uint32_t count = atomic_load_explicit(&thread->count, memory_order_relaxed);
-    if (count == thread->capacity) {
-        bool is_full = atomic_fetch_add(&block_count, 1) >= MAX_RECORDS / RECORDS_OF_BLOCK;
-        size_t times = settings.has_times ? RECORDS_OF_BLOCK * sizeof *thread->last->times : 0;
-        struct block *made = is_full ? NULL : take(thread, sizeof *made + times);
-        if (!made) {
-            stop(is_full ? MANY_RECORDS : NO_MEMORY, NULL);
-            return NULL;
-        }
-        if (thread->last) thread->last->next = made;
-        else thread->first = made;
-        thread->last = made;
-        thread->capacity += RECORDS_OF_BLOCK;
-    }
+    if (count == thread->capacity && !add_block(thread)) return NULL;
     return &thread->last->records[count % RECORDS_OF_BLOCK];
 }
 
