@@ -127,20 +127,22 @@ static void begin(void) {
     atexit(end);
 }
 
-/* Whether this thread's end is watched, and so recording has begun. */
+static pthread_once_t once = PTHREAD_ONCE_INIT;
+static _Atomic bool has_begun;
+/* Whether the end of this thread is watched. */
 static __thread bool is_watched __attribute__((tls_model("initial-exec")));
 
-static __attribute__((noinline)) void watch_thread(void) {
-    static pthread_once_t once = PTHREAD_ONCE_INIT;
+static __attribute__((noinline)) void begin_once(void) {
     pthread_once(&once, begin);
-    struct thread *thread = this_thread();
-    if (thread) is_watched = pthread_setspecific(ending_thread, thread) == 0;
+    atomic_store(&has_begun, true);
 }
 
 /* Returns this thread, or NULL where recording is over. */
 static struct thread *recorded_thread(void) {
-    if (!is_watched) watch_thread();
-    return this_thread();
+    if (!atomic_load_explicit(&has_begun, memory_order_relaxed)) begin_once();
+    struct thread *thread = this_thread();
+    if (thread && !is_watched) is_watched = pthread_setspecific(ending_thread, thread) == 0;
+    return thread;
 }
 
 /* Returns the task that runs here. A thread that runs none begins its initial task. */
@@ -160,23 +162,24 @@ static ompt_data_t running_task(void) {
 
 static void tell(ompt_sync_region_t kind, ompt_scope_endpoint_t endpoint, const void *code) {
     ompt_data_t task = running_task();
-    on_sync_region(kind, endpoint, NULL, &task, code);
+    if (task.ptr) on_sync_region(kind, endpoint, NULL, &task, code);
 }
 
-#define WAITS(name, kind)                               \
-    EXPORTED void name(void) {                                   \
-        const void *code = CODE;                        \
-        tell(kind, ompt_scope_begin, code);             \
-        REAL(name)();                                   \
-        tell(kind, ompt_scope_end, code);               \
+#define WAITS(name, kind)                                          \
+    EXPORTED void name(void) {                                     \
+        const void *code = CODE;                                   \
+        bool is_recorded = recorded_thread();                      \
+        if (is_recorded) tell(kind, ompt_scope_begin, code);       \
+        REAL(name)();                                              \
+        if (is_recorded) tell(kind, ompt_scope_end, code);         \
     }
-#define WAITS_OR_IS_CANCELLED(name, kind)               \
-    EXPORTED bool name(void) {                                   \
-        const void *code = CODE;                        \
-        tell(kind, ompt_scope_begin, code);             \
-        bool is_cancelled = REAL(name)();               \
-        tell(kind, ompt_scope_end, code);               \
-        return is_cancelled;                            \
+#define WAITS_OR_IS_CANCELLED(name, kind)                          \
+    EXPORTED bool name(void) {                                     \
+        const void *code = CODE;                                   \
+        tell(kind, ompt_scope_begin, code);                        \
+        bool is_cancelled = REAL(name)();                          \
+        tell(kind, ompt_scope_end, code);                          \
+        return is_cancelled;                                       \
     }
 
 WAITS(GOMP_taskwait, ompt_sync_region_taskwait)
@@ -270,9 +273,14 @@ static void end_region(struct region *region, const void *code) {
     on_parallel_end(&region->id, &task, 0, code);
 }
 
-/* The functions that run a parallel region, which differ in what stands behind the number of threads. */
+/* The functions that run a parallel region, which differ in what stands behind the number of threads. Where recording is
+   over, the program's own calls go on to the runtime as they are. */
 #define RUNS_REGION(name, types, words)                                                                \
     EXPORTED void name(function *call, void *data, unsigned threads, UNPACK types) {                            \
+        if (!recorded_thread()) {                                                                      \
+            REAL(name)(call, data, threads, UNPACK words);                                             \
+            return;                                                                                    \
+        }                                                                                              \
         struct region region = {.call = call, .data = data};                                           \
         const void *code = CODE;                                                                       \
         begin_region(&region, threads, 0, code);                                                       \
@@ -297,6 +305,7 @@ RUNS_REGION(GOMP_parallel_loop_maybe_nonmonotonic_runtime, (long start, long end
             (start, end, step, flags))
 
 EXPORTED unsigned GOMP_parallel_reductions(function *call, void *data, unsigned threads, unsigned flags) {
+    if (!recorded_thread()) return REAL(GOMP_parallel_reductions)(call, data, threads, flags);
     struct region region = {.reductions = *(void **)data, .call = call, .data = data};
     const void *code = CODE;
     begin_region(&region, threads, 0, code);
@@ -316,6 +325,10 @@ static void run_initial(void *it) {
 }
 
 EXPORTED void GOMP_teams_reg(function *call, void *data, unsigned teams, unsigned limit, unsigned flags) {
+    if (!recorded_thread()) {
+        REAL(GOMP_teams_reg)(call, data, teams, limit, flags);
+        return;
+    }
     struct region region = {.call = call, .data = data};
     const void *code = CODE;
     begin_region(&region, teams, PARALLEL_LEAGUE, code);
@@ -548,6 +561,10 @@ static bool is_cancellation_on(void) {
 
 EXPORTED void GOMP_task(function *call, void *data, void (*copy)(void *, void *), long size, long align, bool is_deferred,
                unsigned flags, void **list, int priority, void *detach) {
+    if (!recorded_thread()) {
+        REAL(GOMP_task)(call, data, copy, size, align, is_deferred, flags, list, priority, detach);
+        return;
+    }
     struct creation made = {.call = call, .data = data, .copy = copy, .size = (size_t)size, .offset = offset_of(align),
                             .list = flags & HAS_LIST ? list : NULL, .code = CODE, .flags = flags_of(flags, is_deferred),
                             .is_detached = flags & IS_DETACHED, .may_be_dropped = !copy && is_cancellation_on()};
@@ -558,6 +575,10 @@ EXPORTED void GOMP_task(function *call, void *data, void (*copy)(void *, void *)
 #define CREATES_LOOP(name, type)                                                                                    \
     EXPORTED void name(function *call, void *data, void (*copy)(void *, void *), long size, long align, unsigned flags,      \
               unsigned long count, int priority, type start, type end, type step) {                                 \
+        if (!recorded_thread()) {                                                                                   \
+            REAL(name)(call, data, copy, size, align, flags, count, priority, start, end, step);                    \
+            return;                                                                                                 \
+        }                                                                                                           \
         struct creation made = {.call = call, .data = data, .copy = copy, .size = (size_t)size,                     \
                                 .offset = offset_of(align), .code = CODE, .is_part = true,                          \
                                 .reductions = flags & LOOP_REDUCTION ? ((void **)data)[2] : NULL,                   \
