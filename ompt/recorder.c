@@ -1,9 +1,11 @@
 /* An OMPT tool that records a run of an OpenMP program as a trace file of taskaudit. Each callback becomes a record in
    a buffer of its thread; the file is written at the end. taskaudit-run starts programs with it. */
 #define _GNU_SOURCE
+#include "callbacks.h"
 #include "tool.h"
 #include "recorder.h"
 
+#include <pthread.h>
 #include <signal.h>
 #include <stdlib.h>
 #include <string.h>
@@ -35,7 +37,7 @@ static __thread struct thread *own __attribute__((tls_model("initial-exec")));
 static bool is_forked;
 static _Atomic bool has_file = true;
 
-static void note(enum note what, const void *code) {
+void note(enum note what, const void *code) {
     if (atomic_fetch_add_explicit(&notes[what], 1, memory_order_relaxed) == 0) atomic_store(&first_code[what], code);
 }
 
@@ -51,14 +53,41 @@ static void set_signal_stack(void) {
     if ((ours.ss_sp = malloc(ours.ss_size))) sigaltstack(&ours, NULL);
 }
 
-/* Returns this thread, which is made at its first callback of any kind: a thread that is not the runtime's may fulfil
-   an event. NULL where recording is over. */
-static struct thread *this_thread(void) {
-    if (atomic_load_explicit(&is_over, memory_order_relaxed)) return NULL;
-    if (own) return own;
+/* Threads of the system that have ended, whose numbers and buffers others go on with. */
+static struct thread *first_ended;
+static pthread_mutex_t ending = PTHREAD_MUTEX_INITIALIZER;
+static _Atomic int ended_count;
+
+static struct thread *ended_thread(void) {
+    if (atomic_load_explicit(&ended_count, memory_order_relaxed) == 0) return NULL;
+    pthread_mutex_lock(&ending);
+    struct thread *found = first_ended;
+    if (found) {
+        first_ended = found->next_ended;
+        atomic_fetch_sub(&ended_count, 1);
+    }
+    pthread_mutex_unlock(&ending);
+    return found;
+}
+
+void release_thread(struct thread *thread) {
+    pthread_mutex_lock(&ending);
+    thread->next_ended = first_ended;
+    first_ended = thread;
+    atomic_fetch_add(&ended_count, 1);
+    pthread_mutex_unlock(&ending);
+}
+
+/* Makes this thread, at its first callback of any kind: a thread that is not the runtime's may fulfil an event. */
+static __attribute__((noinline)) struct thread *new_thread(void) {
     if (!atomic_exchange(&has_file, true) && !begin_file_of_fork()) {
         atomic_store(&is_over, true);
         return NULL;
+    }
+    struct thread *ended = ended_thread();
+    if (ended) {
+        ended->id = (int)syscall(SYS_gettid);
+        return own = ended;
     }
     int number = atomic_fetch_add(&thread_count, 1);
     struct thread *made = number < MAX_THREADS ? calloc(1, sizeof *made) : NULL;
@@ -72,6 +101,22 @@ static struct thread *this_thread(void) {
     return threads[number] = own = made;
 }
 
+/* Which thread this is, while it tells what another one does. */
+static __thread struct thread *self __attribute__((tls_model("initial-exec")));
+
+struct thread *act_as(struct thread *thread) {
+    struct thread *was = own;
+    if (!self) self = was;
+    if (thread == self) self = NULL;
+    own = thread;
+    return was;
+}
+
+struct thread *this_thread(void) {
+    if (atomic_load_explicit(&is_over, memory_order_relaxed)) return NULL;
+    return own ? own : new_thread();
+}
+
 void end_recording(void) {
     atomic_store(&is_over, true);
 }
@@ -79,6 +124,8 @@ void end_recording(void) {
 /* The first callback makes a file, so that a process that uses no OpenMP has none. */
 void forget_records(void) {
     own = NULL;
+    first_ended = NULL;
+    ended_count = 0;
     memset(threads, 0, sizeof threads);
     memset(notes, 0, sizeof notes);
     thread_count = 0;
@@ -105,22 +152,26 @@ static void *take(struct thread *thread, size_t bytes) {
     return taken;
 }
 
+/* Adds room for more records; returns false where a limit is reached. */
+static __attribute__((noinline)) bool add_block(struct thread *thread) {
+    bool is_full = atomic_fetch_add(&block_count, 1) >= MAX_RECORDS / RECORDS_OF_BLOCK;
+    size_t times = settings.has_times ? RECORDS_OF_BLOCK * sizeof *thread->last->times : 0;
+    struct block *made = is_full ? NULL : take(thread, sizeof *made + times);
+    if (!made) {
+        stop(is_full ? MANY_RECORDS : NO_MEMORY, NULL);
+        return false;
+    }
+    if (thread->last) thread->last->next = made;
+    else thread->first = made;
+    thread->last = made;
+    thread->capacity += RECORDS_OF_BLOCK;
+    return true;
+}
+
 /* Returns room for one more record, or NULL where a limit is reached. */
 static struct record *room(struct thread *thread) {
     uint32_t count = atomic_load_explicit(&thread->count, memory_order_relaxed);
-    if (count == thread->capacity) {
-        bool is_full = atomic_fetch_add(&block_count, 1) >= MAX_RECORDS / RECORDS_OF_BLOCK;
-        size_t times = settings.has_times ? RECORDS_OF_BLOCK * sizeof *thread->last->times : 0;
-        struct block *made = is_full ? NULL : take(thread, sizeof *made + times);
-        if (!made) {
-            stop(is_full ? MANY_RECORDS : NO_MEMORY, NULL);
-            return NULL;
-        }
-        if (thread->last) thread->last->next = made;
-        else thread->first = made;
-        thread->last = made;
-        thread->capacity += RECORDS_OF_BLOCK;
-    }
+    if (count == thread->capacity && !add_block(thread)) return NULL;
     return &thread->last->records[count % RECORDS_OF_BLOCK];
 }
 
@@ -192,14 +243,14 @@ static struct task *new_task(struct thread *thread) {
 
 /* The callbacks, in the order of OpenMP 5.2, 19.5.2 */
 
-static void on_thread_begin(ompt_thread_t kind, ompt_data_t *data) {
+void on_thread_begin(ompt_thread_t kind, ompt_data_t *data) {
     (void)data;
     struct thread *thread = this_thread();
     struct record record = {.callback = THREAD_BEGIN, .kind = (int)kind <= LAST_THREAD_KIND ? kind : 0};
     if (thread) keep_known(thread, record);
 }
 
-static void on_thread_end(ompt_data_t *data) {
+void on_thread_end(ompt_data_t *data) {
     (void)data;
     struct thread *thread = this_thread();
     if (thread) keep_known(thread, (struct record){.callback = THREAD_END});
@@ -250,7 +301,7 @@ static struct task *encountering_task(struct thread *thread, ompt_data_t *data) 
     return task;
 }
 
-static void on_parallel_begin(ompt_data_t *encountering, const ompt_frame_t *frame, ompt_data_t *region,
+void on_parallel_begin(ompt_data_t *encountering, const ompt_frame_t *frame, ompt_data_t *region,
                               unsigned int requested, int flags, const void *code) {
     (void)frame;
     struct thread *thread = this_thread();
@@ -262,7 +313,7 @@ static void on_parallel_begin(ompt_data_t *encountering, const ompt_frame_t *fra
                                        .size = requested, .code = code});
 }
 
-static void on_parallel_end(ompt_data_t *region, ompt_data_t *encountering, int flags, const void *code) {
+void on_parallel_end(ompt_data_t *region, ompt_data_t *encountering, int flags, const void *code) {
     (void)flags;
     struct thread *thread = this_thread();
     struct task *task = task_of(encountering);
@@ -283,7 +334,7 @@ static void end_root(struct thread *thread, struct record record, struct task *r
     keep_known(thread, record);
 }
 
-static void on_implicit_task(ompt_scope_endpoint_t endpoint, ompt_data_t *region, ompt_data_t *data,
+void on_implicit_task(ompt_scope_endpoint_t endpoint, ompt_data_t *region, ompt_data_t *data,
                              unsigned int actual, unsigned int index, int flags) {
     struct thread *thread = this_thread();
     if (!thread) return;
@@ -297,7 +348,7 @@ static void on_implicit_task(ompt_scope_endpoint_t endpoint, ompt_data_t *region
 
 /* A task is the child of the one that creates it. Parts of a taskloop are created in the name of a task that does not
    run there; then it is the one that does. */
-static void on_task_create(ompt_data_t *encountering, const ompt_frame_t *frame, ompt_data_t *data, int flags,
+void on_task_create(ompt_data_t *encountering, const ompt_frame_t *frame, ompt_data_t *data, int flags,
                            int has_dependences, const void *code) {
     (void)frame, (void)has_dependences;
     struct thread *thread = this_thread();
@@ -339,7 +390,7 @@ static uint32_t copy_list(struct dependence *list, const ompt_dependence_t *item
 }
 
 /* Dependences count only directly after the creation of their task, which then says that they follow. */
-static void on_dependences(ompt_data_t *data, const ompt_dependence_t *items, int count) {
+void on_dependences(ompt_data_t *data, const ompt_dependence_t *items, int count) {
     struct thread *thread = this_thread();
     struct task *task = task_of(data);
     if (!thread || !task) return;
@@ -393,7 +444,7 @@ static uint32_t run_next(struct thread *thread, struct task *next) {
     return ++next->turn;
 }
 
-static void on_task_schedule(ompt_data_t *prior_data, ompt_task_status_t status, ompt_data_t *next_data) {
+void on_task_schedule(ompt_data_t *prior_data, ompt_task_status_t status, ompt_data_t *next_data) {
     struct thread *thread = this_thread();
     struct task *prior = task_of(prior_data), *next = is_without_next(status) ? NULL : task_of(next_data);
     if (!thread) return;
@@ -439,7 +490,7 @@ __attribute__((noinline)) static struct task *ending_task(struct thread *thread,
     return member;
 }
 
-static void on_sync_region(ompt_sync_region_t kind, ompt_scope_endpoint_t endpoint, ompt_data_t *region,
+void on_sync_region(ompt_sync_region_t kind, ompt_scope_endpoint_t endpoint, ompt_data_t *region,
                            ompt_data_t *data, const void *code) {
     struct thread *thread = this_thread();
     if (!thread) return;
@@ -456,17 +507,17 @@ static void on_sync_region(ompt_sync_region_t kind, ompt_scope_endpoint_t endpoi
         keep_known(thread, record);
     } else {
         keep_reading(thread, record);
-        shake(thread, BEHIND_WAIT);
+        if (!self) shake(thread, BEHIND_WAIT);
     }
 }
 
-static void on_reduction(ompt_sync_region_t kind, ompt_scope_endpoint_t endpoint, ompt_data_t *region,
+void on_reduction(ompt_sync_region_t kind, ompt_scope_endpoint_t endpoint, ompt_data_t *region,
                          ompt_data_t *data, const void *code) {
     (void)kind;
     on_sync_region(ompt_sync_region_reduction, endpoint, region, data, code);
 }
 
-static void on_cancel(ompt_data_t *data, int flags, const void *code) {
+void on_cancel(ompt_data_t *data, int flags, const void *code) {
     struct thread *thread = this_thread();
     struct task *task = task_of(data);
     if (!thread || !task) return;

@@ -95,13 +95,15 @@ struct thread {
     uint64_t random;           /* the last number that was drawn, where the run is shaken */
     uint64_t places;           /* at how many places it could be delayed so far */
     bool is_bound;             /* to fewer processors */
+    struct thread *next_ended;
+    _Atomic int standing;      /* for the recorder of libgomp */
 };
 
 /* What was changed or left out, and what the audit does not cover: each with its name in the header of the file. */
 enum note {
     MOVED, UNTIED, CREATED_FOR_ANOTHER, DISCARDED_TWICE, DOACROSS, ALL_MEMORY, LONG_LIST, LATE_LIST, NO_TASK,
     UNKNOWN, WRONG_END, NESTED, INNER_REGIONS, TEAMS, TARGET, ADDED_MEMBERS, BARRIERS_RENAMED,
-    JOINS_IN_TEAMS, LEAGUE_MEMBERS, HELPERS_WITHOUT_TASK,
+    JOINS_IN_TEAMS, LEAGUE_MEMBERS, HELPERS_WITHOUT_TASK, TARGET_CONSTRUCTS,
     /* why recording stopped */
     MANY_RECORDS, MANY_TASKS, MANY_THREADS, DEEP_TASKS, NO_MEMORY, NOTES
 };
@@ -114,6 +116,16 @@ extern _Atomic int thread_count;
 extern _Atomic uint32_t region_count;
 extern _Atomic uint64_t notes[NOTES];
 extern const void *_Atomic first_code[NOTES];
+
+/* Returns this thread, or NULL where recording is over. */
+struct thread *this_thread(void);
+/* Lets this thread tell what another one does, which does nothing meanwhile. Returns who it was. */
+struct thread *act_as(struct thread *thread);
+/* Gives number and buffer of a thread that has ended to the next thread that is made. */
+void release_thread(struct thread *thread);
+
+/* Counts something that was changed or left out. */
+void note(enum note what, const void *code);
 
 /* Forgets all records, in a forked process: they are its parent's. */
 void forget_records(void);

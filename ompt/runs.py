@@ -13,6 +13,8 @@ SECONDS = 10
 LEFT = 'it was killed, or left by _exit or exec, before it could write its file'
 RUNNING = 'it still runs, and writes its file when it ends'
 # Symbols and versions of them that a program needs and its libraries lack, as `ldd -r` tells.
+STATIC = ('the program is linked statically, with OpenMP in it, so no recorder can be loaded; link it to the shared runtime,'
+          ' without -static')
 LACKING = re.compile(r"version [`']([^']+)' not found|undefined symbol: (\w+)")
 
 
@@ -79,6 +81,13 @@ def is_llvm(libraries):
     return any(re.match(r'lib(omp|iomp5)[.\d-]*so', it) for it in libraries)
 
 
+def is_static_openmp(file):
+    """Whether the file is a program without shared libraries, which has OpenMP in it."""
+    with open(file, 'rb') as it:
+        is_program = it.read(4) == b'\x7fELF'
+    return is_program and (has_word(file, b'GOMP_parallel') or has_word(file, b'__kmpc_fork_call'))
+
+
 def has_word(file, word):
     """Whether the word is in the file, as the name of a symbol is."""
     try:
@@ -98,13 +107,21 @@ def lacking(program, environment):
 
 
 def sentence_on_lacking(symbols):
-    return (f"LLVM's runtime, under which programs that gcc compiled are recorded, lacks {', '.join(symbols)}: this"
-            " program runs under GCC's own runtime alone, which has no OMPT")
+    return (f"LLVM's runtime, under which the program is to be recorded, lacks {', '.join(symbols)}: this program runs under"
+            " GCC's own runtime alone (--runtime libgomp)")
+
+
+def is_front(environment):
+    """Whether the recorder stands in front of the runtime of programs that gcc compiled."""
+    return 'libtaskaudit_gomp' in environment.get('LD_PRELOAD', '')
 
 
 def reason_for_nothing(program, environment, status):
     """Why a run recorded nothing, where no process said so."""
     libraries = libraries_of(program, environment)
+    if is_gcc(libraries) and is_front(environment):
+        return ('the program ended before it used OpenMP' if status else
+                'this program used no OpenMP: it called no function of its runtime')
     symbols = lacking(program, environment)[1] if is_gcc(libraries) and status else []
     if symbols:
         return sentence_on_lacking(symbols)

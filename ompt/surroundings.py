@@ -1,15 +1,18 @@
-"""The environment in which taskaudit-run starts a program: the recorder, beside another tool where one is named, and for
-programs that gcc compiled LLVM's runtime under the name of GCC's."""
+"""The environment in which taskaudit-run starts a program: the recorder as a tool of LLVM's runtime, beside another tool
+where one is named; and for programs that gcc compiled the recorder that stands in front of their own runtime, or LLVM's
+runtime under the name of GCC's."""
 import glob
 import os
 import re
 import tempfile
 
 from outcomes import NOT_RECORDED, End
-from runs import is_gcc, is_llvm, lacking, libraries_of, sentence_on_lacking
+from runs import STATIC, is_gcc, is_llvm, is_static_openmp, lacking, libraries_of, sentence_on_lacking
 
 OUT = os.path.join(os.path.dirname(os.path.realpath(__file__)), 'out')
-RECORDER, BESIDE = 'libtaskaudit_ompt.so', 'libtaskaudit_beside.so'
+RECORDER, BESIDE, OF_GCC = 'libtaskaudit_ompt.so', 'libtaskaudit_beside.so', 'libtaskaudit_gomp.so'
+# The runtimes of programs that gcc compiled: their own, which is the default, or LLVM's.
+RUNTIMES_OF_GCC = LIBGOMP, LIBOMP = 'libgomp', 'libomp'
 # Where LLVM's runtime is for programs that gcc compiled; TASKAUDIT_LIBOMP names another one.
 RUNTIMES = '/usr/lib/llvm-*/lib/libomp.so.5'
 
@@ -36,11 +39,17 @@ def other_tools():
     return os.environ.get('TASKAUDIT_TOOL_LIBRARIES', '') if is_within else named
 
 
-class Place:
-    """A folder that is there while a program runs, and the environment of that: the list of its files, and LLVM's runtime
-    where the program has to find it."""
+def preloaded(first):
+    """What is loaded before a program, with this library first."""
+    others = [it for it in re.split('[ :]+', os.environ.get('LD_PRELOAD', '')) if os.path.basename(it) != OF_GCC]
+    return ':'.join(filter(None, [first, *others]))
 
-    def __init__(self, told, runtime):
+
+class Place:
+    """A folder that is there while a program runs, and the environment of that: the list of its files; and where the program
+    has to find them, LLVM's runtime, or the recorder that stands in front of GCC's."""
+
+    def __init__(self, told, runtime, is_front=False):
         self.folder = tempfile.TemporaryDirectory(prefix='taskaudit-', ignore_cleanup_errors=True)
         self.list = os.path.join(self.folder.name, 'list')
         self.told = {**told, 'TASKAUDIT_RUN': self.list}
@@ -50,6 +59,16 @@ class Place:
             os.symlink(os.path.abspath(runtime), os.path.join(self.folder.name, 'libgomp.so.1'))
             path = filter(None, [self.folder.name, os.environ.get('LD_LIBRARY_PATH')])
             self.told['LD_LIBRARY_PATH'] = ':'.join(path)
+        if is_front:
+            self.told['LD_PRELOAD'] = preloaded(self.named(library(OF_GCC)))
+
+    def named(self, path):
+        """A path of this library without a blank or a colon, which end the name of a library that is loaded before."""
+        if not re.search('[ :]', path):
+            return path
+        link = os.path.join(self.folder.name, os.path.basename(path))
+        os.symlink(path, link)
+        return link
 
     def __enter__(self):
         return self
@@ -70,7 +89,14 @@ class Surroundings:
         if os.environ.get('OMP_TOOL') == 'disabled':
             log.say('OMP_TOOL=disabled is set to enabled for this run')
         self.add_other_tool()
-        self.runtime = self.runtime_for(program, asked.allow_none)
+        libraries = libraries_of(program)
+        if not libraries and is_static_openmp(program) and not asked.allow_none:
+            raise End(NOT_RECORDED, STATIC)
+        self.runtime = None
+        # programs that gcc compiled may also be started by a script
+        self.is_front = asked.runtime == LIBGOMP and (is_gcc(libraries) or not is_llvm(libraries))
+        if asked.runtime == LIBOMP:
+            self.runtime = self.runtime_for(program, libraries, asked.allow_none)
 
     def add_other_tool(self):
         """A tool that is named already runs too."""
@@ -84,12 +110,12 @@ class Surroundings:
         self.told |= {'OMP_TOOL_LIBRARIES': library(BESIDE), 'TASKAUDIT_TOOL_LIBRARIES': others}
         self.log.say(f'{others} runs beside the recorder, as OMP_TOOL_LIBRARIES names it')
 
-    def runtime_for(self, program, is_allowed_none):
+    def runtime_for(self, program, libraries, is_allowed_none):
         """LLVM's runtime, where programs that gcc compiled are to find it, also those that a script starts; or None."""
-        libraries, runtime = libraries_of(program), find_runtime()
+        runtime = find_runtime()
         if is_gcc(libraries) and not runtime:
-            raise End(NOT_RECORDED, "the program was compiled by gcc, whose libgomp has no OMPT; install LLVM's runtime,"
-                                    ' which can run it too (Debian: libomp-dev)')
+            raise End(NOT_RECORDED, "the program was compiled by gcc, and LLVM's runtime, under which it is to be recorded, is"
+                                    ' not there (Debian: libomp-dev)')
         if not runtime or not is_gcc(libraries):
             return None if is_llvm(libraries) else runtime
         with Place(self.told, runtime) as place:
@@ -102,4 +128,4 @@ class Surroundings:
 
     def place(self, shaking=None):
         """A place for one run, which is shaken so."""
-        return Place({**self.told, 'TASKAUDIT_SHAKE': shaking} if shaking else self.told, self.runtime)
+        return Place({**self.told, 'TASKAUDIT_SHAKE': shaking} if shaking else self.told, self.runtime, self.is_front)

@@ -33,7 +33,7 @@ static const struct flag cancel_flags[] = {{1, "parallel"}, {2, "sections"}, {4,
 static const char *const note_names[NOTES] = {
     "moved", "untied", "created_for_another", "discarded_twice", "doacross", "all_memory", "long_list", "late_list",
     "no_task", "unknown", "wrong_end", "nested", "inner_regions", "teams", "target", "added_members", "barriers_renamed",
-    "joins_in_teams", "league_members", "helpers_without_task",
+    "joins_in_teams", "league_members", "helpers_without_task", "target_constructs",
     "many_records", "many_tasks", "many_threads", "deep_tasks", "no_memory"};
 
 /* No record takes more text: a path has at most 1,024 numbers, a list 64 items, and a module's name 256 bytes. */

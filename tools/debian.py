@@ -19,9 +19,9 @@ DESCRIPTION = """Auditor of recorded OpenMP tasks
  dependences started, only when it was allowed to. The code that reads, judges and
  prints is proved by machine.
  .
- taskaudit-run runs a program under LLVM's OpenMP runtime, records its tasks,
- and audits what was recorded. taskaudit-explain explains an answer, and
- taskaudit-audit audits many files."""
+ taskaudit-run runs a program under the OpenMP runtime of LLVM or GCC, records
+ its tasks, and audits what was recorded. taskaudit-explain explains an answer,
+ and taskaudit-audit audits many files."""
 # The documents named in the help, the errors and the scripts.
 DOCUMENTS = ('CAUSES.md', 'FORMAT.md', 'MODEL.md', 'RECORDING.md', 'SUITES.md', 'SUMMARY.md',
              'TIMELINE.md', 'trace.schema.json')
@@ -50,7 +50,7 @@ NEEDED = ('ompt/outcomes.py', 'ompt/repeating.py', 'ompt/running.py', 'ompt/runs
           'tools/page.py', 'tools/progress.py', 'tools/recording.py', 'tools/sheet.py', 'tools/summary.py',
           'tools/timeline.py', 'tools/traces.py', 'tools/walks.py', 'tools/texts/version', 'tests/model.py',
           'docs/trace.schema.json')
-LIBRARIES = ('libtaskaudit_ompt.so', 'libtaskaudit_beside.so')
+LIBRARIES = ('libtaskaudit_ompt.so', 'libtaskaudit_beside.so', 'libtaskaudit_gomp.so')
 # The scripts have match statements.
 OLDEST_PYTHON = (3, 10)
 ANY_PYTHON, PYTHON = b'#!/usr/bin/env python3\n', b'#!/usr/bin/python3\n'
