@@ -173,22 +173,10 @@ static void tell(ompt_sync_region_t kind, ompt_scope_endpoint_t endpoint, const 
         REAL(name)();                                              \
         if (is_recorded) tell(kind, ompt_scope_end, code);         \
     }
-#define WAITS_OR_IS_CANCELLED(name, kind)                          \
-    EXPORTED bool name(void) {                                     \
-        const void *code = CODE;                                   \
-        tell(kind, ompt_scope_begin, code);                        \
-        bool is_cancelled = REAL(name)();                          \
-        tell(kind, ompt_scope_end, code);                          \
-        return is_cancelled;                                       \
-    }
-
 WAITS(GOMP_taskwait, ompt_sync_region_taskwait)
 WAITS(GOMP_barrier, ompt_sync_region_barrier_explicit)
 WAITS(GOMP_loop_end, ompt_sync_region_barrier_implicit_workshare)
 WAITS(GOMP_sections_end, ompt_sync_region_barrier_implicit_workshare)
-WAITS_OR_IS_CANCELLED(GOMP_barrier_cancel, ompt_sync_region_barrier_explicit)
-WAITS_OR_IS_CANCELLED(GOMP_loop_end_cancel, ompt_sync_region_barrier_implicit_workshare)
-WAITS_OR_IS_CANCELLED(GOMP_sections_end_cancel, ompt_sync_region_barrier_implicit_workshare)
 
 EXPORTED void GOMP_taskgroup_start(void) {
     tell(ompt_sync_region_taskgroup, ompt_scope_begin, CODE);
@@ -234,11 +222,21 @@ struct region {
     void *data;
     ompt_data_t id;
     unsigned size;
+    _Atomic unsigned met;       /* at how many of the barriers that may be cancelled all members have met */
     struct thread *members[MAX_THREADS];
 };
 
+/* The region of which this thread is a member, and to how many of these barriers it has come. */
+struct member {
+    struct region *region;
+    unsigned barriers;
+};
+static __thread struct member own_member __attribute__((tls_model("initial-exec")));
+
 static void run_member(void *it) {
     struct region *region = it;
+    struct member outer = own_member;
+    own_member = (struct member){.region = region};
     unsigned size = (unsigned)REAL(omp_get_num_threads)(), index = (unsigned)REAL(omp_get_thread_num)();
     struct thread *thread = recorded_thread();
     ompt_data_t task = {0};
@@ -248,6 +246,7 @@ static void run_member(void *it) {
     if (index < MAX_THREADS) region->members[index] = join_team(thread, index != 0);
     region->call(region->data);
     on_sync_region(ompt_sync_region_barrier_implicit_parallel, ompt_scope_begin, &region->id, &task, NULL);
+    own_member = outer;
 }
 
 static void begin_region(struct region *region, unsigned threads, int flags, const void *code) {
@@ -313,6 +312,32 @@ EXPORTED unsigned GOMP_parallel_reductions(function *call, void *data, unsigned 
     end_region(&region, code);
     return size;
 }
+
+/* Whether all members met at the barrier that this thread leaves. Where the region is cancelled none waits there any more,
+   and some do not come. But a member that left it before may have been the one that cancelled, and said that they met. */
+static bool have_met(bool is_cancelled) {
+    struct region *region = own_member.region;
+    if (!region) return !is_cancelled;
+    unsigned number = ++own_member.barriers, met = atomic_load(&region->met);
+    if (is_cancelled) return met >= number;
+    while (met < number && !atomic_compare_exchange_weak(&region->met, &met, number)) continue;
+    return true;
+}
+
+/* Only behind such a barrier is it known whether it was one, so its begin and its end are one record. */
+#define WAITS_OR_IS_CANCELLED(name, kind)                                             \
+    EXPORTED bool name(void) {                                                        \
+        const void *code = CODE;                                                      \
+        struct thread *thread = recorded_thread();                                    \
+        if (thread) shake(thread, BEFORE_WAIT);                                       \
+        bool is_cancelled = REAL(name)();                                             \
+        if (thread && have_met(is_cancelled)) tell(kind, ompt_scope_beginend, code);  \
+        return is_cancelled;                                                          \
+    }
+
+WAITS_OR_IS_CANCELLED(GOMP_barrier_cancel, ompt_sync_region_barrier_explicit)
+WAITS_OR_IS_CANCELLED(GOMP_loop_end_cancel, ompt_sync_region_barrier_implicit_workshare)
+WAITS_OR_IS_CANCELLED(GOMP_sections_end_cancel, ompt_sync_region_barrier_implicit_workshare)
 
 /* Each initial task of a league runs on this thread, one after another. */
 static void run_initial(void *it) {
