@@ -193,9 +193,7 @@ EXPORTED void GOMP_taskgroup_end(void) {
 EXPORTED void *GOMP_single_copy_start(void) {
     const void *code = CODE;
     void *data = REAL(GOMP_single_copy_start)();
-    if (!data) return NULL;
-    tell(ompt_sync_region_barrier_implicit_workshare, ompt_scope_begin, code);
-    tell(ompt_sync_region_barrier_implicit_workshare, ompt_scope_end, code);
+    if (data) tell(ompt_sync_region_barrier_implicit_workshare, ompt_scope_beginend, code);
     return data;
 }
 
