@@ -103,6 +103,13 @@ void GOMP_barrier(void) {
     else REAL(GOMP_barrier)();
 }
 
+/* In a region that may be cancelled, but is not. */
+bool GOMP_barrier_cancel(void) {
+    if (!breaks("barrier")) return REAL(GOMP_barrier_cancel)();
+    meet();
+    return false;
+}
+
 void GOMP_loop_end_nowait(void);
 void GOMP_sections_end_nowait(void);
 

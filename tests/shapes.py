@@ -73,13 +73,13 @@ class Run:
 
     def take_wait(self, task, kind, endpoint):
         kind = 'barrier' if kind in BARRIERS else kind
-        if endpoint == 'begin':
+        if endpoint != 'end':
             wait = Wait(kind, task, self.created[task], self.others[task])
             self.opened[task].append(wait)
             self.waits[task].append(wait)
             # what a barrier is between does not count the barriers themselves
             self.others[task] += kind != 'barrier'
-        elif endpoint == 'end' and self.opened[task]:
+        if endpoint != 'begin' and self.opened[task]:
             self.opened[task].pop().end = self.created[task]
 
     def tree(self, task):
