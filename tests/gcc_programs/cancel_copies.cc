@@ -1,10 +1,10 @@
 /* A taskgroup that is cancelled, whose tasks have objects of classes: all that were copied are destroyed. */
-#include "working.h"
+#include "cancelling.h"
 
 #include <atomic>
 
 enum { TASKS = 40 };
-static std::atomic<int> alive, bodies;
+static std::atomic<int> alive;
 
 struct counted {
     int value;
@@ -23,14 +23,16 @@ int main() {
             object.value = i;
 #pragma omp task firstprivate(object)
             {
-                bodies++;
+                count_body();
                 work();
                 if (object.value == 2) {
+                    begin_cancel();
 #pragma omp cancel taskgroup
                 }
             }
         }
     }
-    printf("cancel_copies: %d\nbodies %d\n", alive.load(), bodies.load());
+    printf("cancel_copies: %d\n", alive.load());
+    print_late();
     return 0;
 }

@@ -1,30 +1,29 @@
 /* Loops that are cancelled: the schedules, with a barrier behind them, and tasks in the iterations. */
-#include "working.h"
+#include "cancelling.h"
 
 enum { LENGTH = 64 };
-static int bodies, tasks, after;
+static int tasks, after;
 
 int main(void) {
 #pragma omp parallel
     {
 #pragma omp for schedule(dynamic)
         for (int i = 0; i < LENGTH; i++) {
-#pragma omp atomic
-            bodies++;
+            count_body();
 #pragma omp task
             {
+                work();
 #pragma omp atomic
                 tasks++;
             }
             if (i == 3) {
+                begin_cancel();
 #pragma omp cancel for
             }
 #pragma omp cancellation point for
         }
 #pragma omp for schedule(static)
         for (int i = 0; i < LENGTH; i++) {
-#pragma omp atomic
-            bodies++;
             if (i == 0) {
 #pragma omp cancel for
             }
@@ -38,6 +37,7 @@ int main(void) {
             }
         }
     }
-    printf("cancel_loop: after %d, tasks %s\nbodies %d\n", after, tasks <= LENGTH ? "fit" : "too many", bodies);
+    printf("cancel_loop: after %d, tasks %s\n", after, tasks <= LENGTH ? "fit" : "too many");
+    print_late();
     return 0;
 }

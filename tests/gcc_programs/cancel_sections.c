@@ -1,7 +1,7 @@
 /* Sections of which one cancels the others, with tasks before and behind. */
-#include "working.h"
+#include "cancelling.h"
 
-static int bodies, tasks;
+static int tasks;
 
 int main(void) {
 #pragma omp parallel
@@ -19,21 +19,16 @@ int main(void) {
         {
 #pragma omp section
             {
-#pragma omp atomic
-                bodies++;
+                begin_cancel();
 #pragma omp cancel sections
             }
 #pragma omp section
             {
 #pragma omp cancellation point sections
-#pragma omp atomic
-                bodies++;
+                count_body();
             }
 #pragma omp section
-            {
-#pragma omp atomic
-                bodies++;
-            }
+            count_body();
         }
 #pragma omp single
         {
@@ -44,6 +39,7 @@ int main(void) {
             }
         }
     }
-    printf("cancel_sections: tasks %d\nbodies %d\n", tasks, bodies);
+    printf("cancel_sections: tasks %d\n", tasks);
+    print_late();
     return 0;
 }

@@ -1,8 +1,8 @@
 /* A taskgroup that a task cancels: the tasks that have not started are dropped. Those outside of it run. */
-#include "working.h"
+#include "cancelling.h"
 
 enum { TASKS = 40 };
-static int bodies, outside;
+static int outside;
 
 int main(void) {
 #pragma omp parallel
@@ -19,10 +19,10 @@ int main(void) {
         for (int i = 0; i < TASKS; i++) {
 #pragma omp task firstprivate(i)
             {
-#pragma omp atomic
-                bodies++;
+                count_body();
                 work();
                 if (i == 2) {
+                    begin_cancel();
 #pragma omp cancel taskgroup
                 }
 #pragma omp cancellation point taskgroup
@@ -30,6 +30,7 @@ int main(void) {
         }
 #pragma omp taskwait
     }
-    printf("cancel_taskgroup: outside %d\nbodies %d\n", outside, bodies);
+    printf("cancel_taskgroup: outside %d\n", outside);
+    print_late();
     return 0;
 }

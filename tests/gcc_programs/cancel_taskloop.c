@@ -1,21 +1,22 @@
-/* A taskloop whose taskgroup a part of it cancels, and nested taskgroups of which the inner one is cancelled. */
-#include "working.h"
+/* A taskloop whose taskgroup a part of it cancels, and taskgroups in taskgroups, of which the inner ones are cancelled. */
+#include "cancelling.h"
 
-static int bodies, outer;
+static int outer;
 
 int main(void) {
 #pragma omp parallel
 #pragma omp single
     {
-#pragma omp taskloop num_tasks(24)
-        for (int i = 0; i < 24; i++) {
-#pragma omp atomic
-            bodies++;
+#pragma omp taskloop num_tasks(32)
+        for (int i = 0; i < 32; i++) {
+            count_body();
             work();
             if (i == 1) {
+                begin_cancel();
 #pragma omp cancel taskgroup
             }
         }
+        end_cancel();
 #pragma omp taskgroup
         for (int i = 0; i < 4; i++) {
 #pragma omp task
@@ -24,8 +25,7 @@ int main(void) {
                 for (int j = 0; j < 8; j++) {
 #pragma omp task firstprivate(j)
                     {
-#pragma omp atomic
-                        bodies++;
+                        work();
                         if (j == 0) {
 #pragma omp cancel taskgroup
                         }
@@ -36,6 +36,7 @@ int main(void) {
             }
         }
     }
-    printf("cancel_taskloop: outer %d\nbodies %d\n", outer, bodies);
+    printf("cancel_taskloop: outer %d\n", outer);
+    print_late();
     return 0;
 }

@@ -27,7 +27,7 @@ static void expect(int number, int least) {
 int main(void) {
 #pragma omp parallel
     {
-#pragma omp single
+#pragma omp master
         {
 #pragma omp task
             {
@@ -49,10 +49,11 @@ int main(void) {
             expect(1, 6);
             family(3);
         }
+#pragma omp barrier
         expect(3, 3);
         expect(0, 6);
 #pragma omp barrier
-#pragma omp single nowait
+#pragma omp master
         family(4);
 #pragma omp barrier
         expect(4, 3);
