@@ -537,11 +537,21 @@ static void copy_block(void *to, void *from) {
     if (made->is_detached) header->event = add_event(made->event, task);
 }
 
+/* The innermost task that this thread is creating. */
+static __thread const struct creation *creating __attribute__((tls_model("initial-exec")));
+
+/* Whether a task runs inside the call that creates it: then its block is on the stack, behind what creates it. */
+static bool is_undeferred(const struct header *block) {
+    uintptr_t at = (uintptr_t)block;
+    return at < (uintptr_t)creating && at > (uintptr_t)__builtin_frame_address(0);
+}
+
 bool GOMP_cancellation_point(int which);
 
-/* Whether cancellation drops this task: libgomp itself drops none that has a function for copies. */
+/* Whether cancellation drops this task: libgomp itself drops none that has a function for copies. It drops no undeferred
+   one in any case. */
 static bool is_dropped(const struct header *header) {
-    return header->may_be_dropped && REAL(GOMP_cancellation_point)(CANCEL_TASKGROUP);
+    return header->may_be_dropped && !is_undeferred(header) && REAL(GOMP_cancellation_point)(CANCEL_TASKGROUP);
 }
 
 /* The body of a task has ended, and the task below goes on. */
@@ -591,8 +601,11 @@ EXPORTED void GOMP_task(function *call, void *data, void (*copy)(void *, void *)
     struct creation made = {.call = call, .data = data, .copy = copy, .size = (size_t)size, .offset = offset_of(align),
                             .list = flags & HAS_LIST ? list : NULL, .code = CODE, .flags = flags_of(flags, is_deferred),
                             .is_detached = flags & IS_DETACHED, .may_be_dropped = !copy && is_cancellation_on()};
+    const struct creation *outer = creating;
+    creating = &made;
     REAL(GOMP_task)(run_task, &made, copy_block, (long)made.offset + size, align_of(align), is_deferred, flags, list,
                     priority, detach);
+    creating = outer;
 }
 
 #define CREATES_LOOP(name, type)                                                                                    \
@@ -607,9 +620,12 @@ EXPORTED void GOMP_task(function *call, void *data, void (*copy)(void *, void *)
                                 .reductions = flags & LOOP_REDUCTION ? ((void **)data)[2] : NULL,                   \
                                 .flags = flags_of(flags & 7, flags & LOOP_IF),                                      \
                                 .may_be_dropped = !copy && is_cancellation_on()};                                   \
+        const struct creation *outer = creating;                                                                    \
         if (!(flags & LOOP_NOGROUP)) tell(ompt_sync_region_taskgroup, ompt_scope_begin, made.code);                 \
+        creating = &made;                                                                                           \
         REAL(name)(run_task, &made, copy_block, (long)made.offset + size, align_of(align), flags, count, priority,  \
                    start, end, step);                                                                               \
+        creating = outer;                                                                                           \
         if (!(flags & LOOP_NOGROUP)) tell(ompt_sync_region_taskgroup, ompt_scope_end, made.code);                   \
     }
 
