@@ -554,6 +554,17 @@ static bool is_dropped(const struct header *header) {
     return header->may_be_dropped && !is_undeferred(header) && REAL(GOMP_cancellation_point)(CANCEL_TASKGROUP);
 }
 
+/* Tells that a task is dropped, and fulfils its event: libgomp, for which the task runs, would wait for that. Where the event
+   is fulfilled already, or about to be, no record can say that the task is dropped, and this returns false. */
+static bool drop(struct header *header) {
+    struct event *event = header->event;
+    if (event && !take_event(event->id)) return false;
+    on_cancel(&header->task, ompt_cancel_discarded_task | ompt_cancel_taskgroup, NULL);
+    if (event) REAL(omp_fulfill_event)(event->id);
+    free(event);
+    return true;
+}
+
 /* The body of a task has ended, and the task below goes on. */
 static void end_body(struct header *header, ompt_data_t *below) {
     ompt_task_status_t status = ompt_task_complete;
@@ -570,14 +581,12 @@ static void end_body(struct header *header, ompt_data_t *below) {
 static void run_task(void *block) {
     struct header *header = block;
     char *data = (char *)block + header->offset;
-    if (is_dropped(header)) {
-        on_cancel(&header->task, ompt_cancel_discarded_task | ompt_cancel_taskgroup, NULL);
-        return;
-    }
+    bool is_empty = is_dropped(header);
+    if (is_empty && drop(header)) return;
     if (header->is_part) memcpy(data, header->bounds, sizeof header->bounds);
     ompt_data_t below = running_task();
     on_task_schedule(&below, ompt_task_switch, &header->task);
-    header->call(data);
+    if (!is_empty) header->call(data);
     end_body(header, &below);
 }
 
