@@ -54,12 +54,11 @@ class Run:
         self.facts = Own(map(json.loads, lines), True)
         self.waits, self.opened, self.others = defaultdict(list), defaultdict(list), Counter()
         self.created, self.regions = Counter(), defaultdict(list)
+        self.trees, self.names = {}, {}
+        teams = self.facts.teams
+        self.members = {region: [it for it in teams if teams[it] == region] for region in {*teams.values()}}
         for what, task, _, *more in self.facts.own_records():
             self.take(what, task, more)
-        self.members = defaultdict(list)
-        for member, region in self.facts.teams.items():
-            self.members[region].append(member)
-        self.trees, self.names = {}, {}
 
     def take(self, what, task, more):
         if what == CREATES:
@@ -86,17 +85,17 @@ class Run:
         """The tree of what a task creates."""
         if task not in self.trees:
             below = [self.tree(it) for it in self.facts.children.get(task, ())]
-            inside = [sorted(map(self.tree, self.members[it])) for it in self.regions[task]]
+            inside = [sorted(map(self.tree, self.members.get(it, ()))) for it in self.regions[task]]
             self.trees[task] = short(f'({"".join(below)}{inside or ""}{self.lists(task)})')
         return self.trees[task]
 
     def lists(self, task):
         """For each location, which children list it and how; a child that lists it as `out` too need not list it else."""
-        places = defaultdict(dict)
-        for number, child in enumerate(self.facts.children.get(task, ())):
-            for kind, place in self.facts.lists.get(child, ()):
-                if places[place].get(number) != 'out':
-                    places[place][number] = kind
+        places, children = defaultdict(dict), self.facts.children.get(task, ())
+        items = [(number, *it) for number, child in enumerate(children) for it in self.facts.lists.get(child, ())]
+        for number, kind, place in items:
+            if places[place].get(number) != 'out':
+                places[place][number] = kind
         return ' '.join(sorted(','.join(f'{number}{kind}' for number, kind in it.items()) for it in places.values()))
 
     def name(self, task):
@@ -154,14 +153,11 @@ class Run:
         return f'wait {self.name(wait.task)} after {wait.children} {wait.kind}: {covers}'
 
     def lines(self):
-        """The lines of the shape, without barriers of explicit and initial tasks, which have no team."""
-        for task in self.facts.parents:
-            yield f'task {self.name(task)}'
-        for task in [*self.facts.children]:
-            yield f'lists {self.name(task)}: {self.lists(task)}'
-        for it in [wait for waits in [*self.waits.values()] for wait in waits]:
-            if it.end is not None and not self.is_left_out(it):
-                yield self.line(it)
+        """The lines of the shape."""
+        waits = [it for of_task in [*self.waits.values()] for it in of_task]
+        return [*(f'task {self.name(it)}' for it in self.facts.parents),
+                *(f'lists {self.name(it)}: {self.lists(it)}' for it in [*self.facts.children]),
+                *(self.line(it) for it in waits if it.end is not None and not self.is_left_out(it))]
 
 
 def shape(path):

@@ -1,7 +1,7 @@
-/* Constructs that share work, with tasks inside: sections, single with and without copyprivate, scope, master, workshare. */
+/* Constructs that share work, with tasks inside: sections, single with and without copyprivate, scope, master. */
 #include "working.h"
 
-static int sum;
+static int sum, wrong;
 
 static void create(int what) {
 #pragma omp task firstprivate(what)
@@ -12,37 +12,45 @@ static void create(int what) {
     }
 }
 
+static void share_sections(void) {
+#pragma omp sections
+    {
+#pragma omp section
+        create(1);
+#pragma omp section
+        create(2);
+#pragma omp section
+        create(3);
+    }
+#pragma omp sections nowait
+    {
+        create(4);
+#pragma omp section
+        create(5);
+    }
+}
+
+static void share_single(void) {
+    int copied = 0;
+#pragma omp single copyprivate(copied)
+    {
+        create(6);
+        copied = 42;
+    }
+    if (copied != 42) {
+#pragma omp atomic
+        wrong++;
+    }
+#pragma omp single nowait
+    create(7);
+}
+
 int main(void) {
-    int of_scope = 0, wrong = 0;
+    int of_scope = 0;
 #pragma omp parallel
     {
-        int copied = 0;
-#pragma omp sections
-        {
-#pragma omp section
-            create(1);
-#pragma omp section
-            create(2);
-#pragma omp section
-            create(3);
-        }
-#pragma omp sections nowait
-        {
-            create(4);
-#pragma omp section
-            create(5);
-        }
-#pragma omp single copyprivate(copied)
-        {
-            create(6);
-            copied = 42;
-        }
-        if (copied != 42) {
-#pragma omp atomic
-            wrong++;
-        }
-#pragma omp single nowait
-        create(7);
+        share_sections();
+        share_single();
 #pragma omp scope reduction(max : of_scope)
         of_scope = 3;
 #pragma omp scope nowait
