@@ -59,8 +59,8 @@ void GOMP_taskgroup_end(void) {
     if (!breaks("taskgroup")) REAL(GOMP_taskgroup_end)();
 }
 
-/* Where the members of a team meet: the numbers of its ancestors in their teams tell it from the teams that run beside
-   it, in a program whose regions all are inside of regions of one thread. */
+/* Where the members of a team meet. Among the teams of one initial thread, the numbers of its members' ancestors in their
+   teams tell which one it is. */
 static struct meeting {
     int level, ancestors[MOST_LEVELS];
     int arrived;
