@@ -160,12 +160,17 @@ class Run:
                 *(self.line(it) for it in waits if it.end is not None and not self.is_left_out(it))]
 
 
+def shape_of(lines):
+    """The shape of the run that these lines behind the header say."""
+    sys.setrecursionlimit(10000)
+    return Counter(Run(lines).lines())
+
+
 def shape(path):
     """The shape of the run in a file."""
-    sys.setrecursionlimit(10000)
     with open(path, encoding='utf-8') as lines:
         next(lines)
-        return Counter(Run(lines).lines())
+        return shape_of(lines)
 
 
 def difference(first, second):
