@@ -1,11 +1,12 @@
-/* Teams that shrink and grow: threads of libgomp end and others begin. Its argument is how many rounds. */
+/* Teams that shrink and grow: threads of libgomp end and others begin. Its argument is how many seconds. */
 #include "working.h"
 
 #include <omp.h>
 #include <stdlib.h>
+#include <time.h>
 
 static const int sizes[] = {4, 2, 1, 3, 2, 4, 1, 8, 2};
-enum { SIZES = sizeof sizes / sizeof *sizes };
+enum { SIZES = sizeof sizes / sizeof *sizes, LEAST_ROUNDS = 10 };
 static int sum;
 
 static void run(int size) {
@@ -21,9 +22,12 @@ static void run(int size) {
 }
 
 int main(int count, char **words) {
-    int rounds = count > 1 ? atoi(words[1]) : 10;
-    for (int round = 0; round < rounds; round++)
+    time_t end = time(NULL) + (count > 1 ? atoi(words[1]) : 0);
+    int rounds = 0;
+    while (rounds < LEAST_ROUNDS || time(NULL) < end) {
         for (int i = 0; i < SIZES; i++) run(sizes[i]);
+        rounds++;
+    }
     printf("team_sizes: %d\n", sum / rounds);
     return 0;
 }
