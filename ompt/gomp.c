@@ -173,22 +173,10 @@ static void tell(ompt_sync_region_t kind, ompt_scope_endpoint_t endpoint, const 
         REAL(name)();                                              \
         if (is_recorded) tell(kind, ompt_scope_end, code);         \
     }
-#define WAITS_OR_IS_CANCELLED(name, kind)                          \
-    EXPORTED bool name(void) {                                     \
-        const void *code = CODE;                                   \
-        tell(kind, ompt_scope_begin, code);                        \
-        bool is_cancelled = REAL(name)();                          \
-        tell(kind, ompt_scope_end, code);                          \
-        return is_cancelled;                                       \
-    }
-
 WAITS(GOMP_taskwait, ompt_sync_region_taskwait)
 WAITS(GOMP_barrier, ompt_sync_region_barrier_explicit)
 WAITS(GOMP_loop_end, ompt_sync_region_barrier_implicit_workshare)
 WAITS(GOMP_sections_end, ompt_sync_region_barrier_implicit_workshare)
-WAITS_OR_IS_CANCELLED(GOMP_barrier_cancel, ompt_sync_region_barrier_explicit)
-WAITS_OR_IS_CANCELLED(GOMP_loop_end_cancel, ompt_sync_region_barrier_implicit_workshare)
-WAITS_OR_IS_CANCELLED(GOMP_sections_end_cancel, ompt_sync_region_barrier_implicit_workshare)
 
 EXPORTED void GOMP_taskgroup_start(void) {
     tell(ompt_sync_region_taskgroup, ompt_scope_begin, CODE);
@@ -205,9 +193,7 @@ EXPORTED void GOMP_taskgroup_end(void) {
 EXPORTED void *GOMP_single_copy_start(void) {
     const void *code = CODE;
     void *data = REAL(GOMP_single_copy_start)();
-    if (!data) return NULL;
-    tell(ompt_sync_region_barrier_implicit_workshare, ompt_scope_begin, code);
-    tell(ompt_sync_region_barrier_implicit_workshare, ompt_scope_end, code);
+    if (data) tell(ompt_sync_region_barrier_implicit_workshare, ompt_scope_beginend, code);
     return data;
 }
 
@@ -234,11 +220,21 @@ struct region {
     void *data;
     ompt_data_t id;
     unsigned size;
+    _Atomic unsigned met;       /* at how many of the barriers that may be cancelled all members have met */
     struct thread *members[MAX_THREADS];
 };
 
+/* The region of which this thread is a member, and to how many of these barriers it has come. */
+struct member {
+    struct region *region;
+    unsigned barriers;
+};
+static __thread struct member own_member __attribute__((tls_model("initial-exec")));
+
 static void run_member(void *it) {
     struct region *region = it;
+    struct member outer = own_member;
+    own_member = (struct member){.region = region};
     unsigned size = (unsigned)REAL(omp_get_num_threads)(), index = (unsigned)REAL(omp_get_thread_num)();
     struct thread *thread = recorded_thread();
     ompt_data_t task = {0};
@@ -248,6 +244,7 @@ static void run_member(void *it) {
     if (index < MAX_THREADS) region->members[index] = join_team(thread, index != 0);
     region->call(region->data);
     on_sync_region(ompt_sync_region_barrier_implicit_parallel, ompt_scope_begin, &region->id, &task, NULL);
+    own_member = outer;
 }
 
 static void begin_region(struct region *region, unsigned threads, int flags, const void *code) {
@@ -313,6 +310,32 @@ EXPORTED unsigned GOMP_parallel_reductions(function *call, void *data, unsigned 
     end_region(&region, code);
     return size;
 }
+
+/* Whether all members met at the barrier that this thread leaves. Where the region is cancelled none waits there any more,
+   and some do not come. But a member that left it before may have been the one that cancelled, and said that they met. */
+static bool have_met(bool is_cancelled) {
+    struct region *region = own_member.region;
+    if (!region) return !is_cancelled;
+    unsigned number = ++own_member.barriers, met = atomic_load(&region->met);
+    if (is_cancelled) return met >= number;
+    while (met < number && !atomic_compare_exchange_weak(&region->met, &met, number)) continue;
+    return true;
+}
+
+/* Only behind such a barrier is it known whether it was one, so its begin and its end are one record. */
+#define WAITS_OR_IS_CANCELLED(name, kind)                                             \
+    EXPORTED bool name(void) {                                                        \
+        const void *code = CODE;                                                      \
+        struct thread *thread = recorded_thread();                                    \
+        if (thread) shake(thread, BEFORE_WAIT);                                       \
+        bool is_cancelled = REAL(name)();                                             \
+        if (thread && have_met(is_cancelled)) tell(kind, ompt_scope_beginend, code);  \
+        return is_cancelled;                                                          \
+    }
+
+WAITS_OR_IS_CANCELLED(GOMP_barrier_cancel, ompt_sync_region_barrier_explicit)
+WAITS_OR_IS_CANCELLED(GOMP_loop_end_cancel, ompt_sync_region_barrier_implicit_workshare)
+WAITS_OR_IS_CANCELLED(GOMP_sections_end_cancel, ompt_sync_region_barrier_implicit_workshare)
 
 /* Each initial task of a league runs on this thread, one after another. */
 static void run_initial(void *it) {
@@ -514,11 +537,32 @@ static void copy_block(void *to, void *from) {
     if (made->is_detached) header->event = add_event(made->event, task);
 }
 
+/* The innermost task that this thread is creating. */
+static __thread const struct creation *creating __attribute__((tls_model("initial-exec")));
+
+/* Whether a task runs inside the call that creates it: then its block is on the stack, behind what creates it. */
+static bool is_undeferred(const struct header *block) {
+    uintptr_t at = (uintptr_t)block;
+    return at < (uintptr_t)creating && at > (uintptr_t)__builtin_frame_address(0);
+}
+
 bool GOMP_cancellation_point(int which);
 
-/* Whether cancellation drops this task: libgomp itself drops none that has a function for copies. */
+/* Whether cancellation drops this task: libgomp itself drops none that has a function for copies. It drops no undeferred
+   one in any case. */
 static bool is_dropped(const struct header *header) {
-    return header->may_be_dropped && REAL(GOMP_cancellation_point)(CANCEL_TASKGROUP);
+    return header->may_be_dropped && !is_undeferred(header) && REAL(GOMP_cancellation_point)(CANCEL_TASKGROUP);
+}
+
+/* Tells that a task is dropped, and fulfils its event: libgomp, for which the task runs, would wait for that. Where the event
+   is fulfilled already, or about to be, no record can say that the task is dropped, and this returns false. */
+static bool drop(struct header *header) {
+    struct event *event = header->event;
+    if (event && !take_event(event->id)) return false;
+    on_cancel(&header->task, ompt_cancel_discarded_task | ompt_cancel_taskgroup, NULL);
+    if (event) REAL(omp_fulfill_event)(event->id);
+    free(event);
+    return true;
 }
 
 /* The body of a task has ended, and the task below goes on. */
@@ -537,14 +581,12 @@ static void end_body(struct header *header, ompt_data_t *below) {
 static void run_task(void *block) {
     struct header *header = block;
     char *data = (char *)block + header->offset;
-    if (is_dropped(header)) {
-        on_cancel(&header->task, ompt_cancel_discarded_task | ompt_cancel_taskgroup, NULL);
-        return;
-    }
+    bool is_empty = is_dropped(header);
+    if (is_empty && drop(header)) return;
     if (header->is_part) memcpy(data, header->bounds, sizeof header->bounds);
     ompt_data_t below = running_task();
     on_task_schedule(&below, ompt_task_switch, &header->task);
-    header->call(data);
+    if (!is_empty) header->call(data);
     end_body(header, &below);
 }
 
@@ -568,8 +610,11 @@ EXPORTED void GOMP_task(function *call, void *data, void (*copy)(void *, void *)
     struct creation made = {.call = call, .data = data, .copy = copy, .size = (size_t)size, .offset = offset_of(align),
                             .list = flags & HAS_LIST ? list : NULL, .code = CODE, .flags = flags_of(flags, is_deferred),
                             .is_detached = flags & IS_DETACHED, .may_be_dropped = !copy && is_cancellation_on()};
+    const struct creation *outer = creating;
+    creating = &made;
     REAL(GOMP_task)(run_task, &made, copy_block, (long)made.offset + size, align_of(align), is_deferred, flags, list,
                     priority, detach);
+    creating = outer;
 }
 
 #define CREATES_LOOP(name, type)                                                                                    \
@@ -584,9 +629,12 @@ EXPORTED void GOMP_task(function *call, void *data, void (*copy)(void *, void *)
                                 .reductions = flags & LOOP_REDUCTION ? ((void **)data)[2] : NULL,                   \
                                 .flags = flags_of(flags & 7, flags & LOOP_IF),                                      \
                                 .may_be_dropped = !copy && is_cancellation_on()};                                   \
+        const struct creation *outer = creating;                                                                    \
         if (!(flags & LOOP_NOGROUP)) tell(ompt_sync_region_taskgroup, ompt_scope_begin, made.code);                 \
+        creating = &made;                                                                                           \
         REAL(name)(run_task, &made, copy_block, (long)made.offset + size, align_of(align), flags, count, priority,  \
                    start, end, step);                                                                               \
+        creating = outer;                                                                                           \
         if (!(flags & LOOP_NOGROUP)) tell(ompt_sync_region_taskgroup, ompt_scope_end, made.code);                   \
     }
 

@@ -1,0 +1,18 @@
+/* Tasks before a barrier of a region that could be cancelled. */
+#include "../../../ompt/programs/unfinished.h"
+
+int main(void) {
+#pragma omp parallel num_threads(TEAM)
+    {
+#pragma omp master
+        for (int task = 0; task < 8; task++) {
+#pragma omp task firstprivate(task)
+            finish(task);
+        }
+#pragma omp barrier
+#pragma omp master
+        print_unfinished("barrier", 8);
+#pragma omp cancellation point parallel
+    }
+    return 0;
+}
