@@ -80,7 +80,8 @@ class Repetition:
 
     def __init__(self, asked, log):
         self.asked, self.log, self.input = asked, log, Input()
-        self.counts, self.first, self.first_name = Counter(), Outcome(0, 'yes', 'nothing was found'), ''
+        self.counts, self.first_name = Counter(), ''
+        self.first = Outcome(0, 'yes', 'recorded' if asked.no_check else 'nothing was found')
 
     def status(self, runs):
         """Runs the program and says what came of it; returns the exit status."""
