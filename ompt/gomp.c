@@ -260,10 +260,12 @@ static void end_region(struct region *region, const void *code) {
         struct thread *member = region->members[index];
         if (!member || !member->innermost) continue;
         act_as(member);
+        member->is_held = index != 0;
         ompt_data_t task = {.ptr = member->innermost};
         on_sync_region(ompt_sync_region_barrier_implicit_parallel, ompt_scope_end, NULL, &task, NULL);
         on_implicit_task(ompt_scope_end, NULL, &task, 0, index, ompt_task_implicit);
         act_as(own);
+        member->is_held = false;
         if (index) leave_team(member);
     }
     ompt_data_t task = running_task();
@@ -273,7 +275,7 @@ static void end_region(struct region *region, const void *code) {
 /* The functions that run a parallel region, which differ in what stands behind the number of threads. Where recording is
    over, the program's own calls go on to the runtime as they are. */
 #define RUNS_REGION(name, types, words)                                                                \
-    EXPORTED void name(function *call, void *data, unsigned threads, UNPACK types) {                            \
+    EXPORTED void name(function *call, void *data, unsigned threads, UNPACK types) {                   \
         if (!recorded_thread()) {                                                                      \
             REAL(name)(call, data, threads, UNPACK words);                                             \
             return;                                                                                    \
@@ -461,10 +463,22 @@ static struct event *take_event(void *id) {
     return taken;
 }
 
-/* Frees the event once both have happened. */
+/* Takes the lock of an event, behind which no thread is delayed; before it this one may be, for a task may finish there. */
+static void enter_event(struct event *event) {
+    struct thread *thread = recorded_thread();
+    if (thread) {
+        shake(thread, BEFORE_FINISH);
+        thread->is_held = true;
+    }
+    pthread_mutex_lock(&event->fulfilling);
+}
+
+/* Gives the lock back, and frees the event once both have happened. */
 static void leave_event(struct event *event) {
+    struct thread *thread = recorded_thread();
     bool is_over = event->has_ended && event->is_fulfilled;
     pthread_mutex_unlock(&event->fulfilling);
+    if (thread) thread->is_held = false;
     if (is_over) free(event);
 }
 
@@ -472,7 +486,7 @@ EXPORTED void omp_fulfill_event(void *id) {
     struct event *event = take_event(id);
     if (event) {
         running_task();
-        pthread_mutex_lock(&event->fulfilling);
+        enter_event(event);
         event->is_fulfilled = true;
         on_task_schedule(&event->task, event->has_ended ? ompt_task_late_fulfill : ompt_task_early_fulfill, NULL);
         leave_event(event);
@@ -570,7 +584,7 @@ static void end_body(struct header *header, ompt_data_t *below) {
     ompt_task_status_t status = ompt_task_complete;
     struct event *event = header->event;
     if (event) {
-        pthread_mutex_lock(&event->fulfilling);
+        enter_event(event);
         event->has_ended = true;
         if (!event->is_fulfilled) status = ompt_task_detach;
     }

@@ -101,13 +101,8 @@ static __attribute__((noinline)) struct thread *new_thread(void) {
     return threads[number] = own = made;
 }
 
-/* Which thread this is, while it tells what another one does. */
-static __thread struct thread *self __attribute__((tls_model("initial-exec")));
-
 struct thread *act_as(struct thread *thread) {
     struct thread *was = own;
-    if (!self) self = was;
-    if (thread == self) self = NULL;
     own = thread;
     return was;
 }
@@ -422,13 +417,13 @@ static bool is_finishing(int status) {
    what was finished when the runtime went on. */
 static void shake_before(struct thread *thread, ompt_task_status_t status, const struct task *next) {
     if (settings.way == AS_IT_IS || !is_finishing(status) || status == ompt_taskwait_complete) return;
-    if (!next || next->thread >= 0) shake_at(thread, BEFORE_FINISH);
+    if (!next || next->thread >= 0) shake(thread, BEFORE_FINISH);
 }
 
 static void shake_behind(struct thread *thread, ompt_task_status_t status, const struct task *next) {
     if (settings.way == AS_IT_IS) return;
-    if (next) shake_at(thread, BEHIND_START);
-    else if (status == ompt_taskwait_complete) shake_at(thread, BEHIND_WAIT);
+    if (next) shake(thread, BEHIND_START);
+    else if (status == ompt_taskwait_complete) shake(thread, BEHIND_WAIT);
 }
 
 /* Says that the task runs from here on, and returns which of its turns begins. A task starts in turn 0, a root where
@@ -507,7 +502,7 @@ void on_sync_region(ompt_sync_region_t kind, ompt_scope_endpoint_t endpoint, omp
         keep_known(thread, record);
     } else {
         keep_reading(thread, record);
-        if (!self) shake(thread, BEHIND_WAIT);
+        shake(thread, BEHIND_WAIT);
     }
 }
 

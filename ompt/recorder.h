@@ -95,6 +95,7 @@ struct thread {
     uint64_t random;           /* the last number that was drawn, where the run is shaken */
     uint64_t places;           /* at how many places it could be delayed so far */
     bool is_bound;             /* to fewer processors */
+    bool is_held;              /* it tells something behind a lock, or another one tells it: it is delayed no more */
     struct thread *next_ended;
     _Atomic int standing;      /* for the recorder of libgomp */
 };
@@ -172,7 +173,7 @@ enum place { BEFORE_WAIT, BEHIND_WAIT, BEFORE_FINISH, BEHIND_START, BEHIND_CREAT
    made already, or the one that adds to it is not made yet: so no fault is hidden. */
 void shake_at(struct thread *thread, enum place place);
 static inline void shake(struct thread *thread, enum place place) {
-    if (settings.way != AS_IT_IS) shake_at(thread, place);
+    if (settings.way != AS_IT_IS && !thread->is_held) shake_at(thread, place);
 }
 /* Takes from a text as `7:3` the seed and the number of the run, which choose the way; returns whether it is one. */
 bool take_shaking(const char *text);
