@@ -25,7 +25,7 @@
 /* Flags of GOMP_task and GOMP_taskloop, by the bits that gcc passes. */
 enum {
     IS_UNTIED = 1, IS_FINAL = 2, IS_MERGEABLE = 4, HAS_LIST = 8, IS_DETACHED = 0x2000,
-    LOOP_IF = 0x400, LOOP_NOGROUP = 0x800, LOOP_REDUCTION = 0x1000
+    LOOP_IF = 0x400, LOOP_NOGROUP = 0x800, LOOP_REDUCTION = 0x1000, TARGET_NOWAIT = 1
 };
 /* Kinds of regions that can be cancelled, as gcc passes them. */
 enum { CANCEL_PARALLEL = 1, CANCEL_LOOP = 2, CANCEL_SECTIONS = 4, CANCEL_TASKGROUP = 8 };
@@ -349,6 +349,11 @@ static void run_initial(void *it) {
     on_implicit_task(ompt_scope_end, &region->id, &task, size, index, ompt_task_initial);
 }
 
+static void end_league(struct region *region, const void *code) {
+    ompt_data_t task = running_task();
+    on_parallel_end(&region->id, &task, PARALLEL_LEAGUE, code);
+}
+
 EXPORTED void GOMP_teams_reg(function *call, void *data, unsigned teams, unsigned limit, unsigned flags) {
     if (!recorded_thread()) {
         REAL(GOMP_teams_reg)(call, data, teams, limit, flags);
@@ -358,8 +363,7 @@ EXPORTED void GOMP_teams_reg(function *call, void *data, unsigned teams, unsigne
     const void *code = CODE;
     begin_region(&region, teams, PARALLEL_LEAGUE, code);
     REAL(GOMP_teams_reg)(run_initial, &region, teams, limit, flags);
-    ompt_data_t task = running_task();
-    on_parallel_end(&region.id, &task, PARALLEL_LEAGUE, code);
+    end_league(&region, code);
 }
 
 /* Dependences */
@@ -689,9 +693,25 @@ EXPORTED bool GOMP_cancellation_point(int which) {
         REAL(name)(device, UNPACK words);             \
     }
 
-MEETS_TARGET(GOMP_target_ext,
-             (function *call, size_t count, void **addresses, size_t *sizes, unsigned short *kinds, unsigned flags,
-              void **list, void **arguments), (call, count, addresses, sizes, kinds, flags, list, arguments))
+/* On the host the construct runs at once in an initial task of its own, as a league of one has it; but later, in a task that
+   is not seen, where it has `nowait` or dependences. */
+EXPORTED void GOMP_target_ext(int device, function *call, size_t count, void **addresses, size_t *sizes,
+                              unsigned short *kinds, unsigned flags, void **list, void **arguments) {
+    const void *code = CODE;
+    bool is_league = recorded_thread() && !(flags & TARGET_NOWAIT) && !list && is_nesting();
+    struct region region = {.size = 0};
+    ompt_data_t task = {0};
+    if (recorded_thread()) note(TARGET_CONSTRUCTS, code);
+    if (is_league) {
+        begin_region(&region, 1, PARALLEL_LEAGUE, code);
+        on_implicit_task(ompt_scope_begin, &region.id, &task, 1, 0, ompt_task_initial);
+    }
+    REAL(GOMP_target_ext)(device, call, count, addresses, sizes, kinds, flags, list, arguments);
+    if (!is_league) return;
+    on_implicit_task(ompt_scope_end, &region.id, &task, 1, 0, ompt_task_initial);
+    end_league(&region, code);
+}
+
 MEETS_TARGET(GOMP_target_data_ext, (size_t count, void **addresses, size_t *sizes, unsigned short *kinds),
              (count, addresses, sizes, kinds))
 MEETS_TARGET(GOMP_target_update_ext,

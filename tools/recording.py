@@ -24,7 +24,8 @@ NOT_AUDITED = {
     'nested': '{count} parallel regions inside others: the file is malformed (NestedParallel or NotCurrent)' + NESTS,
     'teams': '{count} teams constructs: not audited, the file is malformed' + NESTS,
     'target': '{count} target tasks: not audited, the file is malformed' + NESTS,
-    'target_constructs': '{count} target constructs; what they run is recorded as of the task that meets them',
+    'target_constructs': '{count} target constructs: what a device runs is not recorded, and what those with nowait or'
+                         ' dependences run on the host is recorded as of the task that runs there',
 }
 # Only a file with turns can say where a task resumes.
 MOVED = '{count} times a task went on on another thread (untied tasks)'
