@@ -9,6 +9,7 @@
    taskwait_depend                 a taskwait with dependences waits for no task
    early_detach                    a detached task is complete where its body ends */
 #define _GNU_SOURCE
+#include "breaking.h"
 #include "recorder.h"
 
 #include <dlfcn.h>
@@ -28,15 +29,6 @@ static ompt_set_callback_t runtime_set_callback;
 static ompt_get_task_info_t runtime_task_info;
 static ompt_get_parallel_info_t runtime_parallel_info;
 static ompt_function_lookup_t runtime_lookup;
-
-/* Whether this word is among those of TASKAUDIT_BREAK. */
-static bool breaks(const char *what) {
-    const char *words = getenv("TASKAUDIT_BREAK");
-    size_t length = strlen(what);
-    for (const char *at = words; at && (at = strstr(at, what)); at += length)
-        if ((at == words || at[-1] == ',') && (at[length] == ',' || at[length] == 0)) return true;
-    return false;
-}
 
 static void *original(const char *name) {
     return dlsym(RTLD_NEXT, name);
@@ -85,11 +77,8 @@ void __kmpc_end_taskgroup(void *location, int thread) {
 /* Where the members of a team meet, which the address of the region's data tells from the teams that run beside it. */
 static struct meeting {
     const void *region;
-    int arrived;
-    unsigned round;
+    struct arrivals arrivals;
 } meetings[1 << 10];
-static pthread_mutex_t meeting = PTHREAD_MUTEX_INITIALIZER;
-static pthread_cond_t all_arrived = PTHREAD_COND_INITIALIZER;
 
 static struct meeting *meeting_of(const void *region) {
     struct meeting *at = meetings, *end = meetings + sizeof meetings / sizeof *meetings;
@@ -105,14 +94,7 @@ static void meet(void) {
     int size = 1;
     if (!runtime_parallel_info || runtime_parallel_info(0, &region, &size) != 2 || size == 1) return;
     pthread_mutex_lock(&meeting);
-    struct meeting *here = meeting_of(region);
-    unsigned round = here->round;
-    if (++here->arrived == size) {
-        here->arrived = 0;
-        here->round++;
-        pthread_cond_broadcast(&all_arrived);
-    }
-    while (here->round == round) pthread_cond_wait(&all_arrived, &meeting);
+    await_all(&meeting_of(region)->arrivals, size);
     pthread_mutex_unlock(&meeting);
 }
 

@@ -12,6 +12,8 @@
 
    The barrier at a region's end is inside the runtime, where nothing can stand in front of it. */
 #define _GNU_SOURCE
+#include "breaking.h"
+
 #include <dlfcn.h>
 #include <pthread.h>
 #include <stdbool.h>
@@ -31,15 +33,6 @@ typedef void copy_function(void *, void *);
 int omp_get_level(void);
 int omp_get_num_threads(void);
 int omp_get_ancestor_thread_num(int level);
-
-/* Whether this word is among those of TASKAUDIT_BREAK. */
-static bool breaks(const char *what) {
-    const char *words = getenv("TASKAUDIT_BREAK");
-    size_t length = strlen(what);
-    for (const char *at = words; at && (at = strstr(at, what)); at += length)
-        if ((at == words || at[-1] == ',') && (at[length] == ',' || at[length] == 0)) return true;
-    return false;
-}
 
 /* The real function of this name. */
 #define REAL(name) ((__typeof__(&name))dlsym(RTLD_NEXT, #name))
@@ -63,11 +56,8 @@ void GOMP_taskgroup_end(void) {
    teams tell which one it is. */
 static struct meeting {
     int level, ancestors[MOST_LEVELS];
-    int arrived;
-    unsigned round;
+    struct arrivals arrivals;
 } meetings[1 << 10];
-static pthread_mutex_t meeting = PTHREAD_MUTEX_INITIALIZER;
-static pthread_cond_t all_arrived = PTHREAD_COND_INITIALIZER;
 
 static struct meeting *meeting_of(const struct meeting *key) {
     struct meeting *at = meetings, *end = meetings + sizeof meetings / sizeof *meetings;
@@ -86,14 +76,7 @@ static void meet(void) {
     for (int level = 1; level < key.level && level < MOST_LEVELS; level++)
         key.ancestors[level] = omp_get_ancestor_thread_num(level);
     pthread_mutex_lock(&meeting);
-    struct meeting *here = meeting_of(&key);
-    unsigned round = here->round;
-    if (++here->arrived == size) {
-        here->arrived = 0;
-        here->round++;
-        pthread_cond_broadcast(&all_arrived);
-    }
-    while (here->round == round) pthread_cond_wait(&all_arrived, &meeting);
+    await_all(&meeting_of(&key)->arrivals, size);
     pthread_mutex_unlock(&meeting);
 }
 

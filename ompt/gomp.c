@@ -173,6 +173,7 @@ static void tell(ompt_sync_region_t kind, ompt_scope_endpoint_t endpoint, const 
         REAL(name)();                                              \
         if (is_recorded) tell(kind, ompt_scope_end, code);         \
     }
+
 WAITS(GOMP_taskwait, ompt_sync_region_taskwait)
 WAITS(GOMP_barrier, ompt_sync_region_barrier_explicit)
 WAITS(GOMP_loop_end, ompt_sync_region_barrier_implicit_workshare)

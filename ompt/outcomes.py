@@ -42,7 +42,8 @@ def outcome_of(asked, ended, came):
         return Outcome(NO_ANSWER, UNANSWERED, 'there is no answer')
     if came[PART_YES] or came[PART] or came[LOST]:
         return Outcome(asked.exit_code, PART, 'a part of the run was recorded')
-    return Outcome(0, *([RECORDED] if asked.no_check else ['yes']) * 2)
+    word = RECORDED if asked.no_check else 'yes'
+    return Outcome(0, word, word)
 
 
 def counts_in_words(counts):

@@ -12,9 +12,9 @@ Process = namedtuple('Process', 'number program file reason')
 SECONDS = 10
 LEFT = 'it was killed, or left by _exit or exec, before it could write its file'
 RUNNING = 'it still runs, and writes its file when it ends'
-# Symbols and versions of them that a program needs and its libraries lack, as `ldd -r` tells.
 STATIC = ('the program is linked statically, with OpenMP in it, so no recorder can be loaded; link it to the shared runtime,'
           ' without -static')
+# Symbols and versions of them that a program needs and its libraries lack, as `ldd -r` tells.
 LACKING = re.compile(r"version [`']([^']+)' not found|undefined symbol: (\w+)")
 
 
@@ -83,9 +83,15 @@ def is_llvm(libraries):
 
 def is_static_openmp(file):
     """Whether the file is a program without shared libraries, which has OpenMP in it."""
-    with open(file, 'rb') as it:
-        is_program = it.read(4) == b'\x7fELF'
-    return is_program and (has_word(file, b'GOMP_parallel') or has_word(file, b'__kmpc_fork_call'))
+    return begins_with(file, b'\x7fELF') and any(has_word(file, it) for it in (b'GOMP_parallel', b'__kmpc_fork_call'))
+
+
+def begins_with(file, word):
+    try:
+        with open(file, 'rb') as it:
+            return it.read(len(word)) == word
+    except OSError:
+        return False
 
 
 def has_word(file, word):

@@ -1,6 +1,6 @@
-/* Changes the timing of the program that is recorded, so that its runs differ more than they do by themselves. No way of
-   it finds each fault, so runs take them by turns. Which way a run takes, and what it does where, is drawn from a seed
-   and the number of the run. */
+/* Changes the timing of the program that is recorded, so that its runs differ more than they do by themselves. How often a
+   way of it shows a fault depends on the fault, the program and the machine, so runs take the ways by turns. Which way a
+   run takes, and what it does where, is drawn from a seed and the number of the run. */
 #define _GNU_SOURCE
 #include "recorder.h"
 
@@ -11,7 +11,7 @@
 /* The longest delay, in nanoseconds; the most yields at one place; and at how many of its places a thread is delayed in
    any case. Later places are taken ever more seldom, so that long runs end too: of n places about
    FIRST_PLACES * (1 + log(n / FIRST_PLACES)). */
-enum { LONGEST_DELAY = 1000000, MOST_YIELDS = 8, FIRST_PLACES = 256 };
+enum { LONGEST_DELAY = 1000000, MOST_YIELDS = 7, FIRST_PLACES = 256 };
 
 static const char *const ways[WAYS] = {"as it is", "yields", "delays at begins", "delays at ends", "fewer cores"};
 
@@ -82,7 +82,7 @@ static bool is_taken(struct thread *thread) {
 
 static void yield(struct thread *thread) {
     if (!is_taken(thread)) return;
-    for (uint64_t left = draw(thread, MOST_YIELDS); left; left--) sched_yield();
+    for (uint64_t left = draw(thread, MOST_YIELDS + 1); left; left--) sched_yield();
 }
 
 static void delay(struct thread *thread) {

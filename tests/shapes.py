@@ -1,9 +1,9 @@
 """The shape of a recorded run: what does not depend on ids, addresses, threads and timing, so that the files of two
 runtimes can be compared. It is a bag of lines:
 
-    task T                              an explicit task; T says where it is in the tree of creations
-    lists T: ..                         which children of T list a location, and how, for each location
-    wait T after N taskwait: T1 T2 ..   a wait of T after so many creations, and the tasks that it covers
+    task NAME                            an explicit task; its name says where it is in the tree of creations
+    lists NAME: ..                       which children of the task list a location, and how, for each location
+    wait NAME after N taskwait: NAMES    a wait of the task after so many creations, and the tasks that it covers
 
 A task is named by the name of its parent and its number among the parent's children, a member of a team by the region
 and the tree of what it creates, since any member may be the one that creates. All kinds of barriers are one. Two
