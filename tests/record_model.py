@@ -69,7 +69,7 @@ def wrong_state(thread, step, tasks):
         return 'no root of the thread'
     if cb == 'parallel_begin' and not thread.nests and (task.parent or 'initial' not in task.flags):
         return 'no initial task'
-    if task is not thread.current:
+    if task is not thread.current or cb == 'task_create' and task.state not in ('Running', 'EarlyRunning'):
         return 'does not run'
     if cb == 'task_create' and not thread.nests and 'target' in step['flags']:
         return 'has the flag target'

@@ -16,7 +16,7 @@ use Rattle.credit_ledger.specs.Seats.{AreClaims, claim_of}
 use Rattle.credit_ledger.proofs.ExtendsLemmas.{GoOn, starts-go_on}
 use Rattle.thread_buffers.specs.Buffers.{BufferView}
 use Rattle.recorder.specs.Logs.{AreOrderly, known_of}
-use Rattle.recorder.specs.Recorders.{RecorderView, HaveEntries}
+use Rattle.recorder.specs.Recorders.{RecorderView, HaveEntries, IsBacked}
 use Rattle.callbacks.specs.Closed.{thread_of, recorded_by, IsBuffer, AreClosed, IsPart, AreParts}
 
 pub parts-claims : (recorders : List RecorderView) (seats : List Seat) (buffers : List BufferView)
@@ -30,6 +30,17 @@ parts-claims [] [] (b ∷ buffers) are = absurd are
 parts-claims [] (s ∷ seats) buffers are = absurd are
 parts-claims (r ∷ recorders) [] buffers are = absurd are
 parts-claims (r ∷ recorders) (s ∷ seats) [] are = absurd are
+
+pub parts-seen : (recorders : List RecorderView) (seats : List Seat) (buffers : List BufferView)
+    → AreParts recorders seats buffers → map view_of seats ≡ map (λ (r : RecorderView). r.seat) recorders
+parts-seen [] [] [] are = refl
+parts-seen (r ∷ recorders) (s ∷ seats) (b ∷ buffers) are =
+    ap (λ v. v ∷ map view_of seats) are.0.seat_is
+    ∙ ap (λ l. r.seat ∷ l) (parts-seen recorders seats buffers are.1)
+parts-seen [] [] (b ∷ buffers) are = absurd are
+parts-seen [] (s ∷ seats) buffers are = absurd are
+parts-seen (r ∷ recorders) [] buffers are = absurd are
+parts-seen (r ∷ recorders) (s ∷ seats) [] are = absurd are
 
 pub parts-threads : (recorders : List RecorderView) (seats : List Seat) (buffers : List BufferView)
     → AreParts recorders seats buffers
@@ -62,6 +73,24 @@ parts-seats id recorders seats buffers are all =
     All-from_recursion (λ (s : Seat). seat_id s ≡ id) seats
     (seats-of id recorders seats buffers are
     (recursion_from_All (λ (r : RecorderView). r.ledger ≡ id) recorders all))
+
+backed-of : (recorders : List RecorderView) (seats : List Seat) (buffers : List BufferView)
+    → AreParts recorders seats buffers
+    → AllByRecursion (λ (r : RecorderView). IsBacked r.before r.records r.known r.seat) recorders
+backed-of [] [] [] are = are
+backed-of (r ∷ recorders) (s ∷ seats) (b ∷ buffers) are =
+    (are.0.backed, backed-of recorders seats buffers are.1)
+backed-of [] [] (b ∷ buffers) are = absurd are
+backed-of [] (s ∷ seats) buffers are = absurd are
+backed-of (r ∷ recorders) [] buffers are = absurd are
+backed-of (r ∷ recorders) (s ∷ seats) [] are = absurd are
+
+pub parts-backed : (recorders : List RecorderView) (seats : List Seat) (buffers : List BufferView)
+    → AreParts recorders seats buffers
+    → All (λ (r : RecorderView). IsBacked r.before r.records r.known r.seat) recorders
+parts-backed recorders seats buffers are =
+    All-from_recursion (λ (r : RecorderView). IsBacked r.before r.records r.known r.seat) recorders
+    (backed-of recorders seats buffers are)
 
 -- a buffer whose seat's history is part of the ledger's
 part-buffer : (r : RecorderView) (s : Seat) (b : BufferView) (entries : List Entry) → IsPart r s b

@@ -8,3 +8,4 @@ pub mod NestedLaw
 pub mod SeenLemmas
 pub mod PairLaw
 pub mod TraceLemmas
+pub mod MadeLemmas

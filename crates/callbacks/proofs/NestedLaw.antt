@@ -23,7 +23,7 @@ use Rattle.ompt_events.specs.States.{is_task}
 use Rattle.ompt_events.specs.Teams.{IsInitial, IsMember}
 use Rattle.ompt_events.specs.Threads as threads
 use Rattle.ompt_events.specs.Threads.{Walk, after_record, walk_of}
-use Rattle.ompt_events.specs.Causes.{HasBegun, IsNested, IsMisnested, IsFreeOf, created_twice}
+use Rattle.ompt_events.specs.Causes.{HasBegun, IsMadeAgain, IsNested, IsMisnested, IsFreeOf, created_twice}
 use Rattle.ompt_events.specs.Causes.{nested_parallel, forked_inside, joined_inside, initial_inside}
 use Rattle.ompt_events.specs.Causes.{region_nesting, other_region, other_league}
 use Rattle.ompt_events.proofs.PlaceLemmas.{none_from_test, at_get, get_at}
@@ -76,24 +76,28 @@ initial_or_member (ImplicitTask Begin actual index given parallel root) task m i
     begins false is joins = none-some task is
 initial_or_member _ task m is joins = none-some task is
 
--- a record that makes a task is the only one that does
-made_once : (rs : List Record) (i k task : ℕ) → IsFreeOf rs CreatedTwice → at made rs i ≡ Some task
+-- no task is made by two records
+abbrev pub AreMadeOnce : List Record → Type 0
+AreMadeOnce rs = (i : ℕ) → IsMadeAgain rs i → ⊥
+
+-- so a record that makes a task is the only one that does
+made_once : (rs : List Record) (i k task : ℕ) → AreMadeOnce rs → at made rs i ≡ Some task
     → at made rs k ≡ Some task → i ≡ k
-made_once rs i k task free first second = elim (cases_order i k) [
+made_once rs i k task once first second = elim (cases_order i k) [
   | inl same ↦ same
-  | inr (inl less) ↦ absurd (free k (created_twice (task, i, less, first, second)))
-  | inr (inr more) ↦ absurd (free i (created_twice (task, k, more, second, first)))
+  | inr (inl less) ↦ absurd (once k (task, i, less, first, second))
+  | inr (inr more) ↦ absurd (once i (task, k, more, second, first))
 ]
 
 -- no initial task is the member of a team
-initial_no_member : (rs : List Record) (task : ℕ) → IsFreeOf rs CreatedTwice → IsInitial rs task
+initial_no_member : (rs : List Record) (task : ℕ) → AreMadeOnce rs → IsInitial rs task
     → IsMember rs task → ⊥
-initial_no_member rs task free (i, begins) (k, m, joins, is) =
+initial_no_member rs task once (i, begins) (k, m, joins, is) =
     let (r, here, begins_it) = get_at begun_initial rs i task begins in
     let (q, there, joins_it) = get_at joined rs k m joins in
     let first = at_get made rs i r here ∙ initial_made r.body task begins_it in
     let second = at_get made rs k q there ∙ member_made q.body m joins_it ∙ ap Some is in
-    let same = made_once rs i k task free first second in
+    let same = made_once rs i k task once first second in
     let joins_too = sym (at_get joined rs i r here) ∙ ap (at joined rs) same ∙ joins in
     initial_or_member r.body task m begins_it joins_too
 
@@ -222,15 +226,15 @@ begun_initially closed i r task are from is kind =
 -- ---- where no region may lie inside another one
 
 not_nested : (closed : ClosedView) (i : ℕ) → AreClosed closed → HaveOwnThreads closed.buffers
-    → IsFreeOf (gathered closed.buffers) CreatedTwice → IsNested (gathered closed.buffers) i → ⊥
-not_nested closed i are apart free (forked_inside task parallel barred forks other) =
+    → AreMadeOnce (gathered closed.buffers) → IsNested (gathered closed.buffers) i → ⊥
+not_nested closed i are apart once (forked_inside task parallel barred forks other) =
     let (r, is, forks_it) = get_at forked (gathered closed.buffers) i (task, parallel) forks in
     let from = from_buffer closed.buffers i r is in
     let flat = nests_get (gathered closed.buffers) i r false is barred in
     let outside = outside_of closed i r are from flat in
     let (inner, kind) = outside_forked (stood closed i r from) r.body task parallel outside forks_it in
     other (begun_initially closed i r task are from inner kind)
-not_nested closed i are apart free (joined_inside m walk outer barred joins (r, is, walk_is) top member) =
+not_nested closed i are apart once (joined_inside m walk outer barred joins (r, is, walk_is) top member) =
     let from = from_buffer closed.buffers i r is in
     let s = stood closed i r from in
     let flat = nests_get (gathered closed.buffers) i r false is barred in
@@ -243,9 +247,9 @@ not_nested closed i are apart free (joined_inside m walk outer barred joins (r, 
     let within = slice_get_within s.walk.roots 0 outer inner in
     let (b, some) = get_within s.initial 0 (omega (arith, within, kinds.as_long)) in
     let kind = no_member_found (slice_get s.initial 0) b some none in
-    initial_no_member (gathered closed.buffers) outer free
+    initial_no_member (gathered closed.buffers) outer once
     (begun_initially closed i r outer are from inner kind) member
-not_nested closed i are apart free (initial_inside task walk barred begins (r, is, walk_is) some) =
+not_nested closed i are apart once (initial_inside task walk barred begins (r, is, walk_is) some) =
     let from = from_buffer closed.buffers i r is in
     let s = stood closed i r from in
     let flat = nests_get (gathered closed.buffers) i r false is barred in
@@ -255,9 +259,15 @@ not_nested closed i are apart free (initial_inside task walk barred begins (r, i
     some (ap (λ (w : Walk). w.roots) (walk_is ∙ walk_at closed i r are apart from)
     ∙ none_open s.walk.roots none)
 
+pub none_nested_where_once : (closed : ClosedView) → AreClosed closed → HaveOwnThreads closed.buffers
+    → AreMadeOnce (gathered closed.buffers) → IsFreeOf (gathered closed.buffers) NestedParallel
+none_nested_where_once closed are apart once i (nested_parallel nested) =
+    not_nested closed i are apart once nested
+
 pub none_nested : (closed : ClosedView) → AreClosed closed → HaveOwnThreads closed.buffers
     → IsFreeOf (gathered closed.buffers) CreatedTwice → IsFreeOf (gathered closed.buffers) NestedParallel
-none_nested closed are apart free i (nested_parallel nested) = not_nested closed i are apart free nested
+none_nested closed are apart free =
+    none_nested_where_once closed are apart (λ i again. free i (created_twice again))
 
 -- ---- where regions may lie inside others
 

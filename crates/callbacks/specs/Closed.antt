@@ -23,6 +23,10 @@ thread_of b = (b.thread, b.records)
 abbrev pub recorded_by : RecorderView → ℕ × List Record
 recorded_by r = (r.thread, r.records)
 
+-- the recorder's seat had made no call when it became the recorder's, and has taken in no other seat
+abbrev pub HasUnusedSeat : RecorderView → Type 0
+HasUnusedSeat r = (r.before ≡ []) × (r.seat.claims ≡ [])
+
 -- the buffer's records are at most 2^22 that one recorder made, in their order; none names a greater length
 -- than that of the ledger, and the entry that a finishing record makes is at the index that the record
 -- names
@@ -44,7 +48,7 @@ pub record IsPart (r : RecorderView) (seat : Seat) (b : BufferView) : Type 0 whe
   pub thread_is : b.thread ≡ r.thread
   pub records_are : b.records ≡ r.records
   pub recorded : AreRecorded r.thread r.records r.known
-  pub backed : IsBacked r.records r.known r.seat
+  pub backed : IsBacked r.before r.records r.known r.seat
 
 -- the seats and the buffers of the recorders, in the order of the recorders
 abbrev pub AreParts : List RecorderView → List Seat → List BufferView → Type 0

@@ -1,13 +1,17 @@
 //! The end of recording: the ledger and all its recorders are closed.
 ghost use Rattle.std.specs.Prelude.{◌≡◌, ◌≤◌, [], List, All, length, map, IfOk, IfErr};
+ghost use Rattle.std.specs.List.{flat_map};
 ghost use Rattle.std.specs.List.Sorted.{IsPermutation, IsNonDecreasingBy};
 ghost use Rattle.std.specs.Vec.{vec_capacity};
+ghost use Rattle.ompt_events.specs.Causes.{entries_in};
 ghost use Rattle.credit_ledger.specs.declared.view.Step.{Step};
 ghost use Rattle.credit_ledger.specs.Histories.{IsLegal, entries_after};
 ghost use Rattle.credit_ledger.specs.Places.{ledger_id};
-ghost use Rattle.credit_ledger.specs.Seats.{AreClaims, AreSeatsApart, claim_of};
+ghost use Rattle.credit_ledger.specs.Seats.{AreClaims, AreSeatsApart, AreAll, HasCallsOf, claim_of};
 ghost use Rattle.recorder.specs.declared.fault.CallFault.TheVariants.{Memory};
-ghost use Rattle.callbacks.specs.Closed.{thread_of, recorded_by, AreClosed, AreParts};
+ghost use Rattle.recorder.specs.Recorders.{IsBacked};
+ghost use Rattle.callbacks.specs.Closed.{thread_of, recorded_by, HasUnusedSeat, AreClosed, AreParts};
+ghost use Rattle.callbacks.specs.Gathered.{gathered};
 
 use credit_ledger::{Ledger, Seat, SharedLedger};
 use recorder::{CallFault, Recorder};
@@ -61,8 +65,12 @@ impl Closed {
 
 /// Ends the recording: closes these recorders of the ledger, and the ledger, which takes its turn a last
 /// time. Pass all recorders of the ledger: [`gather`](crate::gather) fails if an entry was made by none of
-/// them. Fails only when out of memory, before a seat is touched, and returns the ledger and the recorders
-/// as they were.
+/// them. If the recorders' seats have all shares of the right to enter, each entry was made by one of these
+/// seats, or by one that they took in; and if each seat was unused when its recorder was made, and has taken in
+/// no other one, the recorders' records make as many entries as the ledger has. The calls of a recorder's seat
+/// are, after those that it had made before, the ledger calls of the recorder's records in their order, and
+/// looks. Fails only when out of memory, before a seat is touched, and returns the ledger and the recorders as
+/// they were.
 pub fn close_all<R: Wait>(
     alloc: Global,
     ledger: SharedLedger,
@@ -73,7 +81,13 @@ pub fn close_all<R: Wait>(
     ensures closed { IfOk result (λ closed. (history : List Step) × IsLegal history
         × (closed.entries ≡ entries_after history)
         × AreClaims history (map (λ r. claim_of r.seat) recorders.items)
-        × AreSeatsApart (map (λ r. claim_of r.seat) recorders.items)) }
+        × AreSeatsApart (map (λ r. claim_of r.seat) recorders.items)
+        × HasCallsOf history (map (λ r. r.seat) recorders.items)) }
+    ensures backed { IfOk result (λ closed.
+        All (λ r. IsBacked r.before r.records r.known r.seat) recorders.items) }
+    ensures made { IfOk result (λ closed. All HasUnusedSeat recorders.items
+        → AreAll (flat_map (λ r. r.seat.shares) recorders.items)
+        → entries_in (gathered closed.buffers) ≡ length closed.entries) }
     ensures buffers { IfOk result (λ closed.
         IsPermutation (map recorded_by recorders.items) (map thread_of closed.buffers)) }
     ensures are_closed { IfOk result AreClosed }

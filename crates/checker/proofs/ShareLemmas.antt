@@ -1,5 +1,5 @@
 -- The ranges of the records that workers share out, and the first of what they find.
-use Rattle.std.proofs.Common.{◌≡◌, ◌∙◌, ℕ, ◌<◌, ◌*◌, List, length}
+use Rattle.std.proofs.Common.{◌≡◌, ◌≢◌, ◌∙◌, ℕ, ◌<◌, ◌≤◌, ◌*◌, List, length}
 use Rattle.std.proofs.Common.{zero, suc, get_or, Option, Some, None, refl, sym, ap, subst, arith, inl, inr}
 use Rattle.std.proofs.lemmas.Bool.{cases_lt}
 use Rattle.std.proofs.lemmas.Option.{none-some, same_Some, slice_get_within, slice_get-get_or}
@@ -8,11 +8,13 @@ use Rattle.std.specs.Prelude.{Result, Ok, Err, option_and_then, slice_get, slice
 use Rattle.std.specs.Result.{result_unwrap_or}
 use Rattle.checker.specs.declared.workers.Finding.{Finding}
 use Rattle.checker.specs.declared.workers.WorkerFault.{WorkerFault}
+use Rattle.checker.specs.declared.workers.WorkerFault.TheVariants.{Gate}
 use Rattle.checker.specs.Readings.{by_task}
 use Rattle.checker.specs.Verdicts.{AreComplete}
 use Rattle.checker.specs.Search.{IsFirstViolation}
 use Rattle.checker.specs.Deciding.{WorkView, IsWork, begin_of, IsInRange, IsFirstOfRange}
 use Rattle.checker.specs.Deciding.{IsOutcome, found_by, IsLeastFinding, HaveAllDecided, IsLeastOf}
+use Rattle.checker.specs.Gate.{HaveAllPassed}
 use Rattle.checker.proofs.DecidingLemmas.{first_violation, complete_past, complete_whole}
 
 abbrev Outcome : Type 0
@@ -60,6 +62,16 @@ outcomes_by work may_refuse outcomes all each worker outcome there =
     (same_Some (get_or outcomes worker outcome) outcome
     (sym (slice_get-get_or outcomes worker outcome inside) ∙ there))
     (each worker outcome (omega (arith, inside, all)))
+
+-- where none of the first n workers failed, each of them has passed the gate
+pub all_passed : (passed : ℕ → Type 0) (outcomes : List Outcome) (n : ℕ) → n ≤ length outcomes
+    → ((worker : ℕ) (d : Outcome) → worker < n → slice_index_or outcomes worker d ≢ Err Gate → passed worker)
+    → HaveAllDecided outcomes n → HaveAllPassed passed n
+all_passed passed outcomes n few each decided worker low =
+    let inside : worker < length outcomes = omega (arith, low, few) in
+    each worker (Ok None) low
+    (λ refused. decided worker Gate low
+    (slice_get-get_or outcomes worker (Ok None) inside ∙ ap Some refused))
 
 -- a record before all that was found is complete
 decided_at : (work : WorkView) (may_refuse : ℕ → Type 0) (outcomes : List Outcome) (i : ℕ) → IsWork work

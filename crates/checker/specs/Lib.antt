@@ -17,3 +17,4 @@ pub mod InOrder
 pub mod Starts
 pub mod Counter
 pub mod Deciding
+pub mod Gate

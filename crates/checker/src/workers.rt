@@ -1,10 +1,11 @@
 //! The check on several threads: workers share out the records of a trace without a cause, a range of the
 //! file for each. The phases before are in `side_by_side`.
-ghost use Rattle.std.specs.Prelude.{ℕ, ◌≡◌, ◌≢◌, ◌≤◌, ◌<◌, ◌↔◌, Err, Some, IfOk, IfErr, length, slice_get};
+ghost use Rattle.std.specs.Prelude.{ℕ, ◌≡◌, ◌≢◌, ◌≤◌, ◌<◌, ◌↔◌, Err, Some, IfOk, IfErr, OnOk, length, slice_get};
 ghost use denote.Param.Send.{IsSync};
 ghost use Rattle.ompt_events.specs.declared.fault.Fault.TheVariants.{Memory};
 ghost use Rattle.checker.specs.Readings.{by_task};
 ghost use Rattle.checker.specs.Verdicts.{IsVerdict};
+ghost use Rattle.checker.specs.Gate.{HaveAllPassed, HavePassedFor};
 ghost use Rattle.checker.specs.Deciding.{IsFirstOrNone, begin_of, IsFinding, IsOutcome, HaveAllDecided, IsLeastOf, IsLesserOf};
 
 use crate::checking::verdict_of;
@@ -41,6 +42,12 @@ pub fn check_on<R: Threads + Sync, G: Gate + Sync>(
     ensures workers { (result ≡ Err CheckFault.Workers) ↔ (1 ≤ workers → 256 < workers) }
     ensures gate { (worker : ℕ) → result ≡ Err (CheckFault.Gate worker)
         → (worker < workers) × G.may_refuse gate.now worker }
+
+    // No record is decided by a worker that has not passed the gate. Before a yes or a no each worker has
+    // passed, also one without records; where one is refused, each with a lesser number has.
+    ensures passed { IfOk result (HavePassedFor (G.passed gate.now) workers) }
+    ensures passed_before { (worker : ℕ) → result ≡ Err (CheckFault.Gate worker)
+        → HaveAllPassed (G.passed gate.now) worker }
     ensures thread { result ≢ Err CheckFault.Thread }
 {
     if workers == 0 || workers > MAX_WORKERS {
@@ -56,6 +63,10 @@ pub fn check_on<R: Threads + Sync, G: Gate + Sync>(
             ensures verdict { IfOk result (λ answer. IfOk answer (IsVerdict clear.entry.run.records)) }
             ensures refused { IfOk result (λ answer. IfErr answer (λ worker. (worker < workers)
                 × G.may_refuse gate.entry.now worker)) }
+            ensures passed { IfOk result (λ answer. IfOk answer
+                (HavePassedFor (G.passed gate.entry.now) workers)) }
+            ensures passed_before { IfOk result (λ answer. IfErr answer
+                (HaveAllPassed (G.passed gate.entry.now))) }
             ensures memory_alone { IfErr result (λ fault. fault ≡ Memory) }
         { verdict_on(rt, alloc, clear, workers, gate) },
     ) {
@@ -79,6 +90,8 @@ fn verdict_on<R: Threads + Sync, G: Gate + Sync>(
     ensures verdict { IfOk result (λ answer. IfOk answer (IsVerdict clear.entry.run.records)) }
     ensures refused { IfOk result (λ answer. IfErr answer (λ worker. (worker < workers)
         × G.may_refuse gate.now worker)) }
+    ensures passed { IfOk result (λ answer. IfOk answer (HavePassedFor (G.passed gate.now) workers)) }
+    ensures passed_before { IfOk result (λ answer. IfErr answer (HaveAllPassed (G.passed gate.now))) }
     ensures memory_alone { IfErr result (λ fault. fault ≡ Memory) }
 {
     match violation_on(rt, alloc, &clear, workers, gate)? {
@@ -101,6 +114,8 @@ fn violation_on<R: Threads + Sync, G: Gate + Sync>(
     ensures found { IfOk result (λ answer. IfOk answer (IsFirstOrNone (by_task clear.now.run.records))) }
     ensures refused { IfOk result (λ answer. IfErr answer (λ worker. (worker < workers)
         × G.may_refuse gate.now worker)) }
+    ensures passed { IfOk result (λ answer. OnOk answer (HaveAllPassed (G.passed gate.now) workers)) }
+    ensures passed_before { IfOk result (λ answer. IfErr answer (HaveAllPassed (G.passed gate.now))) }
     ensures memory_alone { IfErr result (λ fault. fault ≡ Memory) }
 {
     let deciding = Deciding::of(alloc, clear)?;
@@ -161,6 +176,9 @@ fn decide_all<R: Threads + Sync, G: Gate + Sync>(
     ensures found { IfOk result (λ answer. IfOk answer (IsFirstOrNone (by_task work.now.records))) }
     ensures refused { IfOk result (λ answer. IfErr answer (λ worker. (worker < work.now.workers)
         × G.may_refuse gate.now worker)) }
+    ensures passed { IfOk result (λ answer. OnOk answer
+        (HaveAllPassed (G.passed gate.now) work.now.workers)) }
+    ensures passed_before { IfOk result (λ answer. IfErr answer (HaveAllPassed (G.passed gate.now))) }
     ensures memory_alone { IfErr result (λ fault. fault ≡ Memory) }
 {
     let findings = map_indices(
@@ -169,7 +187,8 @@ fn decide_all<R: Threads + Sync, G: Gate + Sync>(
         work.workers as usize,
         &|worker| -> Result<Option<Finding>, WorkerFault>
             requires { (worker < work.now.workers) × (work.now.workers ≤ 256) }
-            ensures { IsOutcome work.entry.now (G.may_refuse gate.entry.now) worker result }
+            ensures outcome { IsOutcome work.entry.now (G.may_refuse gate.entry.now) worker result }
+            ensures passed { result ≢ Err WorkerFault.Gate → G.passed gate.entry.now worker }
         { decide_range(alloc, work, gate, worker) },
     )?;
     match least_of(findings.as_slice()) {
@@ -188,21 +207,29 @@ fn decide_range<G: Gate>(
     worker: usize,
 ) -> Result<Option<Finding>, WorkerFault>
     requires { (worker < work.now.workers) × (work.now.workers ≤ 256) }
-    ensures { IsOutcome work.now (G.may_refuse gate.now) worker result }
+    ensures outcome { IsOutcome work.now (G.may_refuse gate.now) worker result }
+    ensures passed { result ≢ Err WorkerFault.Gate → G.passed gate.now worker }
 {
     if !gate.pass(worker as u32) {
         return Err(WorkerFault::Gate);
     }
-    match work.find_in_range(alloc, worker) {
+    match work.find_in_range(alloc, gate, worker) {
         Ok(found) => Ok(found),
         Err(_) => Err(WorkerFault::Memory),
     }
 }
 
 impl Work<'_, '_> {
-    /// Returns the first violation in the range of the worker with this number.
-    fn find_in_range(&self, alloc: Global, worker: usize) -> Result<Option<Finding>, Fault>
-        requires { (worker < self.now.workers) × (self.now.workers ≤ 256) }
+    /// Returns the first violation in the range of the worker with this number, which must have passed the
+    /// gate.
+    fn find_in_range<G: Gate>(
+        &self,
+        alloc: Global,
+        gate: &G,
+        worker: usize,
+    ) -> Result<Option<Finding>, Fault>
+        requires within { (worker < self.now.workers) × (self.now.workers ≤ 256) }
+        requires passed { G.passed gate.now worker }
         ensures found { IfOk result (IsFinding self.now worker) }
         ensures memory_alone { IfErr result (λ fault. fault ≡ Memory) }
     {
@@ -233,6 +260,7 @@ fn least_of(
     ensures least { IfOk result (IsLeastOf findings.now (length findings.now)) }
     ensures all { IfOk result (λ _. HaveAllDecided findings.now (length findings.now)) }
     ensures failed { IfErr result (λ f. slice_get findings.now f.0 ≡ Some (Err f.1)) }
+    ensures before { IfErr result (λ f. HaveAllDecided findings.now f.0) }
 {
     let mut least = None;
     for worker in 0..findings.len() {

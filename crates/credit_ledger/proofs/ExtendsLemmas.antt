@@ -1,6 +1,6 @@
 -- What a seat knows of the ledger after a call: its entries go on where those that it knew before end.
-use Rattle.std.proofs.Common.{◌≡◌, ◌∙◌, ℕ, ◌≤◌, ◌<◌, ◌+◌, ◌^◌, Bool, true, false, List, [], ◌∷◌, ◌++◌, length}
-use Rattle.std.proofs.Common.{fold, Some, refl, sym, ap, subst, arith}
+use Rattle.std.proofs.Common.{◌≡◌, ◌∙◌, ℕ, ◌≤◌, ◌<◌, ◌+◌, ◌^◌, false, List, [], ◌∷◌, ◌++◌, length}
+use Rattle.std.proofs.Common.{fold, Some, sym, ap, subst, arith}
 use Rattle.std.specs.Prelude.{slice_get, nat_le}
 use Rattle.std.proofs.lemmas.Bool.{leb-false}
 use Rattle.std.proofs.lemmas.List.{length_push}
@@ -11,10 +11,9 @@ use Rattle.credit_ledger.specs.declared.view.Call.{Call}
 use Rattle.credit_ledger.specs.declared.view.Call.TheVariants.{Enter, Look}
 use Rattle.credit_ledger.specs.declared.view.Step.{Step}
 use Rattle.credit_ledger.specs.declared.view.View.{View}
-use Rattle.credit_ledger.specs.Entries.{is_ledger_full}
 use Rattle.credit_ledger.specs.Histories.{after_call, IsPossible, IsLegalFrom, entries_after}
 use Rattle.credit_ledger.specs.Seats.{StartsWith, Extends, told_of}
-use Rattle.credit_ledger.proofs.LockLemmas.{entries-more}
+use Rattle.credit_ledger.proofs.RuleLemmas.{entries-more}
 
 -- the later entries begin with the first ones
 pub record GoOn (first later : List Entry) : Type 0 where

@@ -1,6 +1,9 @@
 pub mod RegionLemmas
 pub mod CodeLemmas
 pub mod LedgerLemmas
+pub mod ShareLemmas
+pub mod RuleLemmas
+pub mod RightLemmas
 pub mod LockLemmas
 pub mod SeatLemmas
 pub mod OverlapLemmas

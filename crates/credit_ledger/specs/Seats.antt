@@ -1,11 +1,13 @@
 -- The seats of a ledger that threads share behind a lock of tickets: what each seat knows of the one
 -- history, and the rule that each step keeps.
 use Rattle.std.specs.Prelude.{◌≡◌, ◌≢◌, ◌≤◌, ◌<◌, ◌⊎◌, ◌==◌, ◌+◌, ℕ, max, Bool, true, false, List, [], ◌∷◌}
-use Rattle.std.specs.Prelude.{◌++◌, length, Option, Some}
-use Rattle.std.specs.List.{filter}
+use Rattle.std.specs.Prelude.{◌++◌, length, map, Option, Some, All, IsTrue}
+use Rattle.std.specs.List.{filter, flat_map, list_any}
 use mathlib.Core.Option.{some, none}
 use lib.ListN.{get_elem?}
 use Rattle.atomic_table.specs.Table.{State, Me}
+use Rattle.credit.specs.declared.share.Half.{Half}
+use Rattle.credit.specs.Shares.{overlaps, keep_half, give_half}
 use Rattle.credit_ledger.specs.declared.entry.Entry.{Entry}
 use Rattle.credit_ledger.specs.declared.view.Call.{Call}
 use Rattle.credit_ledger.specs.declared.view.Call.TheVariants.{Enter, Look}
@@ -28,12 +30,26 @@ seat_calls number history = filter (λ (s : Step). s.seat == number) history
 abbrev pub StartsWith : List Step → List Step → Type 0
 StartsWith history first = (more : List Step) × (history ≡ first ++ more)
 
--- the first seat
+-- the first seat, which has the whole right to enter
 abbrev pub newcomer : View
-newcomer =
-    record { number = 0; given = 1; seen = []; told = []; own = []; stage = Idle; ticket = 0; claims = [] }
+newcomer = record {
+  number = 0;
+  given = 1;
+  seen = [];
+  told = [];
+  own = [];
+  stage = Idle;
+  ticket = 0;
+  shares = [] ∷ [];
+  claims = [];
+}
 
--- a new seat, which knows the same history, and has the other seat's number until it learns its own
+-- the seat that keeps one half of each share
+abbrev pub halved : View → View
+halved v = record v { shares = map keep_half v.shares }
+
+-- a new seat, which knows the same history, and has the other seat's number until it learns its own; it gets
+-- the other half of each share
 abbrev pub copied : View → View
 copied v = record {
   number = v.number;
@@ -43,8 +59,13 @@ copied v = record {
   own = [];
   stage = Fresh;
   ticket = 0;
+  shares = map give_half v.shares;
   claims = [];
 }
+
+-- the same without shares
+abbrev pub noted : View → View
+noted v = record (copied v) { shares = [] }
 
 -- the seat after it learned what the other one has seen, and which numbers that one knows to be given
 abbrev pub told_of : View → View → View
@@ -56,8 +77,17 @@ with_given v given = record v { given = given }
 
 -- a seat that was joined into another one
 abbrev pub spent : View
-spent =
-    record { number = 0; given = 0; seen = []; told = []; own = []; stage = Spent; ticket = 0; claims = [] }
+spent = record {
+  number = 0;
+  given = 0;
+  seen = [];
+  told = [];
+  own = [];
+  stage = Spent;
+  ticket = 0;
+  shares = [];
+  claims = [];
+}
 
 abbrev pub with_number : View → ℕ → View
 with_number v n = record v { number = n; given = n + 1; stage = Idle }
@@ -67,14 +97,22 @@ with_ticket v t = record v { stage = Waiting; ticket = t }
 
 -- the seat with the turn, which has seen all of the history
 abbrev pub turn_taken : View → List Step → View
-turn_taken v history = record v { seen = history; stage = Turn; claims = [] }
+turn_taken v history = record v { seen = history; stage = Turn }
 
 abbrev pub claim_of : View → Claim
 claim_of v = record { number = v.number; seen = v.seen; own = v.own }
 
--- the seat after it took in another one
-abbrev pub with_claim : View → View → View
-with_claim v w = record v { claims = claim_of w ∷ v.claims }
+-- what the seat, and those that it took in, had seen and called
+abbrev pub claims_of : View → List Claim
+claims_of v = claim_of v ∷ v.claims
+
+-- the seat after it took in the shares and the calls of another one
+abbrev pub gathered_of : View → View → View
+gathered_of v w = record v { shares = w.shares ++ v.shares; claims = claims_of w ++ v.claims }
+
+-- the same, where it also learned what the other one has seen
+abbrev pub joined_of : View → View → View
+joined_of v w = gathered_of (told_of v w) w
 
 -- the history begins with what each of these had seen, and has of its seat exactly the calls that it made
 abbrev pub AreClaims : List Step → List Claim → Type 0
@@ -91,6 +129,64 @@ AreOfOthers n (c ∷ claims) = (c.number ≢ n) × AreOfOthers n claims
 abbrev pub AreSeatsApart : List Claim → Type 0
 AreSeatsApart [] = Unit {0}
 AreSeatsApart (c ∷ claims) = AreOfOthers c.number claims × AreSeatsApart claims
+
+-- one of these is of the seat with this number
+abbrev pub IsClaimed : ℕ → List Claim → Type 0
+IsClaimed n [] = ⊥
+IsClaimed n (c ∷ claims) = (c.number ≡ n) ⊎ IsClaimed n claims
+
+-- ---- the right to enter
+
+-- the shares are all of the right to enter: whatever share there may be, it overlaps one of them
+abbrev pub AreAll : List (List Half) → Type 0
+AreAll shares = (share : List Half) → IsTrue (list_any (overlaps share) shares)
+
+abbrev pub is_enter : Call → Bool
+is_enter (Enter entry) = true
+is_enter Look = false
+
+-- one of these calls is an Enter
+abbrev pub has_enter : List Step → Bool
+has_enter calls = list_any (λ (s : Step). is_enter s.call) calls
+
+-- each Enter in the history is a call of one of the seats that these are of
+abbrev pub AreEntersOf : List Claim → List Step → Type 0
+AreEntersOf claims history = All (λ (s : Step). IsTrue (is_enter s.call) → IsClaimed s.seat claims) history
+
+-- The history begins with what each of these seats, and each that they took in, had seen, and has of it
+-- exactly the calls that it made; no two of them have one number. If these seats have all shares, the history
+-- has Enters of no other seat.
+pub record HasCallsOf (history : List Step) (views : List View) : Type 0 where
+  pub claims : AreClaims history (flat_map claims_of views)
+  pub apart : AreSeatsApart (flat_map claims_of views)
+  pub enters : AreAll (flat_map (λ (v : View). v.shares) views)
+      → AreEntersOf (flat_map claims_of views) history
+
+-- it is one of these shares
+abbrev pub IsShareOf : List Half → List (List Half) → Type 0
+IsShareOf share [] = ⊥
+IsShareOf share (s ∷ shares) = (s ≡ share) ⊎ IsShareOf share shares
+
+-- a seat that has a share has this number, or has taken in the seat with this number
+abbrev pub IsAnsweredFor : List View → ℕ → Type 0
+IsAnsweredFor views n =
+    (m : ℕ) × (v : View) × (get_elem? views m ≡ some v) × (0 < length v.shares)
+    × ((m ≡ n) ⊎ IsClaimed n v.claims)
+
+-- who has a share, and what the seats have taken in: two shares that overlap are one share of one seat; for
+-- each seat that made an Enter there is one that has a share; what a seat has taken in is in the history, and
+-- no other one has taken it in too
+pub record AreSharesKept (history : List Step) (views : List View) : Type 0 where
+  pub apart : (m n : ℕ) (v w : View) (s t : List Half) → get_elem? views m ≡ some v
+      → get_elem? views n ≡ some w → IsShareOf s v.shares → IsShareOf t w.shares → overlaps s t ≡ true
+      → (m ≡ n) × (s ≡ t)
+  pub entered : (n : ℕ) → has_enter (seat_calls n history) ≡ true → IsAnsweredFor views n
+  pub claims : (n : ℕ) (v : View) → get_elem? views n ≡ some v
+      → AreClaims history v.claims × AreSeatsApart v.claims
+  pub takers : (m n k : ℕ) (v w : View) → get_elem? views m ≡ some v → get_elem? views n ≡ some w
+      → IsClaimed k v.claims → IsClaimed k w.claims → m ≡ n
+
+-- ---- what the rule says of each seat
 
 -- the seat with this number was joined into another one
 abbrev pub IsSpentAt : List View → ℕ → Type 0
@@ -141,8 +237,6 @@ FitsAt Idle history next serving n v = Knows history n v
 FitsAt Waiting history next serving n v = Knows history n v × (serving ≤ v.ticket) × (v.ticket < next)
 FitsAt Turn history next serving n v =
     Knows history n v × (v.ticket ≡ serving) × (serving < next) × (v.seen ≡ history)
-    × AreClaims v.seen v.claims
-    × AreSeatsApart v.claims
 FitsAt Spent history next serving n v = Unit {0}
 
 abbrev pub FitsHistory : List Step → ℕ → ℕ → ℕ → View → Type 0
@@ -174,9 +268,12 @@ pub record IsRuleKept (history : List Step) (next serving : ℕ) (s : State Slot
   pub gone : (n : ℕ) (v : View) → get_elem? s.views n ≡ some v → AreSpent s.views v.claims
   pub home : IsHome history s
 
--- there is one legal history; the slot holds the ledger after it, or one seat has the turn
+-- there is one legal history; the slot holds the ledger after it, or one seat has the turn; only seats with a
+-- share have entered
 abbrev pub Kept : State Slot View → Type 0
-Kept s = (history : List Step) × (next : ℕ) × (serving : ℕ) × IsRuleKept history next serving s
+Kept s =
+    (history : List Step) × (next : ℕ) × (serving : ℕ) × IsRuleKept history next serving s
+    × AreSharesKept history s.views
 
 -- a new seat has learned its number, which is that of no call so far
 abbrev pub Settled : Me Slot View → Me Slot View → Type 0
@@ -184,12 +281,13 @@ Settled before after =
     (n : ℕ) × (seat_calls n before.0.seen ≡ []) × IsLater before.0 n
     × (after ≡ (with_number before.0 n, before.1))
 
--- a new seat that has seen what the other one has and has made no call; its number is greater than that of
--- the other one, than each that the other one knows to be given, and than that of each seat with a call in
--- what it has seen
+-- a new seat that has seen what the other one has, has made no call and taken in no seat; its number is
+-- greater than that of the other one, than each that the other one knows to be given, and than that of each
+-- seat with a call in what it has seen
 pub record IsCopy (v w : View) : Type 0 where
   pub seen : w.seen ≡ v.seen
   pub own : w.own ≡ []
+  pub claims : w.claims ≡ []
   pub alone : seat_calls w.number v.seen ≡ []
   pub later : IsLater v w.number
   pub given : w.given ≡ w.number + 1
@@ -206,6 +304,8 @@ pub record HasTurn (v : View) (history : List Step) : Type 0 where
   pub seen : StartsWith history v.seen
   pub told : StartsWith history v.told
   pub own : seat_calls v.number history ≡ v.own
+  pub claims : AreClaims history v.claims
+  pub others : AreOfOthers v.number v.claims
 
 -- the seat has the turn and the ledger, or nothing changed
 abbrev pub Served : Me Slot View → ℕ → Me Slot View → Type 0
@@ -224,7 +324,8 @@ Entered before after =
 
 -- the history after a call is legal, begins with all that the seat had seen and learned of, and ends with
 -- the call and its reply. The seat's own calls are the former ones and this one, and the history has no
--- others of the seat. The seat knows the same numbers to be given.
+-- others of the seat. The seat knows the same numbers to be given. It has the same shares, and has taken in
+-- the same seats, whose calls are in the history.
 pub record Extends (v : View) (call : Call) (reply : ℕ) (w : View) : Type 0 where
   pub number : w.number ≡ v.number
   pub given : w.given ≡ v.given
@@ -235,11 +336,21 @@ pub record Extends (v : View) (call : Call) (reply : ℕ) (w : View) : Type 0 wh
   pub told : StartsWith before v.told
   pub own : w.own ≡ v.own ++ record { seat = v.number; call = call; reply = reply } ∷ []
   pub alone : seat_calls v.number w.seen ≡ w.own
+  pub shares : w.shares ≡ v.shares
+  pub claims : w.claims ≡ v.claims
+  pub taken : AreClaims w.seen w.claims
 
--- a new seat
-abbrev pub Sat : Me Slot View → Type 0
-Sat after = after.0.stage ≡ Idle
+-- a new seat without shares
+pub record Sat (after : Me Slot View) : Type 0 where
+  pub stage : after.0.stage ≡ Idle
+  pub own : after.0.own ≡ []
+  pub shares : after.0.shares ≡ []
+  pub claims : after.0.claims ≡ []
 
--- what the seat has taken in is in the history that it has seen, and of one seat each
-abbrev pub Told : Me Slot View → Me Slot View → Type 0
-Told before after = (after ≡ before) × AreClaims before.0.seen before.0.claims × AreSeatsApart before.0.claims
+-- what the seat has taken in is in the history that it has seen, and of one seat each; if it has all shares
+-- and has made no call, the Enters are calls of seats that it has taken in
+pub record Told (before after : Me Slot View) : Type 0 where
+  pub same : after ≡ before
+  pub claims : AreClaims before.0.seen before.0.claims
+  pub apart : AreSeatsApart before.0.claims
+  pub enters : AreAll before.0.shares → before.0.own ≡ [] → AreEntersOf before.0.claims before.0.seen

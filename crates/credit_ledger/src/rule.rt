@@ -60,21 +60,33 @@ impl Play<Option<Ledger>, View> for Enters {
     ghost then = { λ _ before _ after. Entered before after };
 }
 
-/// A new seat with the same history, which has not learned its number yet.
+/// A new seat with the same history, which has not learned its number yet. Each share is cut in its two
+/// halves, one for either seat.
 pub(crate) struct Copies;
 
 impl Split<View> for Copies {
-    ghost use Rattle.credit_ledger.specs.Seats.{copied};
+    ghost use Rattle.credit_ledger.specs.Seats.{halved, copied};
 
-    ghost left = { λ v. v };
+    ghost left = { halved };
 
     ghost right = { copied };
 }
 
-/// A seat learns which numbers another one knows to be given.
-pub(crate) struct Hears;
+/// The same, but the new seat gets no share.
+pub(crate) struct Notes;
 
-impl Join<View> for Hears {
+impl Split<View> for Notes {
+    ghost use Rattle.credit_ledger.specs.Seats.{noted};
+
+    ghost left = { λ v. v };
+
+    ghost right = { noted };
+}
+
+/// A seat learns which numbers a new one without shares knows to be given.
+pub(crate) struct Counts;
+
+impl Join<View> for Counts {
     ghost use Rattle.credit_ledger.specs.Seats.{with_given, spent};
 
     ghost both = { λ v w. with_given v w.given };
@@ -82,13 +94,24 @@ impl Join<View> for Hears {
     ghost spent = { spent };
 }
 
-/// A seat learns the history that another one has seen.
-pub(crate) struct Tells;
+/// A seat learns the history that one without shares has seen.
+pub(crate) struct Hears;
 
-impl Join<View> for Tells {
+impl Join<View> for Hears {
     ghost use Rattle.credit_ledger.specs.Seats.{told_of, spent};
 
     ghost both = { told_of };
+
+    ghost spent = { spent };
+}
+
+/// A seat learns the history that another one has seen, and takes in its shares and calls.
+pub(crate) struct TakesIn;
+
+impl Join<View> for TakesIn {
+    ghost use Rattle.credit_ledger.specs.Seats.{joined_of, spent};
+
+    ghost both = { joined_of };
 
     ghost spent = { spent };
 }
@@ -102,18 +125,18 @@ impl Play<Option<Ledger>, View> for Sit {
     ghost then = { λ _ _ _ after. Sat after };
 }
 
-/// A seat that has the turn takes in what another one has seen and called.
+/// A seat that has the turn takes in another one's shares and calls.
 pub(crate) struct Gathers;
 
 impl Join<View> for Gathers {
-    ghost use Rattle.credit_ledger.specs.Seats.{with_claim, spent};
+    ghost use Rattle.credit_ledger.specs.Seats.{gathered_of, spent};
 
-    ghost both = { with_claim };
+    ghost both = { gathered_of };
 
     ghost spent = { spent };
 }
 
-/// A seat that has the turn learns that what it took in is in the history.
+/// A seat that has the turn learns that what it took in is in the history, and whose calls the entries are.
 pub(crate) struct Claims;
 
 impl Play<Option<Ledger>, View> for Claims {

@@ -8,13 +8,15 @@ ghost use Rattle.credit_ledger.specs.declared.view.View.{View};
 ghost use Rattle.credit_ledger.specs.declared.entry.Cover.{Cover};
 ghost use Rattle.credit_ledger.specs.Entries.{entry_fault, IsSpanHeld};
 ghost use Rattle.credit_ledger.specs.Histories.{entries_after, IsPossible, IsLegal, IsOver};
-ghost use Rattle.credit_ledger.specs.Seats.{newcomer, told_of, with_given, with_ticket, turn_taken, HasTurn, IsCopy, Extends, AreClaims, AreSeatsApart, claim_of};
+ghost use Rattle.credit.specs.Shares.{give_half};
+ghost use Rattle.credit_ledger.specs.Seats.{seat_calls, newcomer, halved, told_of, joined_of, with_given, with_number, with_ticket, turn_taken, IsLater, HasTurn, IsCopy, Extends, AreClaims, AreSeatsApart, HasCallsOf, claim_of};
 
 use crate::entry::{Cover, Entry, Span};
 use crate::fault::LedgerFault;
 use crate::ledger::Ledger;
 use crate::rule::{
-    Claims, Copies, Draw, Enters, Gathers, Hears, Lock, Looks, Serve, Settle, Sit, Tells,
+    Claims, Copies, Counts, Draw, Enters, Gathers, Hears, Lock, Looks, Notes, Serve, Settle, Sit,
+    TakesIn,
 };
 use crate::view::View;
 use atomic_table::Table;
@@ -31,19 +33,31 @@ type Board = Table<Option<Ledger>, View, (), Lock, Global>;
 type Place = atomic_table::Seat<Option<Ledger>, View>;
 
 /// A ledger that several threads share. Each call on it takes the turn, which one seat has at a time; only
-/// `split` takes no turn.
+/// `split`, `news` and `hear` take no turn.
 #[derive(Drop)]
 pub struct SharedLedger {
     board: Board,
     ghost counts: { (board.shared.table_id.words ≡ 2) × (board.shared.table_id.slots ≡ 1) },
 }
 
-/// What one thread holds of a shared ledger: its calls, and a history that it has seen.
+/// What one thread holds of a shared ledger: its calls, a history that it has seen, and a share of the right
+/// to enter.
 #[derive(Drop)]
 pub struct Seat {
     place: Place,
     ghost stage: { place.me.0.stage ≡ Stage.Idle },
     ghost empty: { place.me.1 ≡ [] },
+    ghost right: { 0 < length place.me.0.shares },
+}
+
+/// A history that a seat has seen, for another one to learn. It makes no calls, and has no share of the right
+/// to enter.
+#[derive(Drop)]
+pub struct News {
+    place: Place,
+    ghost stage: { place.me.0.stage ≡ Stage.Idle },
+    ghost empty: { place.me.1 ≡ [] },
+    ghost no_right: { place.me.0.shares ≡ [] },
 }
 
 /// The reply to an accepted entry.
@@ -142,8 +156,29 @@ impl SharedLedger {
     /// Returns a new seat, which has seen the same history and made no call. Its number is greater than
     /// that of the seat, than each that the seat knows to be given, and than that of each seat that made a
     /// call in this history. From then on the seat knows that this number is given, so a later split gives
-    /// a greater one.
+    /// a greater one. Each share of the seat is cut in two: the seat keeps one half, and the new seat gets
+    /// the other.
     pub fn split(&self, seat: &mut Seat) -> Seat
+        requires seat { seat.old.place.table_id ≡ self.now.board.shared.table_id }
+        ensures table { seat.new.place.table_id ≡ seat.old.place.table_id }
+        ensures seat { seat.new.place.me ≡ (
+          with_given (halved seat.old.place.me.0)
+              (result.place.me.0.number + 1),
+          seat.old.place.me.1,
+        ) }
+        ensures place { result.place.table_id ≡ seat.old.place.table_id }
+        ensures copy { IsCopy seat.old.place.me.0 result.place.me.0 }
+        ensures shares { result.place.me.0.shares ≡ map give_half seat.old.place.me.0.shares }
+    {
+        let place = self.board.shared.split_seat::<Copies>(&mut seat.place);
+        Seat {
+            place: settle(&self.board, &mut seat.place, place),
+        }
+    }
+
+    /// Returns news of what the seat has seen. They have a number as a new seat has, and leave the seat its
+    /// shares.
+    pub fn news(&self, seat: &mut Seat) -> News
         requires seat { seat.old.place.table_id ≡ self.now.board.shared.table_id }
         ensures table { seat.new.place.table_id ≡ seat.old.place.table_id }
         ensures seat { seat.new.place.me ≡ (
@@ -154,35 +189,59 @@ impl SharedLedger {
         ensures place { result.place.table_id ≡ seat.old.place.table_id }
         ensures copy { IsCopy seat.old.place.me.0 result.place.me.0 }
     {
-        let mut place = self.board.shared.split_seat::<Copies>(&mut seat.place);
-        let _ = self.board.shared.load::<Settle>(&mut place, 0);
-        // The seat learns the number from a third seat, which is spent by that.
-        let news = self.board.shared.split_seat::<Copies>(&mut place);
-        self.board.shared.join_seat::<Hears>(&mut seat.place, news);
-        Seat { place }
+        let place = self.board.shared.split_seat::<Notes>(&mut seat.place);
+        News {
+            place: settle(&self.board, &mut seat.place, place),
+        }
     }
 
-    /// Takes in what another seat has seen, which is spent by that, and returns how many entries there
-    /// are. It takes the turn.
+    /// Learns the history of these news, which are spent by that. What the seat has seen changes with its next
+    /// call.
+    pub fn hear(&self, seat: &mut Seat, news: News)
+        requires seat { seat.old.place.table_id ≡ self.now.board.shared.table_id }
+        requires news { news.place.table_id ≡ self.now.board.shared.table_id }
+        ensures table { seat.new.place.table_id ≡ seat.old.place.table_id }
+        ensures seat { seat.new.place.me
+            ≡ (told_of seat.old.place.me.0 news.place.me.0, seat.old.place.me.1) }
+    {
+        let News { place } = news;
+        self.board.shared.join_seat::<Hears>(&mut seat.place, place);
+    }
+
+    /// Learns the history of these news, which are spent by that, and returns how many entries there are. It
+    /// takes the turn.
+    pub fn meet<R: Wait>(&self, wait: &R, seat: &mut Seat, news: News) -> u32
+        requires seat { seat.old.place.table_id ≡ self.now.board.shared.table_id }
+        requires news { news.place.table_id ≡ self.now.board.shared.table_id }
+        ensures seat { seat.new.place.table_id ≡ seat.old.place.table_id }
+        ensures call { Extends (told_of seat.old.place.me.0 news.place.me.0) Call.Look result seat.new.place.me.0 }
+    {
+        self.hear(seat, news);
+        self.look(wait, seat)
+    }
+
+    /// Takes in another seat, which is spent by that: what it has seen, its calls, and its shares. Returns how
+    /// many entries there are. It takes the turn.
     pub fn join<R: Wait>(&self, wait: &R, seat: &mut Seat, other: Seat) -> u32
         requires seat { seat.old.place.table_id ≡ self.now.board.shared.table_id }
         requires other { other.place.table_id ≡ self.now.board.shared.table_id }
         ensures seat { seat.new.place.table_id ≡ seat.old.place.table_id }
-        ensures call { Extends (told_of seat.old.place.me.0 other.place.me.0) Call.Look result seat.new.place.me.0 }
+        ensures call { Extends (joined_of seat.old.place.me.0 other.place.me.0) Call.Look result seat.new.place.me.0 }
     {
-        let Seat { place } = other;
-        self.board.shared.join_seat::<Tells>(&mut seat.place, place);
+        take_in(&self.board, seat, other);
         self.look(wait, seat)
     }
 
     /// Returns the ledger after a history that begins with what each of these seats had seen, and that has
-    /// of each seat exactly the calls that it made. No two of the seats have one number. It takes the turn
-    /// a last time.
+    /// of each seat exactly the calls that it made. No two of the seats have one number. The same holds of the
+    /// seats that they took in; and if these seats have all shares, each entry was made by one of all these.
+    /// It takes the turn a last time.
     pub fn close<R: Wait>(self, wait: &R, seats: Vec<Seat>) -> Ledger
         requires seats { All (λ seat. seat.place.table_id ≡ self.board.shared.table_id) seats.items }
         ensures { (history : List Step) × IsLegal history × (result ≡ entries_after history)
             × AreClaims history (map (λ seat. claim_of seat.place.me.0) seats.items)
-            × AreSeatsApart (map (λ seat. claim_of seat.place.me.0) seats.items) }
+            × AreSeatsApart (map (λ seat. claim_of seat.place.me.0) seats.items)
+            × HasCallsOf history (map (λ seat. seat.place.me.0) seats.items) }
     {
         let (_, mut place) = self.board.shared.load_new_seat::<Sit>(0);
         let ticket = draw(&self.board, wait, &mut place);
@@ -205,6 +264,42 @@ impl SharedLedger {
             .store::<Looks>(&mut seat.place, 1, ticket + 1);
         len
     }
+}
+
+/// Lets a new seat learn its number, and the other one that this number is given.
+fn settle(board: &Board, other: &mut Place, new: Place) -> Place
+    requires board { (board.now.shared.table_id.words ≡ 2) × (board.now.shared.table_id.slots ≡ 1) }
+    requires other { other.old.table_id ≡ board.now.shared.table_id }
+    requires stage { other.old.me.0.stage ≡ Stage.Idle }
+    requires new { new.table_id ≡ board.now.shared.table_id }
+    requires fresh { new.me.0.stage ≡ Stage.Fresh }
+    requires empty { new.me.1 ≡ [] }
+    ensures other { other.new.table_id ≡ other.old.table_id }
+    ensures given { other.new.me ≡ (with_given other.old.me.0 (result.me.0.number + 1), other.old.me.1) }
+    ensures new { result.table_id ≡ new.table_id }
+    ensures number { result.me ≡ (with_number new.me.0 result.me.0.number, new.me.1) }
+    ensures alone { seat_calls result.me.0.number new.me.0.seen ≡ [] }
+    ensures later { IsLater new.me.0 result.me.0.number }
+{
+    let mut place = new;
+    let _ = board.shared.load::<Settle>(&mut place, 0);
+    // The other seat learns the number from a third one, which is spent by that.
+    let third = board.shared.split_seat::<Notes>(&mut place);
+    board.shared.join_seat::<Counts>(other, third);
+    place
+}
+
+/// Takes in another seat: what it has seen, its calls, and its shares.
+fn take_in(board: &Board, seat: &mut Seat, other: Seat)
+    requires board { (board.now.shared.table_id.words ≡ 2) × (board.now.shared.table_id.slots ≡ 1) }
+    requires seat { seat.old.place.table_id ≡ board.now.shared.table_id }
+    requires other { other.place.table_id ≡ board.now.shared.table_id }
+    ensures table { seat.new.place.table_id ≡ seat.old.place.table_id }
+    ensures seat { seat.new.place.me
+        ≡ (joined_of seat.old.place.me.0 other.place.me.0, seat.old.place.me.1) }
+{
+    let Seat { place } = other;
+    board.shared.join_seat::<TakesIn>(&mut seat.place, place);
 }
 
 /// Takes a ticket, and returns it. Does not return once the last ticket is drawn.
@@ -321,18 +416,19 @@ fn held(board: &Board, place: &mut Place, span: &Span) -> Result<(u32, bool), Le
     Ok((len, is_held))
 }
 
-/// Takes in what these seats have seen and called.
+/// Takes in the shares and the calls of these seats.
 fn gather(board: &Board, place: &mut Place, seats: Vec<Seat>)
     requires board { (board.now.shared.table_id.words ≡ 2) × (board.now.shared.table_id.slots ≡ 1) }
     requires place { place.old.table_id ≡ board.now.shared.table_id }
     requires stage { place.old.me.0.stage ≡ Stage.Turn }
-    requires none { place.old.me.0.claims ≡ [] }
+    requires own { place.old.me.0.own ≡ [] }
+    requires shares { place.old.me.0.shares ≡ [] }
+    requires claims { place.old.me.0.claims ≡ [] }
     requires seats { All (λ seat. seat.place.table_id ≡ board.now.shared.table_id) seats.items }
     ensures place { place.new.table_id ≡ place.old.table_id }
     ensures slots { place.new.me.1 ≡ place.old.me.1 }
     ensures seen { place.new.me.0.seen ≡ place.old.me.0.seen }
-    ensures claims { AreClaims place.old.me.0.seen (map (λ seat. claim_of seat.place.me.0) seats.items) }
-    ensures apart { AreSeatsApart (map (λ seat. claim_of seat.place.me.0) seats.items) }
+    ensures calls { HasCallsOf place.old.me.0.seen (map (λ seat. seat.place.me.0) seats.items) }
 {
     let mut seats = seats;
     'seats: while let Some(seat) = seats.pop() {

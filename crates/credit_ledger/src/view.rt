@@ -1,5 +1,6 @@
 //! What a seat of the shared ledger knows: types for contracts alone, of which no value is made.
 use crate::entry::Entry;
+use credit::Half;
 use std::collections::LinkedList;
 
 /// A call on a ledger.
@@ -43,7 +44,9 @@ pub struct View {
     pub own: LinkedList<Step>,
     pub stage: Stage,
     pub ticket: u64,
-    /// What the seats that it took in during its turn had seen and called.
+    /// Its shares of the right to enter. Each is the list of halves that leads to it from the whole right.
+    pub shares: LinkedList<LinkedList<Half>>,
+    /// What the seats that it took in had seen and called.
     pub claims: LinkedList<Claim>,
 }
 

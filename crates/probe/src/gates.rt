@@ -80,6 +80,8 @@ impl<'a, C: Clock> CountingGate<'a, C> {
 impl<C: Clock> Gate for CountingGate<'_, C> {
     ghost may_refuse = { λ gate worker. ⊤ };
 
+    ghost passed = { λ gate worker. ⊤ };
+
     fn pass(&self, worker: u32) -> bool {
         if let Some(passes) = self.passes.get(worker as usize) {
             passes.fetch_add(1, Ordering::SeqCst);

@@ -1,17 +1,25 @@
 -- What a recorder is: the records of one thread, and a seat of the ledger that threads share.
-use Rattle.std.specs.Prelude.{ℕ, ◌≡◌, ◌≤◌, ◌||◌, ◌&&◌, Bool, List, [], ◌∷◌, ◌++◌, length, Option, None}
-use Rattle.std.specs.Prelude.{Some, nat_le, slice_get, option_map, option_and_then}
+use Rattle.std.specs.Prelude.{ℕ, ◌≡◌, ◌⊎◌, ◌≤◌, ◌||◌, ◌&&◌, Bool, true, false, List, [], ◌∷◌, ◌++◌, length}
+use Rattle.std.specs.Prelude.{Option, None, Some, nat_le, slice_get, option_map, option_and_then}
+use Rattle.std.specs.Prelude.{if◌then◌else◌}
+use Rattle.std.specs.List.{flat_map}
+use Rattle.std.specs.Option.{option_map_or}
 use Rattle.atomic_table.specs.Seated.{TableId}
 use Rattle.ompt_events.specs.declared.records.Record.{Record}
 use Rattle.ompt_events.specs.declared.records.Body.{Body}
+use Rattle.ompt_events.specs.declared.records.Body.TheVariants.{TaskSchedule, SyncRegion}
+use Rattle.ompt_events.specs.declared.names.Endpoint.{Endpoint}
+use Rattle.ompt_events.specs.declared.names.Endpoint.TheVariants.{Begin, End, BeginEnd}
 use Rattle.ompt_events.specs.Limits.{max_records}
 use Rattle.ompt_events.specs.Records.{finish, claim}
 use Rattle.credit_ledger.specs.declared.entry.Entry.{Entry}
+use Rattle.credit_ledger.specs.declared.view.Call.{Call}
 use Rattle.credit_ledger.specs.declared.view.Call.TheVariants.{Enter, Look}
+use Rattle.credit_ledger.specs.declared.view.Step.{Step}
 use Rattle.credit_ledger.specs.declared.view.View.{View}
 use Rattle.credit_ledger.specs.Entries as ledger
 use Rattle.credit_ledger.specs.Histories.{entries_after}
-use Rattle.credit_ledger.specs.Seats.{Extends}
+use Rattle.credit_ledger.specs.Seats.{Extends, is_enter}
 use Rattle.trace_ledger.specs.Entries.{claimed_entry, entry_of}
 use Rattle.recorder.specs.declared.fault.CallFault.{CallFault}
 use Rattle.recorder.specs.Standing.{allows}
@@ -20,13 +28,15 @@ use Rattle.recorder.specs.Calls.{call_fault, refusal, ledger_refusal}
 use Rattle.recorder.specs.Tasks.{TaskView, is_initial_task}
 
 -- the view of a recorder: the thread's number, whether regions may lie inside others, its records, the
--- ledger length that it knew last, its ledger, and what its seat has seen of that
+-- ledger length that it knew last, its ledger, the calls that its seat had made before it became the
+-- recorder's, and what the seat has seen of the ledger
 pub record RecorderView : Type 0 where
   pub thread : ℕ
   pub nests : Bool
   pub records : List Record
   pub known : ℕ
   pub ledger : TableId
+  pub before : List Step
   pub seat : View
 
 -- the view of a note: the ledger, and what its seat has seen
@@ -44,10 +54,48 @@ HaveEntries own entries =
     (i : ℕ) (r : Record) (entry : Entry) → slice_get own i ≡ Some r → entry_of r ≡ Some entry
     → slice_get entries r.seen ≡ Some entry
 
--- the thread's seat has seen all that its records name of the ledger
-pub record IsBacked (own : List Record) (known : ℕ) (seat : View) : Type 0 where
+-- ---- the calls on the ledger
+
+abbrev pub is_end : Endpoint → Bool
+is_end Begin = false
+is_end End = true
+is_end BeginEnd = true
+
+-- the record names the ledger's length or an index: it is a schedule or a discard, or ends a synchronisation
+-- region
+abbrev pub uses_ledger : Body → Bool
+uses_ledger (TaskSchedule status turns prior next claimed) = true
+uses_ledger (SyncRegion kind endpoint parallel task) = is_end endpoint
+uses_ledger _ = false
+
+-- the call of the seat with this number, to which the ledger gave the reply that the record names
+abbrev pub replied : ℕ → Record → Call → Step
+replied number r call = record { seat = number; call = call; reply = r.seen }
+
+-- the call for a record: a finishing record enters its entry; any other schedule, and any other end of a
+-- region, looks; no other record has one
+abbrev pub ledger_call : ℕ → Record → List Step
+ledger_call number r = option_map_or (λ entry. replied number r (Enter entry) ∷ [])
+    (entry_of r) (if uses_ledger r.body then replied number r Look ∷ [] else [])
+
+-- those of the thread's records, in their order
+abbrev pub ledger_calls : ℕ → List Record → List Step
+ledger_calls number own = flat_map (ledger_call number) own
+
+-- these are those calls in their order, and beside them only looks
+abbrev pub IsWithLooks : List Step → List Step → Type 0
+IsWithLooks calls [] = calls ≡ []
+IsWithLooks calls (s ∷ own) =
+    ((is_enter s.call ≡ false) × IsWithLooks calls own)
+    ⊎ ((rest : List Step) × (calls ≡ s ∷ rest) × IsWithLooks rest own)
+
+-- the thread's seat has seen all that its records name of the ledger; its calls are those that it had made
+-- before, and then those of the records and looks
+pub record IsBacked (before : List Step) (own : List Record) (known : ℕ) (seat : View) : Type 0 where
   pub seen : known ≤ length (entries_of seat)
   pub entered : HaveEntries own (entries_of seat)
+  pub calls : (more : List Step) × (seat.own ≡ before ++ more)
+      × IsWithLooks (ledger_calls seat.number own) more
 
 -- ---- one more record
 
@@ -66,6 +114,7 @@ recorded r seen seat body = record {
   } ∷ [];
   known = known_from seen body;
   ledger = r.ledger;
+  before = r.before;
   seat = seat;
 }
 

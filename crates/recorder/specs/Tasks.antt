@@ -13,10 +13,11 @@ use Rattle.ompt_events.specs.declared.names.Endpoint.TheVariants.{End}
 use Rattle.ompt_events.specs.declared.names.Status.{Status}
 use Rattle.ompt_events.specs.declared.names.SyncKind.{SyncKind}
 use Rattle.ompt_events.specs.declared.state.State.{State}
-use Rattle.ompt_events.specs.declared.state.State.TheVariants.{Created, Running, Detached, Done}
+use Rattle.ompt_events.specs.declared.state.State.TheVariants.{Created, Running, EarlyRunning, Detached}
+use Rattle.ompt_events.specs.declared.state.State.TheVariants.{Done}
 use Rattle.ompt_events.specs.declared.flags.TaskFlags.{TaskFlags}
 use Rattle.ompt_events.specs.Flags as flag
-use Rattle.ompt_events.specs.Flags.{has_flag}
+use Rattle.ompt_events.specs.Flags.{task_flags, has_flag, are_named}
 use Rattle.ompt_events.specs.contracts.names.SyncKindPartialEq.TheImpl as kinds
 use Rattle.ompt_events.specs.Regions.{is_called_barrier}
 use Rattle.ompt_events.specs.States as states
@@ -75,6 +76,16 @@ nature t = nature_by t.origin t.flags.0
 -- allow that
 abbrev pub state_moved : TaskView → states.Move → Option State
 state_moved t move = state_after (nature t) (Some t.state) (0, move)
+
+-- a task creates others only while it runs (OpenMP 5.2, 12.5)
+abbrev pub is_running : State → Bool
+is_running Running = true
+is_running EarlyRunning = true
+is_running _ = false
+
+-- the task may create one with these flags
+abbrev pub may_create : TaskView → TaskFlags → Bool
+may_create t given = are_named task_flags given.0 && is_running t.state
 
 -- ---- its turns
 

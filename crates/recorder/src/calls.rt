@@ -8,11 +8,10 @@ ghost use Rattle.ompt_events.specs.declared.names.Endpoint.TheVariants.{Begin};
 ghost use Rattle.ompt_events.specs.Flags.{task_flags, are_named};
 ghost use Rattle.ompt_events.specs.Records.{dependences, finish};
 ghost use Rattle.ompt_events.specs.Traces.{IsSoundIn};
-ghost use Rattle.credit.specs.Credits as credits;
 ghost use Rattle.credit.specs.Credits.{shared_halves, whole_credit};
-ghost use Rattle.recorder.specs.Tasks.{is_root_on, end_of_root, is_deep, is_crowded, root_of, child_of, with_child, credit_of, holder_in};
+ghost use Rattle.recorder.specs.Tasks.{is_root_on, end_of_root, is_deep, is_crowded, root_of, child_of, with_child, credit_of, may_create};
 ghost use Rattle.recorder.specs.Calls.{call_fault, may_cancel};
-ghost use Rattle.recorder.specs.Recorders.{recorded_alone, may_fork, refusal_at};
+ghost use Rattle.recorder.specs.Recorders.{recorded_alone, uses_ledger, may_fork, refusal_at};
 
 use crate::fault::CallFault;
 use crate::recording::Recorder;
@@ -152,8 +151,8 @@ impl Recorder {
         }
     }
 
-    /// Records that the task, which must run, creates an explicit task (19.5.2.7), and returns the child's
-    /// value. With `deps` the child's dependences must be the next record. The creator keeps one half of
+    /// Records that the task, which must run also by its value, creates an explicit task (19.5.2.7), and
+    /// returns the child's value. With `deps` the child's dependences must be the next record. The creator keeps one half of
     /// its credit, and the child starts with the other. Also fails with `TooDeep` if the task's path has
     /// 1,024 numbers, and with `Full` if it has 2^32 - 1 children.
     pub fn ompt_callback_task_create(
@@ -166,14 +165,14 @@ impl Recorder {
         ensures made { OnOk result (self.new ≡ recorded_alone self.old (TaskCreate deps flags task.old.id id)) }
         ensures child { IfOk result (λ child. child ≡ child_of task.old id flags) }
         ensures task { OnOk result (task.new ≡ with_child task.old) }
-        ensures credit { IfOk result (λ child. holder_in task.old.state ≡ credits.Running
-            → shared_halves id (credit_of task.old) ≡ credit_of task.new ∷ credit_of child ∷ []) }
+        ensures credit { IfOk result (λ child.
+            shared_halves id (credit_of task.old) ≡ credit_of task.new ∷ credit_of child ∷ []) }
         ensures unchanged { OnErr result (self.new ≡ self.old) }
         ensures same_task { OnErr result (task.new ≡ task.old) }
-        ensures refused { IsSome (refusal_at self.old (are_named task_flags flags.0) (is_deep task.old)
+        ensures refused { IsSome (refusal_at self.old (may_create task.old flags) (is_deep task.old)
             (is_crowded task.old) (TaskCreate deps flags task.old.id id)) → IsErr result }
         ensures fault { IfErr result (λ fault. fault
-            ≡ call_fault (refusal_at self.old (are_named task_flags flags.0)
+            ≡ call_fault (refusal_at self.old (may_create task.old flags)
             (is_deep task.old) (is_crowded task.old) (TaskCreate deps flags task.old.id id))) }
     {
         let body = Body::TaskCreate {
@@ -182,7 +181,8 @@ impl Recorder {
             task: task.id(),
             child: id,
         };
-        self.test(flags.are_named(), task.is_deep(), task.is_crowded(), &body)?;
+        let may = flags.are_named() && task.is_running();
+        self.test(may, task.is_deep(), task.is_crowded(), &body)?;
         let Ok(child) = task.child(id, flags) else {
             return Err(CallFault::Memory);
         };
@@ -253,6 +253,7 @@ impl Recorder {
     fn record(&mut self, may: bool, body: Body) -> Result<(), CallFault>
         requires sound { may ≡ true → IsSoundIn 2 body }
         requires unfinished { may ≡ true → finish body ≡ None }
+        requires alone { uses_ledger body ≡ false }
         ensures may { OnOk result (may ≡ true) }
         ensures made { OnOk result (self.new ≡ recorded_alone self.old body) }
         ensures unchanged { OnErr result (self.new ≡ self.old) }

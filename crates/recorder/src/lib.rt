@@ -10,6 +10,7 @@ mod begun;
 mod calls;
 mod fault;
 mod log;
+mod past;
 mod recording;
 mod regions;
 mod schedule;

@@ -12,12 +12,13 @@ ghost use Rattle.recorder.specs.declared.fault.CallFault.TheVariants.{Memory};
 ghost use Rattle.recorder.specs.Calls.{ledger_refusal};
 ghost use Rattle.recorder.specs.Standing.{standing_of, innermost};
 ghost use Rattle.recorder.specs.Logs.{AreRecorded, AreOfKind};
-ghost use Rattle.recorder.specs.Recorders.{IsBacked, entries_of, recorded_alone, IsObserved, IsConcluded, IsFinishRefused, entry_by, allowed, may_fork, refusal_at};
+ghost use Rattle.recorder.specs.Recorders.{IsBacked, entries_of, uses_ledger, recorded_alone, IsObserved, IsConcluded, IsFinishRefused, entry_by, allowed, may_fork, refusal_at};
 
 use crate::fault::{CallFault, of_ledger};
 use crate::log::Log;
+use crate::past::Past;
 use crate::task::TaskData;
-use credit_ledger::{Entry, Seat, SharedLedger};
+use credit_ledger::{Entry, News, Seat, SharedLedger};
 use ompt_events::Body;
 use std::alloc::Global;
 use std::marker::Model;
@@ -31,6 +32,7 @@ use thread_buffers::Buffer;
 pub struct Recorder {
     alloc: Global,
     log: Log,
+    past: Past,
     seat: Seat,
 }
 
@@ -46,11 +48,12 @@ impl Model for Recorder {
       records = recorder.log.records;
       known = recorder.log.known;
       ledger = seat_id recorder.seat;
+      before = recorder.past.calls;
       seat = view_of recorder.seat;
     } };
 
     ghost invariant = { λ recorder.
-        IsBacked recorder.log.records recorder.log.known (view_of recorder.seat) };
+        IsBacked recorder.past.calls recorder.log.records recorder.log.known (view_of recorder.seat) };
 }
 
 /// What one recorder has seen of the ledger, for another one. When a task goes to another thread, pass a
@@ -58,33 +61,35 @@ impl Model for Recorder {
 /// does there.
 #[derive(Drop)]
 pub struct Note {
-    seat: Seat,
+    news: News,
 }
 
 impl Model for Note {
-    ghost use Rattle.credit_ledger.specs.Places.{seat_id, view_of};
+    ghost use Rattle.credit_ledger.specs.Places.{news_id, view_told};
     ghost use Rattle.recorder.specs.Recorders.{NoteView};
 
     ghost Value = { NoteView };
 
-    ghost view = { λ note. record { ledger = seat_id note.seat; seat = view_of note.seat } };
+    ghost view = { λ note. record { ledger = news_id note.news; seat = view_told note.news } };
 }
 
 impl Recorder {
     /// Returns a recorder without records, for the thread with this number, whose records become part of a
     /// trace of version 2: no parallel region is begun inside another one. Each recorder of a ledger needs its
-    /// own seat and its own number. Takes no memory.
+    /// own number and its own seat. Takes no memory.
     pub fn new(alloc: Global, thread: u8, seat: Seat) -> Recorder
         ensures thread { result.thread ≡ thread }
         ensures nests { result.nests ≡ false }
         ensures records { result.records ≡ [] }
         ensures known { result.known ≡ 0 }
         ensures ledger { result.ledger ≡ seat_id seat }
+        ensures before { result.before ≡ (view_of seat).own }
         ensures seat { result.seat ≡ view_of seat }
     {
         Recorder {
             alloc,
             log: Log::new(alloc, thread, false),
+            past: Past::of(&seat),
             seat,
         }
     }
@@ -97,11 +102,13 @@ impl Recorder {
         ensures records { result.records ≡ [] }
         ensures known { result.known ≡ 0 }
         ensures ledger { result.ledger ≡ seat_id seat }
+        ensures before { result.before ≡ (view_of seat).own }
         ensures seat { result.seat ≡ view_of seat }
     {
         Recorder {
             alloc,
             log: Log::new(alloc, thread, true),
+            past: Past::of(&seat),
             seat,
         }
     }
@@ -152,7 +159,7 @@ impl Recorder {
         ensures knows { self.old.known ≤ length (entries_of result.seat) }
     {
         Note {
-            seat: ledger.split(&mut self.seat),
+            news: ledger.news(&mut self.seat),
         }
     }
 
@@ -165,11 +172,22 @@ impl Recorder {
         ensures nests { self.new.nests ≡ self.old.nests }
         ensures records { self.new.records ≡ self.old.records }
         ensures ledger { self.new.ledger ≡ self.old.ledger }
+        ensures before { self.new.before ≡ self.old.before }
         ensures looked { Extends (told_of self.old.seat note.seat) Look self.new.known self.new.seat }
         ensures knows { length (entries_of note.seat) ≤ self.new.known }
     {
-        let known = ledger.join(wait, &mut self.seat, note.seat);
+        let known = ledger.meet(wait, &mut self.seat, note.news);
         self.log.learn(known);
+    }
+
+    /// Learns the same without a look at the ledger: what was seen counts from the next call on that uses the
+    /// ledger. Waits for nothing.
+    pub fn hear(&mut self, ledger: &SharedLedger, note: Note)
+        requires ledger { self.old.ledger ≡ ledger_id ledger.now }
+        requires note { note.ledger ≡ ledger_id ledger.now }
+        ensures { self.new ≡ record self.old { seat = told_of self.old.seat note.seat } }
+    {
+        ledger.hear(&mut self.seat, note.news);
     }
 
     /// Returns the records and the seat, and ends the recorder.
@@ -180,7 +198,7 @@ impl Recorder {
         ensures seat { view_of result.1 ≡ self.seat }
         ensures of_kind { AreOfKind self.nests self.records }
         ensures recorded { AreRecorded self.thread self.records self.known }
-        ensures backed { IsBacked self.records self.known self.seat }
+        ensures backed { IsBacked self.before self.records self.known self.seat }
     {
         let Recorder { log, seat, .. } = self;
         (log.into_buffer(), seat)
@@ -239,6 +257,7 @@ impl Recorder {
         requires allowed { allowed self.old body ≡ true }
         requires sound { IsSoundIn 2 body }
         requires unfinished { finish body ≡ None }
+        requires alone { uses_ledger body ≡ false }
         ensures made { OnOk result (self.new ≡ recorded_alone self.old body) }
         ensures unchanged { OnErr result (self.new ≡ self.old) }
         ensures returned { IfErr result (λ back. back ≡ body) }
@@ -252,7 +271,8 @@ impl Recorder {
     }
 
     /// Looks at the ledger, adds a record that names its length, and returns that length. Fails only when
-    /// out of memory. Requires that the record begins neither a root nor a region.
+    /// out of memory. Requires that the record is one that uses the ledger, and begins neither a root nor a
+    /// region.
     pub(crate) fn observe<R: Wait>(
         &mut self,
         ledger: &SharedLedger,
@@ -264,6 +284,7 @@ impl Recorder {
         requires allowed { allowed self.old body ≡ true }
         requires sound { IsSoundIn 2 body }
         requires unfinished { finish body ≡ None }
+        requires looks { uses_ledger body ≡ true }
         requires no_root { begun_root body ≡ None }
         requires no_region { forked body ≡ None }
         ensures ledger { self.new.ledger ≡ self.old.ledger }

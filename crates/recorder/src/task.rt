@@ -5,7 +5,7 @@ ghost use Rattle.ompt_events.specs.Flags.{task_flags, are_named};
 ghost use Rattle.ompt_events.specs.States as states;
 ghost use Rattle.ompt_events.specs.Traces.{IsSoundIn};
 ghost use Rattle.task_states.specs.Progress.{the_nature, the_move};
-ghost use Rattle.recorder.specs.Tasks.{parent_of, place_of, is_initial_task, is_root_on, end_of_root, after_start, after_stop, nature, state_moved, current_turn, turn_begun_next, innermost_region, is_innermost_region, is_barred, is_deep, is_crowded, root_of, child_of, with_child, in_state, running_in, with_region, without_region, entry_of_part};
+ghost use Rattle.recorder.specs.Tasks.{parent_of, place_of, is_initial_task, is_root_on, end_of_root, after_start, after_stop, nature, state_moved, is_running, current_turn, turn_begun_next, innermost_region, is_innermost_region, is_barred, is_deep, is_crowded, root_of, child_of, with_child, in_state, running_in, with_region, without_region, entry_of_part};
 
 use bitflags::Flags;
 use credit_ledger::Entry;
@@ -336,6 +336,16 @@ impl TaskData {
         ensures { result ≡ is_crowded self.now }
     {
         self.claim.kept == u32::MAX
+    }
+
+    /// Returns whether it runs, so that it may create other tasks.
+    pub(crate) fn is_running(&self) -> bool
+        ensures { result ≡ is_running self.now.state }
+    {
+        match self.state {
+            State::Running | State::EarlyRunning => true,
+            _ => false,
+        }
     }
 
     /// Returns whether the innermost open region is of this kind.

@@ -32,8 +32,8 @@ struct Session {
 /// Does what each line of the text says, and prints what comes of it behind the line. The first word is the
 /// number of a recorder, counted from 0 in the order in which they were made, and the second a call of it
 /// (`calls`); or: `new THREAD` makes a recorder, and `new THREAD 3` one for version 3; `N note` keeps a note of
-/// a recorder, and `N meet M` lets it meet the note with the number M; `gather` closes all recorders and prints
-/// the trace that is gathered from them, `gather N` leaves those from the number N on out, and
+/// a recorder, `N meet M` lets it meet the note with the number M, and `N hear M` lets it hear that note;
+/// `gather` closes all recorders and prints the trace that is gathered from them, `gather N` leaves those from the number N on out, and
 /// `gather_version_3` does the same for version 3. After each of these the next line begins anew.
 ///
 /// Where a call of the library is refused for memory, `memory, ` is printed in front of its answer; that of
@@ -82,7 +82,8 @@ impl Session {
         match (words[0], words[1]) {
             ("new", thread) => self.add(rt, thread.parse()?, words[2] == "3"),
             (number, "note") => self.note(rt, number.parse()?),
-            (number, "meet") => self.meet(rt, number.parse()?, words[2].parse()?),
+            (number, "meet") => self.meet(rt, number.parse()?, words[2].parse()?, true),
+            (number, "hear") => self.meet(rt, number.parse()?, words[2].parse()?, false),
             (number, _) => self.call(rt, number.parse()?, words),
         }
     }
@@ -111,12 +112,13 @@ impl Session {
         Ok(())
     }
 
-    /// A recorder meets a note.
+    /// A recorder meets a note, or hears it without a look.
     fn meet<R: Wait + Print + AllocGlobal>(
         &mut self,
         rt: &R,
         number: usize,
         place: usize,
+        looks: bool,
     ) -> Result<()> {
         if place >= self.notes.len() {
             bail!("no such note");
@@ -125,7 +127,11 @@ impl Session {
         let Some(recorder) = self.recorders.get_mut(number) else {
             bail!("no such recorder");
         };
-        recorder.meet(&self.ledger, rt, note);
+        if looks {
+            recorder.meet(&self.ledger, rt, note);
+        } else {
+            recorder.hear(&self.ledger, note);
+        }
         println!(rt; "ok {}", recorder.known())?;
         Ok(())
     }

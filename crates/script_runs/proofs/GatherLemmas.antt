@@ -1,9 +1,9 @@
 -- The records of each thread in the trace that is gathered.
 use Rattle.std.proofs.Common.{ℕ, zero, suc, ◌≡◌, ◌≢◌, ◌∙◌, ◌++◌, ◌∷◌, ◌⊎◌, [], List, Some, None, Option}
-use Rattle.std.proofs.Common.{map, refl, ap, sym, inl, inr, arith}
-use Rattle.std.specs.Prelude.{◌==◌, Contains, slice_get, option_map}
+use Rattle.std.proofs.Common.{map, length, refl, ap, sym, subst, inl, inr, arith}
+use Rattle.std.specs.Prelude.{◌==◌, Contains, All, slice_get, option_map}
 use Rattle.std.specs.List.Sorted.{IsPermutation}
-use Rattle.std.proofs.lemmas.Bool.{eq-eqb, ne_eqb}
+use Rattle.std.proofs.lemmas.Bool.{cases_order, eq-eqb, ne_eqb}
 use Rattle.std.proofs.lemmas.Bool.Decides.{eqb_tells}
 use Rattle.std.proofs.lemmas.Option.{same_Some, none-some, slice_get-map}
 use Rattle.std.proofs.lemmas.List.{append-nil}
@@ -12,19 +12,22 @@ use Rattle.std.proofs.lemmas.List.Elements.{filter-append}
 use Rattle.std.proofs.lemmas.List.Sorted.{Contains-permutation, IsPermutation-sym}
 use Rattle.ompt_events.specs.declared.records.Record.{Record}
 use Rattle.ompt_events.proofs.ListLemmas.{get_contains, contains_get, all_get, filter_none, filter_all}
-use Rattle.scripts.specs.declared.script.Step.{Step}
+use Rattle.std.proofs.lemmas.List.{take_all}
+use Rattle.scripts.specs.Scripts.{ScriptView, step_count}
 use Rattle.thread_buffers.specs.Buffers.{BufferView}
 use Rattle.recorder.specs.Logs.{AreOrderly}
 use Rattle.recorder.specs.Recorders.{RecorderView}
 use Rattle.callbacks.specs.Closed.{ClosedView, IsBuffer, AreClosed, thread_of, recorded_by}
 use Rattle.callbacks.specs.Gathered.{gathered, HaveOwnThreads}
-use Rattle.script_runs.specs.Calls.{thread_records, recorded_calls, calls_of}
-use Rattle.script_runs.specs.Parts.{HasRecorded, HaveRun, IsAmong}
+use Rattle.callbacks.proofs.GatherLemmas.{from_buffer}
+use Rattle.script_runs.specs.Progress.{thread_records, own_records, without_seen}
+use Rattle.script_runs.specs.Parts.{HasRun, IsCared}
+use Rattle.script_runs.proofs.ProgressLemmas.{own_between}
 
 -- ---- lists
 
 -- what a mapped list has comes from an element
-mapped_from : {X Y : Type 0} (f : X → Y) (xs : List X) (y : Y) → Contains (map f xs) y
+pub mapped_from : {X Y : Type 0} (f : X → Y) (xs : List X) (y : Y) → Contains (map f xs) y
     → (x : X) × Contains xs x × (f x ≡ y)
 mapped_from {X = X} {Y = Y} f xs y there =
     let (k, is) = contains_get (map f xs) y there in
@@ -35,7 +38,7 @@ mapped_from {X = X} {Y = Y} f xs y there =
     from k (Some x) is same = (x, get_contains xs x k is, same_Some (f x) y same)
     from k None is same = absurd (none-some y same)
 
-mapped_to : {X Y : Type 0} (f : X → Y) (xs : List X) (x : X) → Contains xs x → Contains (map f xs) (f x)
+pub mapped_to : {X Y : Type 0} (f : X → Y) (xs : List X) (x : X) → Contains xs x → Contains (map f xs) (f x)
 mapped_to f xs x there =
     let (k, is) = contains_get xs x there in
     get_contains (map f xs) (f x) k (slice_get-map f xs k ∙ ap (option_map f) is)
@@ -121,14 +124,88 @@ find_thread (b ∷ buffers) thread own apart = elim (eqb_tells b.thread thread) 
         further_on zero it is e = other (ap (λ (x : BufferView). x.thread) (same_Some b it is) ∙ e)
         further_on (suc i) it is e = nowhere i it is e
 
+-- a buffer has the records of its thread
+buffer_records : (buffers : List BufferView) (j : ℕ) (b : BufferView) → AreOwn buffers
+    → HaveOwnThreads buffers → slice_get buffers j ≡ Some b
+    → thread_records (gathered buffers) b.thread ≡ b.records
+buffer_records buffers j b own apart is =
+    elim (find_thread buffers b.thread own apart) [
+      | inl found ↦
+          let (i, a, there, of, records) = found in
+          elim (cases_order i j) [
+            | inl same ↦
+                records
+                ∙ ap (λ (x : BufferView). x.records)
+                (same_Some a b (sym there ∙ ap (slice_get buffers) same ∙ is))
+            | inr (inl below) ↦ absurd (apart i j a b below there is of)
+            | inr (inr above) ↦ absurd (apart j i b a above is there (sym of))
+          ]
+      | inr nowhere ↦ absurd (nowhere j b is refl)
+    ]
+
+-- a recorder has the records of its thread
+pub recorder_records : (recorders : List RecorderView) (closed : ClosedView) (r : RecorderView)
+    → IsPermutation (map recorded_by recorders) (map thread_of closed.buffers)
+    → AreClosed closed → HaveOwnThreads closed.buffers → Contains recorders r
+    → thread_records (gathered closed.buffers) r.thread ≡ r.records
+recorder_records recorders closed r same are apart among =
+    let there = Contains-permutation (map recorded_by recorders) (map thread_of closed.buffers)
+    (recorded_by r) same (mapped_to recorded_by recorders r among) in
+    let (b, has, by) = mapped_from thread_of closed.buffers (recorded_by r) there in
+    let (j, is) = contains_get closed.buffers b has in
+    ap (thread_records (gathered closed.buffers)) (sym (ap (λ (p : ℕ × List Record). p.0) by))
+    ∙ buffer_records closed.buffers j b own apart is ∙ ap (λ (p : ℕ × List Record). p.1) by
+  where
+    own : AreOwn closed.buffers
+    own i x there = (all_get (IsBuffer closed.entries) closed.buffers i x are.buffers there).orderly
+
+-- and they are in their order
+pub recorder_orderly : (recorders : List RecorderView) (closed : ClosedView) (r : RecorderView)
+    → IsPermutation (map recorded_by recorders) (map thread_of closed.buffers)
+    → AreClosed closed → Contains recorders r → AreOrderly r.thread r.records
+recorder_orderly recorders closed r same are among =
+    let there = Contains-permutation (map recorded_by recorders) (map thread_of closed.buffers)
+    (recorded_by r) same (mapped_to recorded_by recorders r among) in
+    let (b, has, by) = mapped_from thread_of closed.buffers (recorded_by r) there in
+    let (j, is) = contains_get closed.buffers b has in
+    let orderly = (all_get (IsBuffer closed.entries) closed.buffers j b are.buffers is).orderly in
+    subst (λ rs. AreOrderly r.thread rs) (ap (λ (p : ℕ × List Record). p.1) by)
+    (subst (λ t. AreOrderly t b.records) (ap (λ (p : ℕ × List Record). p.0) by) orderly)
+
+-- a record of the buffers is of the thread of a recorder
+pub record_thread : (recorders : List RecorderView) (closed : ClosedView) (x : Record)
+    → IsPermutation (map recorded_by recorders) (map thread_of closed.buffers)
+    → AreClosed closed → Contains (gathered closed.buffers) x
+    → (r : RecorderView) × Contains recorders r × (r.thread ≡ x.thread)
+record_thread recorders closed x same are there =
+    let (i, is) = contains_get (gathered closed.buffers) x there in
+    let from = from_buffer closed.buffers i x is in
+    let orderly = (all_get (IsBuffer closed.entries) closed.buffers from.number from.buffer are.buffers
+    from.stands).orderly in
+    let (r, among, by) = mapped_from recorded_by recorders (thread_of from.buffer)
+    (Contains-permutation (map thread_of closed.buffers) (map recorded_by recorders) (thread_of from.buffer)
+    (IsPermutation-sym (map recorded_by recorders) (map thread_of closed.buffers) same)
+    (mapped_to thread_of closed.buffers from.buffer
+    (get_contains closed.buffers from.buffer from.number from.stands))) in
+    (r, among, ap (λ (p : ℕ × List Record). p.0) by ∙ sym (orderly from.place x from.is).thread_is)
+
 -- ---- the law
 
--- the records of each thread are its steps
-pub gathered_calls : (steps : List Step) (recorders : List RecorderView) (closed : ClosedView)
-    → HaveRun steps 0 recorders → IsPermutation (map recorded_by recorders) (map thread_of closed.buffers)
+-- a thread without a step has no record
+without_steps : (script : ScriptView) (thread : ℕ) → step_count script.steps thread ≡ 0
+    → own_records script (length script.steps) thread ≡ []
+without_steps script thread none =
+    sym (own_between script thread 0 (length script.steps) (omega arith) (omega arith)
+    (sym (ap (λ l. step_count l thread) (take_all (length script.steps) script.steps (omega arith)) ∙ none)))
+
+-- the records of each thread are those of the script
+pub gathered_own : (script : ScriptView) (recorders : List RecorderView) (closed : ClosedView)
+    → All (HasRun script (length script.steps)) recorders → ((thread : ℕ) → IsCared script recorders thread)
+    → IsPermutation (map recorded_by recorders) (map thread_of closed.buffers)
     → AreClosed closed → HaveOwnThreads closed.buffers → (thread : ℕ)
-    → recorded_calls (thread_records (gathered closed.buffers) thread) ≡ calls_of steps thread
-gathered_calls steps recorders closed run same are apart thread =
+    → map without_seen (thread_records (gathered closed.buffers) thread)
+    ≡ own_records script (length script.steps) thread
+gathered_own script recorders closed each cared same are apart thread =
     elim (find_thread closed.buffers thread own apart) [
       | inl found ↦
           let (i, b, is, of, records) = found in
@@ -137,18 +214,19 @@ gathered_calls steps recorders closed run same are apart thread =
           (Contains-permutation (map thread_of closed.buffers) (map recorded_by recorders) (thread_of b)
           (IsPermutation-sym (map recorded_by recorders) (map thread_of closed.buffers) same) there) in
           let (k, has) = contains_get recorders r among in
-          ap recorded_calls (records ∙ sym (ap (λ (p : ℕ × List Record). p.1) by))
-          ∙ all_get (HasRecorded steps) recorders k r run.each has
-          ∙ ap (calls_of steps) (ap (λ (p : ℕ × List Record). p.0) by ∙ of)
-      | inr nowhere ↦ ap recorded_calls (of_nowhere closed.buffers thread own nowhere)
-          ∙ sym (none nowhere (run.all thread (omega arith)))
+          ap (map without_seen) (records ∙ sym (ap (λ (p : ℕ × List Record). p.1) by))
+          ∙ (all_get (HasRun script (length script.steps)) recorders k r each has).records
+          ∙ ap (own_records script (length script.steps)) (ap (λ (p : ℕ × List Record). p.0) by ∙ of)
+      | inr nowhere ↦
+          ap (map without_seen) (of_nowhere closed.buffers thread own nowhere)
+          ∙ sym (without_steps script thread (none nowhere (cared thread)))
     ]
   where
     own : AreOwn closed.buffers
     own i b is = (all_get (IsBuffer closed.entries) closed.buffers i b are.buffers is).orderly
 
-    none : IsNowhere closed.buffers thread → (calls_of steps thread ≡ []) ⊎ IsAmong recorders thread
-        → calls_of steps thread ≡ []
+    none : IsNowhere closed.buffers thread → IsCared script recorders thread
+        → step_count script.steps thread ≡ 0
     none nowhere (inl empty) = empty
     none nowhere (inr (r, among, of)) =
         let there = Contains-permutation (map recorded_by recorders) (map thread_of closed.buffers)

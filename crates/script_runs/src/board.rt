@@ -1,22 +1,26 @@
 //! What the threads of a run share: how far each is, and the tasks that no thread has at the moment.
-ghost use Rattle.std.specs.Prelude.{◌≡◌, ◌≤◌, ◌+◌, List, [], IfSome, length};
-ghost use Rattle.std.specs.Option.{option_map_or};
+ghost use Rattle.std.specs.Prelude.{◌≡◌, List, [], Option, IfSome, option_map};
 ghost use Rattle.atomic_table.specs.Seated.{TableId};
-ghost use Rattle.script_runs.specs.Runs.{line_of_fault, IsOfLine};
-ghost use Rattle.scripts.specs.declared.script.Step.{Step};
+ghost use Rattle.credit_ledger.specs.declared.view.View.{View};
+ghost use Rattle.scripts.specs.Scripts.{ScriptView, empty_script};
+ghost use Rattle.script_runs.specs.Calls.{first_given, second_given};
+ghost use Rattle.script_runs.specs.Parts.{IsValueAfter, IsNoted, IsTaken};
 
-use crate::fault::RunFault;
+use crate::calling::{first_given, second_given};
 use crate::uses::{Use, Uses};
 use callbacks::{Note, TaskData};
 use scripts::Step;
 use std::alloc::{AllocError, Global};
 use std::marker::{Brand, PhantomData};
 
-/// The ledger and the steps of a run, in ghost values. The run chooses them.
+/// The ledger, the script and the seats of a run, in ghost values. The run chooses them.
 pub trait Context {
     ghost ledger: { TableId };
 
-    ghost steps: { List Step };
+    ghost script: { ScriptView };
+
+    /// By number of the thread, what its seat knew at the start.
+    ghost seats: { List (Option View) };
 }
 
 impl Context for Brand {
@@ -30,7 +34,9 @@ impl Context for Brand {
       slot_names = [];
     } };
 
-    ghost steps = { [] };
+    ghost script = { empty_script };
+
+    ghost seats = { [] };
 }
 
 /// A note of a recorder of the run.
@@ -45,7 +51,11 @@ pub(crate) struct RunNote<C: Context> {
 #[derive(Drop)]
 pub(crate) struct Held<C: Context> {
     pub task: TaskData,
+    /// How many steps the script has up to the last one that named the task, with that one.
+    pub since: u32,
     pub note: Option<RunNote<C>>,
+    pub ghost value: { IsValueAfter C.script since task },
+    pub ghost noted: { IsNoted C.script C.seats since task (option_map (λ n. n.note) note) },
 }
 
 /// The tasks of a step, while no thread has them, in the order in which its call names them.
@@ -53,14 +63,6 @@ pub(crate) struct Held<C: Context> {
 pub(crate) struct Pair<C: Context> {
     pub first: Option<Held<C>>,
     pub second: Option<Held<C>>,
-}
-
-/// The place where a task waits for the next step that names it.
-#[derive(Drop)]
-struct Slot<C: Context> {
-    held: Option<Held<C>>,
-    /// How many of the steps that name the task are done.
-    done: u32,
 }
 
 /// How far a thread is.
@@ -75,13 +77,12 @@ struct Progress {
 /// What the threads of a run share.
 #[derive(Drop)]
 pub(crate) struct Board<C: Context> {
-    /// By number of the task.
-    slots: Vec<Slot<C>>,
+    /// By number of the task, where it waits for the next step that names it.
+    slots: Vec<Option<Held<C>>>,
     /// By number of the thread.
     threads: Vec<Progress>,
-    /// Why the run ends without a trace, if it does.
-    fault: Option<RunFault>,
-    ghost of_a_line: { option_map_or line_of_fault fault 0 ≤ length C.steps + 1 },
+    /// The first line on which no step is taken any more, if the run ends without a trace.
+    end: Option<u32>,
 }
 
 impl<C: Context> Board<C> {
@@ -89,10 +90,7 @@ impl<C: Context> Board<C> {
     pub(crate) fn new(alloc: Global, tasks: usize, threads: usize) -> Result<Board<C>, AllocError> {
         let mut slots = Vec::with_capacity(alloc, tasks)?;
         for _ in 0..tasks {
-            slots.push(Slot {
-                held: None,
-                done: 0,
-            })?;
+            slots.push(None)?;
         }
         let start = Progress {
             done: 0,
@@ -101,30 +99,21 @@ impl<C: Context> Board<C> {
         Ok(Board {
             slots,
             threads: vec![in alloc; start; threads]?,
-            fault: None,
+            end: None,
         })
     }
 
-    /// Returns why the run ends without a trace, if it does.
-    pub(crate) fn fault(&self) -> Option<RunFault>
-        ensures { IfSome result (IsOfLine C.steps) }
-    {
-        self.fault
-    }
-
-    /// Ends the run without a trace, unless it already ends at this line or an earlier one.
-    pub(crate) fn stop(&mut self, fault: RunFault)
-        requires { IsOfLine C.steps fault }
-    {
-        if !self.ends_before(fault.line()) {
-            self.fault = Some(fault);
+    /// Ends the run without a trace: no step on this line or a later one is taken any more.
+    pub(crate) fn stop(&mut self, line: u32) {
+        if !self.ends_before(line) {
+            self.end = Some(line);
         }
     }
 
     /// Returns whether a step on this line is no longer taken.
     pub(crate) fn ends_before(&self, line: u32) -> bool {
-        match self.fault {
-            Some(fault) => fault.line() <= line,
+        match self.end {
+            Some(end) => end <= line,
             None => false,
         }
     }
@@ -136,19 +125,44 @@ impl<C: Context> Board<C> {
         }
     }
 
-    /// Returns whether all that the step waits for is done.
-    pub(crate) fn is_ready(&self, step: &Step, uses: Uses) -> bool {
-        self.is_used_up(uses.first) && self.is_used_up(uses.second) && self.is_done(step.after)
+    /// Takes the tasks that the step is given, and returns them. Returns none, and takes none, unless all that
+    /// the step waits for is done.
+    pub(crate) fn take(&mut self, step: &Step, uses: Uses) -> Option<Pair<C>>
+        ensures first { IfSome result (λ pair. IsTaken (first_given step.now.body)
+            (option_map (λ u. u.since) uses.first) (option_map (λ h. (h.since, h.task)) pair.first)) }
+        ensures second { IfSome result (λ pair. IsTaken (second_given step.now.body)
+            (option_map (λ u. u.since) uses.second) (option_map (λ h. (h.since, h.task)) pair.second)) }
+    {
+        if !self.is_done(step.after) {
+            return None;
+        }
+        let first = self.take_one(first_given(&step.body), uses.first)?;
+        match self.take_one(second_given(&step.body), uses.second) {
+            Some(second) => Some(Pair { first, second }),
+            None => {
+                self.put(uses.first, first);
+                None
+            }
+        }
     }
 
-    /// Returns whether all earlier steps that name the task are done.
-    fn is_used_up(&self, used: Option<Use>) -> bool {
-        let Some(used) = used else {
-            return true;
+    /// Takes the task that a step is given, if it is given one, and returns it. Returns none unless all earlier
+    /// steps that name the task are done.
+    fn take_one(&mut self, task: Option<u64>, used: Option<Use>) -> Option<Option<Held<C>>>
+        ensures { IfSome result (λ held. IsTaken task (option_map (λ u. u.since) used)
+            (option_map (λ h. (h.since, h.task)) held)) }
+    {
+        let Some(task) = task else {
+            return Some(None);
         };
-        match self.slots.get(used.task) {
-            Some(slot) => slot.done == used.before,
-            None => false,
+        let used = used?;
+        let slot = self.slots.get_mut(used.task as usize)?;
+        match slot.take() {
+            Some(held) if held.task.id() == task && held.since == used.since => Some(Some(held)),
+            other => {
+                *slot = other;
+                None
+            }
         }
     }
 
@@ -163,22 +177,6 @@ impl<C: Context> Board<C> {
         }
     }
 
-    /// Takes the tasks of a step, and returns them.
-    pub(crate) fn take(&mut self, uses: Uses) -> Pair<C> {
-        Pair {
-            first: self.take_one(uses.first),
-            second: self.take_one(uses.second),
-        }
-    }
-
-    /// Takes a task, if it is there, and returns it. It is not there if the step makes it.
-    fn take_one(&mut self, used: Option<Use>) -> Option<Held<C>> {
-        match self.slots.get_mut(used?.task) {
-            Some(slot) => slot.held.take(),
-            None => None,
-        }
-    }
-
     /// Notes that the step of the thread is done, and puts back these of its tasks.
     pub(crate) fn finish(&mut self, thread: u8, uses: Uses, left: Pair<C>) {
         self.put(uses.first, left.first);
@@ -188,14 +186,12 @@ impl<C: Context> Board<C> {
         }
     }
 
-    /// Notes that one more step that names the task is done, and puts the task back unless it has ended.
+    /// Puts the task back, if it has not ended.
     fn put(&mut self, used: Option<Use>, held: Option<Held<C>>) {
-        let Some(used) = used else {
-            return;
-        };
-        if let Some(slot) = self.slots.get_mut(used.task) {
-            slot.held = held;
-            slot.done = slot.done.saturating_add(1);
+        if let Some(used) = used
+            && let Some(slot) = self.slots.get_mut(used.task as usize)
+        {
+            *slot = held;
         }
     }
 

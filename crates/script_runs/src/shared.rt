@@ -1,21 +1,35 @@
-//! How the threads of a run take their steps.
-ghost use Rattle.std.specs.Prelude.{◌≡◌, ◌≤◌, IfOk, IfErr, IsTrue, length};
+//! How a thread of a run takes a step.
+ghost use Rattle.std.specs.Prelude.{◌≡◌, ◌<◌, ◌≤◌, ◌+◌, ◌↔◌, IsTrue, None, is_some, length, option_map, option_and_then, IfOk, IfErr, IfSome, OnOk, OnErr};
 ghost use Rattle.credit_ledger.specs.Places.{ledger_id};
-ghost use Rattle.ompt_events.specs.Limits.{max_records};
-ghost use Rattle.script_runs.specs.Runs.{IsOfLine};
-ghost use Rattle.script_runs.specs.Parts.{ArePlaces, IsStepTaken};
+ghost use Rattle.scripts.specs.Scripts.{IsScript};
+ghost use Rattle.script_runs.specs.declared.fault.RunFault.TheVariants.{Memory};
+ghost use Rattle.script_runs.specs.Calls.{first_given, second_given};
+ghost use Rattle.script_runs.specs.Progress.{refused_at};
+ghost use Rattle.script_runs.specs.declared.fault.Stop.TheVariants.{Refused};
+ghost use Rattle.script_runs.specs.Parts.{ArePlaces, AreUses, AreValuesAfter, HasRun, IsNext, IsStopAt};
+ghost use Rattle.script_runs.specs.Parts.{AreSeats, IsSameThread, AreLeft, AreMet, HasMet, HasSeenSame, IsAware, IsMet, IsUsed, is_other};
+ghost use Rattle.script_runs.specs.Parts.{IsSameRun, IsStepOf, IsTaken, fault_of_call};
 
 use crate::board::{Board, Context, Held, Pair, RunNote};
 use crate::calling::{Values, call};
-use crate::fault::RunFault;
-use crate::plan::places_by_thread;
+use crate::fault::{RunFault, Stop};
 use crate::uses::{Use, UseTable, Uses};
-use callbacks::{Recorder, TaskData};
+use callbacks::{CallFault, Recorder, TaskData};
 use credit_ledger::SharedLedger;
 use scripts::{Script, Step};
 use std::alloc::{AllocError, Global};
 use std::marker::PhantomData;
 use std::sync::{Condvar, Mutex, Wait};
+
+/// A step that is taken next, with the values of the tasks that it is given.
+#[derive(Drop)]
+struct Ready<'a> {
+    /// The place of the step in the script.
+    at: usize,
+    step: &'a Step,
+    uses: Uses,
+    values: Values,
+}
 
 /// What the threads of a run share.
 #[derive(Drop)]
@@ -30,9 +44,13 @@ pub(crate) struct Shared<C: Context> {
     /// By number of the thread, the condition on which it waits until it may go on.
     pub changes: Vec<Condvar>,
     pub ghost of_the_ledger: { ledger_id ledger ≡ C.ledger },
-    pub ghost of_the_script: { script.steps ≡ C.steps },
-    pub ghost by_thread: { ArePlaces C.steps (length C.steps) threads.items },
+    pub ghost of_the_script: { script ≡ C.script },
+    pub ghost is_script: { IsScript C.script.steps },
+    pub ghost by_thread: { ArePlaces C.script.steps (length C.script.steps) threads.items },
+    pub ghost by_step: { AreUses C.script.steps (length C.script.steps) uses.uses.items },
     pub ghost few: { length threads.items ≤ 256 },
+    pub ghost seated: { AreSeats threads.items C.seats },
+    pub ghost as_many: { length changes.items ≡ length threads.items },
 }
 
 impl<C: Context> Shared<C> {
@@ -42,16 +60,20 @@ impl<C: Context> Shared<C> {
         alloc: Global,
         ledger: SharedLedger,
         script: Script,
+        threads: Vec<Vec<u32>>,
     ) -> Result<Shared<C>, (Script, RunFault)>
         requires ledger { ledger_id ledger ≡ C.ledger }
-        requires steps { script.steps ≡ C.steps }
+        requires script { script ≡ C.script }
+        requires threads { ArePlaces C.script.steps (length C.script.steps) threads.items }
+        requires few { length threads.items ≤ 256 }
+        requires seats { AreSeats threads.items C.seats }
         ensures ledger { IfOk result (λ shared. shared.ledger ≡ ledger) }
         ensures script { IfOk result (λ shared. shared.script ≡ script) }
         ensures returned { IfErr result (λ refused. refused.0 ≡ script) }
-        ensures line { IfErr result (λ refused. IsOfLine script.steps refused.1) }
+        ensures memory { IfErr result (λ refused. refused.1 ≡ Memory) }
     {
-        match tables(alloc, script.steps()) {
-            Ok((threads, uses, board, changes)) => Ok(Shared {
+        match tables(alloc, script.steps(), threads.as_slice()) {
+            Ok((uses, board, changes)) => Ok(Shared {
                 alloc,
                 ledger,
                 script,
@@ -64,75 +86,124 @@ impl<C: Context> Shared<C> {
         }
     }
 
-    /// Takes the step at this place, once all that it waits for is done. Returns whether it did. If the
-    /// recorder refuses the call, the run ends without a trace, and threads that wait to take a later step
-    /// stop waiting.
-    pub(crate) fn take_step<R: Wait>(&self, rt: &R, recorder: &mut Recorder, at: usize) -> bool
-        requires { recorder.old.ledger ≡ C.ledger }
-        ensures ledger { recorder.new.ledger ≡ recorder.old.ledger }
-        ensures taken { IsTrue result → IsStepTaken C.steps at recorder.old recorder.new }
+    /// Takes the step at this place, once all that it waits for is done. Fails if the recorder or the ledger
+    /// refuses the call, which ends the run without a trace, or when out of memory; or if the run ends for
+    /// another thread, before this step.
+    pub(crate) fn take_step<R: Wait>(
+        &self,
+        rt: &R,
+        recorder: &mut Recorder,
+        at: usize,
+    ) -> Result<(), Stop>
+        requires ledger { recorder.old.ledger ≡ C.ledger }
+        requires step { IsStepOf C.script.steps at recorder.old.thread }
+        requires run { HasRun C.script at recorder.old }
+        requires aware { IsAware C.script C.seats at recorder.old }
+        ensures same { IsSameThread recorder.old recorder.new }
+        ensures accepted { OnOk result (refused_at C.script at ≡ None) }
+        ensures taken { OnOk result (HasRun C.script (at + 1) recorder.new) }
+        ensures aware { OnOk result (IsAware C.script C.seats (at + 1) recorder.new) }
+        ensures unchanged { OnErr result (HasRun C.script at recorder.new) }
+        ensures stop { IfErr result (IsStopAt C.script at recorder.new) }
     {
-        let Some(step) = self.script.steps().get(at) else {
-            return false;
-        };
+        let step = &self.script.steps()[at];
         let uses = self.uses.at(at);
         let Some(pair) = self.await_tasks(rt, step, uses) else {
-            return false;
+            return Err(Stop::Ended { line: step.line });
         };
-        let mut values = self.met(rt, recorder, pair);
+        let values = self.met(rt, recorder, pair);
+        self.take_ready(
+            rt,
+            recorder,
+            Ready {
+                at,
+                step,
+                uses,
+                values,
+            },
+        )
+    }
+
+    /// Takes the step. Fails if the recorder or the ledger refuses the call, which ends the run without a trace,
+    /// or when out of memory.
+    fn take_ready<R: Wait>(&self, rt: &R, recorder: &mut Recorder, ready: Ready) -> Result<(), Stop>
+        requires ledger { recorder.old.ledger ≡ C.ledger }
+        requires next { IsNext C.script ready.at ready.step.now recorder.old ready.values.first
+            ready.values.second }
+        requires uses { IsUsed C.script.steps (length C.script.steps) ready.at ready.uses }
+        requires met { HasMet C.script C.seats ready.at ready.step.now recorder.old }
+        ensures same { IsSameThread recorder.old recorder.new }
+        ensures accepted { OnOk result (refused_at C.script ready.entry.at ≡ None) }
+        ensures taken { OnOk result (HasRun C.script (ready.entry.at + 1) recorder.new) }
+        ensures aware { OnOk result (IsAware C.script C.seats (ready.entry.at + 1) recorder.new) }
+        ensures unchanged { OnErr result (HasRun C.script ready.entry.at recorder.new) }
+        ensures stop { IfErr result (IsStopAt C.script ready.entry.at recorder.new) }
+    {
+        let Ready {
+            at,
+            step,
+            uses,
+            mut values,
+        } = ready;
         match call(recorder, &self.ledger, rt, &step.body, &mut values) {
             Ok(()) => {
-                let left = self.left(recorder, uses, values);
+                let left = self.left(recorder, uses, values, at as u32 + 1);
                 self.finish(rt, step, uses, left);
-                true
+                Ok(())
             }
-            Err(fault) => {
-                self.stop(rt, RunFault::of_call(step.line, fault));
-                false
-            }
+            Err(fault) => Err(self.refuse(rt, step, fault)),
         }
     }
 
-    /// Ends the run without a trace, and wakes all threads.
-    pub(crate) fn stop<R: Wait>(&self, rt: &R, fault: RunFault)
-        requires { IsOfLine C.steps fault }
+    /// Ends the run without a trace, since the call of the step failed, and returns that.
+    fn refuse<R: Wait>(&self, rt: &R, step: &Step, fault: CallFault) -> Stop
+        ensures { result ≡ Refused (fault_of_call step.now.line fault) }
     {
-        self.board.lock(rt).stop(fault);
+        let fault = RunFault::of_call(step.line, fault);
+        self.stop(rt, fault.line());
+        Stop::Refused(fault)
+    }
+
+    /// Ends the run without a trace: no step on this line or a later one is taken any more. Wakes all threads.
+    pub(crate) fn stop<R: Wait>(&self, rt: &R, line: u32) {
+        self.board.lock(rt).stop(line);
         for thread in 0..self.changes.len() {
             self.changes[thread].notify_one();
         }
     }
 
-    /// Returns why the run ends without a trace. A run that does has a fault.
-    pub(crate) fn fault<R: Wait>(&self, rt: &R) -> RunFault
-        ensures { IsOfLine C.steps result }
+    /// Waits until all that the step waits for is done, takes its tasks, and returns them. Returns none if the
+    /// run ends before the step.
+    fn await_tasks<R: Wait>(&self, rt: &R, step: &Step, uses: Uses) -> Option<Pair<C>>
+        requires { step.now.thread < length self.now.changes.items }
+        ensures first { IfSome result (λ pair. IsTaken (first_given step.now.body)
+            (option_map (λ u. u.since) uses.first) (option_map (λ h. (h.since, h.task)) pair.first)) }
+        ensures second { IfSome result (λ pair. IsTaken (second_given step.now.body)
+            (option_map (λ u. u.since) uses.second) (option_map (λ h. (h.since, h.task)) pair.second)) }
     {
-        self.board.lock(rt).fault().unwrap_or(RunFault::Memory)
-    }
-
-    /// Waits until all that the step waits for is done, takes its tasks, and returns them. Returns none if
-    /// the run ends before the step.
-    fn await_tasks<R: Wait>(&self, rt: &R, step: &Step, uses: Uses) -> Option<Pair<C>> {
+        let change = &self.changes[usize::from(step.thread)];
         let mut board = self.board.lock(rt);
         board.expect(step);
-        let mut board = match self.changes.get(usize::from(step.thread)) {
-            Some(change) => change.wait_while(rt, board, |board| {
-                !board.ends_before(step.line) && !board.is_ready(step, uses)
-            }),
-            None => board,
-        };
-        if board.ends_before(step.line) {
-            return None;
+        for _ in rt.forever() {
+            if board.ends_before(step.line) {
+                return None;
+            }
+            if let Some(pair) = board.take(step, uses) {
+                return Some(pair);
+            }
+            board = change.wait(rt, board);
         }
-        Some(board.take(uses))
+        None
     }
 
     /// Returns the values of the tasks, after their notes are met.
     fn met<R: Wait>(&self, rt: &R, recorder: &mut Recorder, pair: Pair<C>) -> Values
         requires { recorder.old.ledger ≡ C.ledger }
-        ensures ledger { recorder.new.ledger ≡ recorder.old.ledger }
-        ensures thread { recorder.new.thread ≡ recorder.old.thread }
-        ensures records { recorder.new.records ≡ recorder.old.records }
+        ensures recorder { IsSameRun recorder.old recorder.new }
+        ensures met { AreMet recorder.old (option_and_then (λ h. option_map (λ n. n.note) h.note) pair.first)
+            (option_and_then (λ h. option_map (λ n. n.note) h.note) pair.second) recorder.new }
+        ensures first { result.first ≡ option_map (λ h. h.task) pair.first }
+        ensures second { result.second ≡ option_map (λ h. h.task) pair.second }
     {
         let Pair { first, second } = pair;
         Values {
@@ -150,9 +221,9 @@ impl<C: Context> Shared<C> {
         held: Option<Held<C>>,
     ) -> Option<TaskData>
         requires { recorder.old.ledger ≡ C.ledger }
-        ensures ledger { recorder.new.ledger ≡ recorder.old.ledger }
-        ensures thread { recorder.new.thread ≡ recorder.old.thread }
-        ensures records { recorder.new.records ≡ recorder.old.records }
+        ensures recorder { IsSameRun recorder.old recorder.new }
+        ensures met { IsMet recorder.old (option_and_then (λ h. option_map (λ n. n.note) h.note) held) recorder.new }
+        ensures value { result ≡ option_map (λ h. h.task) held }
     {
         let Held { task, note, .. } = held?;
         if let Some(RunNote { note, .. }) = note {
@@ -162,17 +233,21 @@ impl<C: Context> Shared<C> {
     }
 
     /// Returns the tasks that a step leaves, each with a note if the next step that names it belongs to
-    /// another thread.
-    fn left(&self, recorder: &mut Recorder, uses: Uses, values: Values) -> Pair<C>
-        requires { recorder.old.ledger ≡ C.ledger }
-        ensures ledger { recorder.new.ledger ≡ recorder.old.ledger }
-        ensures thread { recorder.new.thread ≡ recorder.old.thread }
-        ensures records { recorder.new.records ≡ recorder.old.records }
+    /// another thread. The first `since` steps of the script are those up to this one.
+    fn left(&self, recorder: &mut Recorder, uses: Uses, values: Values, since: u32) -> Pair<C>
+        requires ledger { recorder.old.ledger ≡ C.ledger }
+        requires aware { IsAware C.script C.seats since recorder.old }
+        requires first { AreValuesAfter C.script since values.first }
+        requires second { AreValuesAfter C.script since values.second }
+        requires first_use { AreLeft C.script since recorder.old.thread uses.first values.first }
+        requires second_use { AreLeft C.script since recorder.old.thread uses.second values.second }
+        ensures recorder { IsSameRun recorder.old recorder.new }
+        ensures aware { IsAware C.script C.seats since recorder.new }
     {
         let Values { first, second, .. } = values;
         Pair {
-            first: self.hold(recorder, uses.first, first),
-            second: self.hold(recorder, uses.second, second),
+            first: self.hold(recorder, uses.first, first, since),
+            second: self.hold(recorder, uses.second, second, since),
         }
     }
 
@@ -183,21 +258,37 @@ impl<C: Context> Shared<C> {
         recorder: &mut Recorder,
         used: Option<Use>,
         task: Option<TaskData>,
+        since: u32,
     ) -> Option<Held<C>>
-        requires { recorder.old.ledger ≡ C.ledger }
-        ensures ledger { recorder.new.ledger ≡ recorder.old.ledger }
-        ensures thread { recorder.new.thread ≡ recorder.old.thread }
-        ensures records { recorder.new.records ≡ recorder.old.records }
+        requires ledger { recorder.old.ledger ≡ C.ledger }
+        requires aware { IsAware C.script C.seats since recorder.old }
+        requires value { AreValuesAfter C.script since task }
+        requires left { AreLeft C.script since recorder.old.thread used task }
+        ensures recorder { IsSameRun recorder.old recorder.new }
+        ensures aware { IsAware C.script C.seats since recorder.new }
     {
         let task = task?;
-        let note = match used?.next {
-            Some(thread) if thread != recorder.thread() => Some(RunNote {
-                note: recorder.note(&self.ledger),
-                of: PhantomData,
-            }),
-            _ => None,
-        };
-        Some(Held { task, note })
+        let used = used?;
+        let note = self.note_for(recorder, used.next);
+        Some(Held { task, since, note })
+    }
+
+    /// Returns a note of what the recorder has seen, if the next step that names a task is of this thread and
+    /// not of the recorder's.
+    fn note_for(&self, recorder: &mut Recorder, next: Option<u8>) -> Option<RunNote<C>>
+        requires ledger { recorder.old.ledger ≡ C.ledger }
+        ensures recorder { IsSameRun recorder.old recorder.new }
+        ensures seat { HasSeenSame recorder.old recorder.new }
+        ensures told { IfSome result (λ n. n.note.seat.seen ≡ recorder.old.seat.seen) }
+        ensures wanted { IsTrue (is_some result) ↔ IsTrue (is_other next recorder.old.thread) }
+    {
+        if !is_other(next, recorder.thread()) {
+            return None;
+        }
+        Some(RunNote {
+            note: recorder.note(&self.ledger),
+            of: PhantomData,
+        })
     }
 
     /// Notes that the step is done, puts back these of its tasks, and wakes the threads that wait for it.
@@ -235,25 +326,37 @@ impl<C: Context> Shared<C> {
     }
 }
 
-/// Returns the places of the steps of each thread, the uses of the steps, the board at the start, and for
-/// each thread a condition to wait on.
+/// Returns whether there is a next thread, and it is another one.
+fn is_other(next: Option<u8>, thread: u8) -> bool
+    ensures { result ≡ is_other next thread }
+{
+    match next {
+        Some(next) => next != thread,
+        None => false,
+    }
+}
+
+/// Returns the uses of the steps, the board at the start, and for each thread a condition to wait on. The
+/// second table has the places of each thread's steps.
 fn tables<C: Context>(
     alloc: Global,
     steps: &[Step],
-) -> Result<(Vec<Vec<u32>>, UseTable, Board<C>, Vec<Condvar>), AllocError>
-    requires { length steps.now ≤ max_records }
-    ensures places { IfOk result (λ made. ArePlaces steps.now (length steps.now) made.0.items) }
-    ensures few { IfOk result (λ made. length made.0.items ≤ 256) }
+    threads: &[Vec<u32>],
+) -> Result<(UseTable, Board<C>, Vec<Condvar>), AllocError>
+    requires { IsScript steps.now }
+    ensures uses { IfOk result (λ made. AreUses steps.now (length steps.now) made.0.uses.items) }
+    ensures changes { IfOk result (λ made. length made.2.items ≡ length threads.now) }
 {
-    let threads = places_by_thread(alloc, steps)?;
-    let uses = UseTable::of(alloc, steps, threads.as_slice())?;
+    let uses = UseTable::of(alloc, steps, threads)?;
     let board = Board::new(alloc, uses.tasks(), threads.len())?;
     let changes = conditions(alloc, threads.len())?;
-    Ok((threads, uses, board, changes))
+    Ok((uses, board, changes))
 }
 
 /// Returns this many conditions to wait on.
-fn conditions(alloc: Global, count: usize) -> Result<Vec<Condvar>, AllocError> {
+fn conditions(alloc: Global, count: usize) -> Result<Vec<Condvar>, AllocError>
+    ensures { IfOk result (λ conditions. length conditions.items ≡ count) }
+{
     let mut conditions = Vec::with_capacity(alloc, count)?;
     for _ in 0..count {
         conditions.push(Condvar::new())?;

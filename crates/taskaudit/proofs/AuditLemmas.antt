@@ -1,18 +1,25 @@
 -- What an audit tells and leaves, once what is shown of a verdict was written or broke off.
-use Rattle.std.proofs.Common.{◌≡◌, ◌∙◌, ℕ, None, arith, List, Option, Result, Ok, Err, IfOk, IfErr, OnOk}
-use Rattle.std.proofs.Common.{take, refl, sym}
+use Rattle.std.proofs.Common.{◌≡◌, ◌≢◌, ◌<◌, ◌≤◌, ◌∙◌, ℕ, None, arith, List, Option, Result, Ok, Err}
+use Rattle.std.proofs.Common.{IfOk, IfErr, OnOk, take, refl, sym}
 use Rattle.std.specs.Io.KnownBytes.{Appends}
 use Rattle.ompt_events.specs.Traces.{TraceView}
 use Rattle.certificate.specs.declared.faults.WriteFault.TheVariants as write
 use Rattle.certificate.specs.Counts.{count_more}
 use Rattle.certificate.specs.ReadingOn.{ReadsAhead}
+use Rattle.checker.specs.declared.verdict.CheckFault.{CheckFault}
+use Rattle.checker.specs.declared.verdict.CheckFault.TheVariants as check
 use Rattle.checker.specs.declared.verdict.Verdict.{Verdict}
+use Rattle.checker.specs.declared.verdict.Verdict.TheVariants.{Yes, No}
+use Rattle.checker.specs.declared.verdict.Verdict.TheVariants as found
+use Rattle.checker.specs.Gate.{HaveAllPassed, HavePassedFor}
 use Rattle.taskaudit.specs.declared.work.AuditFault.{AuditFault}
 use Rattle.taskaudit.specs.declared.work.AuditFault.TheVariants.{Read, Write, Check, Call, Upgrade, Memory}
 use Rattle.taskaudit.specs.declared.work.Outcome.{Outcome}
+use Rattle.taskaudit.specs.declared.work.Outcome.TheVariants.{Malformed}
 use Rattle.taskaudit.specs.declared.work.Shown.{Shown}
 use Rattle.taskaudit.specs.declared.work.Shown.TheVariants.{Report}
-use Rattle.taskaudit.specs.Audits.{BreaksOff, IsJudged, IsWriteFault, Leaves, LeavesOn, Prints, Reports}
+use Rattle.taskaudit.specs.Audits.{BreaksOff, IsJudged, IsOfCrew, IsWriteFault, Leaves, LeavesOn, Prints}
+use Rattle.taskaudit.specs.Audits.{Reports}
 use Rattle.taskaudit.specs.Reports.{outcome_of}
 use Rattle.taskaudit.proofs.HeadlineLemmas.{synchronised}
 
@@ -62,18 +69,66 @@ module _ (shown : Shown) (bytes old new : Option (List ℕ)) (trace : TraceView)
   leaves_of (Ok outcome) h = tt
   leaves_of (Err f) h = leaves_by f h
 
--- an audit by workers leaves the same
-pub leaves_on : (workers : ℕ) (may_refuse : ℕ → Type 0) (part : ℕ → Type 0) (bytes old new : Option (List ℕ))
-    (r : Result Outcome AuditFault)
-    → IfErr r (IsWriteFault part) → IfErr r (Leaves Report bytes old new)
-    → IfErr r (LeavesOn workers may_refuse bytes old new)
-leaves_on workers may_refuse part bytes old new (Ok outcome) wrong h = tt
-leaves_on workers may_refuse part bytes old new (Err (Write f)) wrong h = h
-leaves_on workers may_refuse part bytes old new (Err (Read f)) wrong h = absurd wrong
-leaves_on workers may_refuse part bytes old new (Err (Check f)) wrong h = absurd wrong
-leaves_on workers may_refuse part bytes old new (Err (Call line f)) wrong h = absurd wrong
-leaves_on workers may_refuse part bytes old new (Err (Upgrade line f)) wrong h = absurd wrong
-leaves_on workers may_refuse part bytes old new (Err Memory) wrong h = absurd wrong
+-- what the faults of a check by a crew of 1 to 256 tell
+pub of_crew : (workers : ℕ) (may_refuse passed : ℕ → Type 0) (r : Result Verdict CheckFault)
+    → 1 ≤ workers → workers ≤ 256
+    → (r ≡ Err check.Workers → 1 ≤ workers → 256 < workers)
+    → ((worker : ℕ) → r ≡ Err (check.Gate worker) → (worker < workers) × may_refuse worker)
+    → ((worker : ℕ) → r ≡ Err (check.Gate worker) → HaveAllPassed passed worker)
+    → r ≢ Err check.Thread → IfErr r (λ fault. IsOfCrew workers may_refuse passed (Check fault))
+of_crew workers may_refuse passed (Ok verdict) some few wrong gate before thread = tt
+of_crew workers may_refuse passed (Err check.Memory) some few wrong gate before thread = tt
+of_crew workers may_refuse passed (Err check.Workers) some few wrong gate before thread =
+    absurd (let past = wrong refl some in omega (arith, past, few))
+of_crew workers may_refuse passed (Err (check.Gate worker)) some few wrong gate before thread =
+    ((gate worker refl).0, (gate worker refl).1, before worker refl)
+of_crew workers may_refuse passed (Err check.Thread) some few wrong gate before thread =
+    absurd (thread refl)
+
+-- an audit by workers leaves the same, and they have passed the gate
+pub leaves_on : (workers : ℕ) (may_refuse passed : ℕ → Type 0) (bytes old new : Option (List ℕ))
+    (trace : TraceView) (verdict : Verdict) (text : List ℕ)
+    → IsJudged bytes trace verdict → Prints Report trace.records verdict text
+    → HavePassedFor passed workers verdict → (r : Result Outcome AuditFault)
+    → IfErr r (IsWriteFault (λ n. Appends old new (take n text)))
+    → IfErr r (LeavesOn workers may_refuse passed bytes old new)
+leaves_on workers may_refuse passed bytes old new trace verdict text judged printed have r part = of r part
+  where
+    off : (count : ℕ) → Appends old new (take count text)
+        → (broken : BreaksOff Report bytes old new) × HavePassedFor passed workers broken.verdict
+    off count left = (
+      record {
+        trace = trace;
+        verdict = verdict;
+        judged = judged;
+        text = text;
+        printed = printed;
+        count = count;
+        written = left;
+      },
+      have,
+    )
+
+    of : (r : Result Outcome AuditFault) → IfErr r (IsWriteFault (λ n. Appends old new (take n text)))
+        → IfErr r (LeavesOn workers may_refuse passed bytes old new)
+    of (Ok outcome) h = tt
+    of (Err (Write write.Device)) h = off h.0 h.1
+    of (Err (Write write.Memory)) h = absurd h
+    of (Err (Write write.TurnsSpent)) h = off h.0 h.1
+    of (Err (Read f)) h = absurd h
+    of (Err (Check f)) h = absurd h
+    of (Err (Call line f)) h = absurd h
+    of (Err (Upgrade line f)) h = absurd h
+    of (Err Memory) h = absurd h
+
+-- where a yes or a no is told the workers have passed the gate
+pub passed_by : (passed : ℕ → Type 0) (workers : ℕ) (verdict : Verdict) (r : Result Outcome AuditFault)
+    → HavePassedFor passed workers verdict → IfOk r (λ outcome. outcome ≡ outcome_of verdict)
+    → IfOk r (λ outcome. outcome ≢ Malformed → HaveAllPassed passed workers)
+passed_by passed workers verdict (Err f) have kind = tt
+passed_by passed workers (Yes order) (Ok outcome) have kind = λ other. have
+passed_by passed workers (No i why) (Ok outcome) have kind = λ other. have
+passed_by passed workers (found.Malformed i cause) (Ok outcome) have kind = λ other. absurd (other kind)
 
 -- at a source that is not read nothing is met
 pub nothing_met : (agains breaks : ℕ) → (turns : ℕ) × ReadsAhead None 0 turns agains agains breaks breaks

@@ -10,6 +10,7 @@ use Rattle.certificate.specs.declared.faults.WriteFault.TheVariants as write
 use Rattle.checker.specs.declared.verdict.CheckFault.TheVariants as check
 use Rattle.checker.specs.declared.verdict.Verdict.{Verdict}
 use Rattle.checker.specs.declared.verdict.Verdict.TheVariants as verdict
+use Rattle.checker.specs.Gate.{HaveAllPassed, HavePassedFor}
 use Rattle.checker.specs.Verdicts.{IsVerdict, task_of}
 use Rattle.checker.specs.Counter.{IsCounterOrder}
 use Rattle.taskaudit.specs.declared.work.Shown.{Shown}
@@ -84,20 +85,25 @@ Leaves shown bytes old new _ = Keeps old new
 abbrev pub IsNoCrew : ℕ → Type 0
 IsNoCrew workers = 1 ≤ workers → 256 < workers
 
--- memory ran out, or the gate refused a worker that there is and that it may refuse
-abbrev pub IsOfCrew : ℕ → (ℕ → Type 0) → AuditFault → Type 0
-IsOfCrew workers may_refuse (Check (check.Gate worker)) = (worker < workers) × may_refuse worker
-IsOfCrew workers may_refuse fault = IsOutOfMemory fault
+-- memory ran out, or the gate refused a worker that there is and that it may refuse, and has let those
+-- before it pass
+abbrev pub IsOfCrew : ℕ → (ℕ → Type 0) → (ℕ → Type 0) → AuditFault → Type 0
+IsOfCrew workers may_refuse passed (Check (check.Gate worker)) =
+    (worker < workers) × may_refuse worker × HaveAllPassed passed worker
+IsOfCrew workers may_refuse passed fault = IsOutOfMemory fault
 
 -- the same of an audit by so many workers. Only here it may be no crew, or the gate may refuse a worker that
--- it has, one of those that the gate may refuse; where no thread can be started the work is done all the
--- same
-abbrev pub LeavesOn : ℕ → (ℕ → Type 0) → Option (List ℕ) → Option (List ℕ) → Option (List ℕ) → AuditFault
-    → Type 0
-LeavesOn workers may_refuse bytes old new (Check check.Workers) = IsNoCrew workers × Keeps old new
-LeavesOn workers may_refuse bytes old new (Check (check.Gate worker)) =
-    (worker < workers) × may_refuse worker × Keeps old new
-LeavesOn workers may_refuse bytes old new fault = Leaves Report bytes old new fault
+-- it has, one of those that the gate may refuse, after those before it have passed; where no thread can be
+-- started the work is done all the same. A text that broke off is of a verdict for which the workers have
+-- passed
+abbrev pub LeavesOn : ℕ → (ℕ → Type 0) → (ℕ → Type 0) → Option (List ℕ) → Option (List ℕ)
+    → Option (List ℕ) → AuditFault → Type 0
+LeavesOn workers may_refuse passed bytes old new (Check check.Workers) = IsNoCrew workers × Keeps old new
+LeavesOn workers may_refuse passed bytes old new (Check (check.Gate worker)) =
+    (worker < workers) × may_refuse worker × HaveAllPassed passed worker × Keeps old new
+LeavesOn workers may_refuse passed bytes old new (Write f) =
+    (off : BreaksOff Report bytes old new) × HavePassedFor passed workers off.verdict
+LeavesOn workers may_refuse passed bytes old new fault = Leaves Report bytes old new fault
 
 -- a fault of the input is the file's first one, or one of the source or of memory while the line was read;
 -- left is what the source has left

@@ -9,7 +9,7 @@ use Rattle.certificate.specs.TraceTexts.{trace_text}
 use Rattle.checker.specs.declared.verdict.CheckFault.TheVariants as check
 use Rattle.recorder.specs.declared.fault.CallFault.{CallFault}
 use Rattle.scripts.specs.Scripts.{ScriptView}
-use Rattle.script_runs.specs.Runs.{IsRunOf, IsOfLine}
+use Rattle.script_runs.specs.Runs.{IsRunOf, IsRunFault}
 use Rattle.script_runs.specs.declared.fault.RunFault.{RunFault}
 use Rattle.script_runs.specs.declared.fault.RunFault.TheVariants as run
 use Rattle.taskaudit.specs.declared.work.AuditFault.{AuditFault}
@@ -37,11 +37,12 @@ pub record BreaksOffRecording (bytes old new : Option (List ℕ)) : Type 0 where
   pub count : ℕ
   pub written : Appends old new (take count (trace_text trace))
 
--- the bytes are a script, and a call on this line of it was refused
+-- the bytes are a script, and the first of its steps, in the order of its lines, that a recorder refuses is
+-- on this line, with this fault
 pub record IsRefusedAt (bytes : Option (List ℕ)) (line : ℕ) (fault : CallFault) : Type 0 where
   pub script : ScriptView
   pub reads : ReadsAs bytes script
-  pub within : IsOfLine script.steps (run.Call line fault)
+  pub first : IsRunFault script (run.Call line fault)
 
 -- what a fault leaves: a prefix of that text where the sink failed, or memory ran out while it was written,
 -- and else nothing. A recording checks and upgrades no trace

@@ -1,9 +1,10 @@
 //! The audit of a file, with its report alone or with an order that shows the verdict, on one thread or on
 //! several.
-ghost use Rattle.std.specs.Prelude.{◌≡◌, ◌≢◌, ◌≤◌, ◌⊎◌, ◌↔◌, Err, IfOk, IfErr, IfSome, OnOk, take};
+ghost use Rattle.std.specs.Prelude.{◌≡◌, ◌≢◌, ◌≤◌, ◌⊎◌, ◌↔◌, Ok, Err, IfOk, IfErr, IfSome, OnOk, take};
 ghost use Rattle.std.specs.Io.KnownBytes.{Appends};
 ghost use Rattle.std.specs.Thread.{IsSync};
 ghost use Rattle.certificate.specs.Counts.{breaks_written};
+ghost use Rattle.checker.specs.Gate.{HaveAllPassed, HavePassedFor};
 ghost use Rattle.checker.specs.Verdicts.{IsVerdict};
 ghost use Rattle.taskaudit.specs.Audits.{Prints, Reports, Leaves, LeavesOn, IsNoCrew, IsOutOfMemory, IsOfCrew, IsWriteFault, IsReadRightly, IsReadRightlyOn};
 ghost use Rattle.taskaudit.specs.Devices.{TellsDevices, TellsDevicesAhead, AsksForTurns, written_of};
@@ -72,9 +73,13 @@ pub fn audit_on<R: Threads + Sync, G: Gate + Sync, I: Source, O: Sink>(
     ensures reports { IfOk result
         (Reports Shown.Report (I.remaining source.old) (O.contents sink.old) (O.contents sink.new)) }
     ensures leaves { IfErr result (LeavesOn crew.entry.workers (G.may_refuse crew.entry.gate.now)
-        (I.remaining source.old) (O.contents sink.old) (O.contents sink.new)) }
+        (G.passed crew.entry.gate.now) (I.remaining source.old) (O.contents sink.old) (O.contents sink.new)) }
     ensures unreadable { IfErr result (IsReadRightlyOn crew.entry.workers
         (I.remaining source.old) (I.remaining source.new)) }
+
+    // Before a yes or a no each worker has passed the gate. No worker decides a malformed trace.
+    ensures passed { IfOk result (λ outcome. outcome ≢ Outcome.Malformed
+        → HaveAllPassed (G.passed crew.entry.gate.now) crew.entry.workers) }
 
     // Without workers, or with too many, nothing is read and nothing written.
     ensures workers { (result ≡ Err (AuditFault.Check CheckFault.Workers)) ↔ IsNoCrew crew.entry.workers }
@@ -145,7 +150,10 @@ fn answer_on<R: Threads + Sync, G: Gate + Sync>(
     requires { (1 ≤ crew.workers) × (crew.workers ≤ 256) }
     ensures verdict { IfOk result (λ answer. IsVerdict trace.now.records answer.0) }
     ensures text { IfOk result (λ answer. Prints Shown.Report trace.now.records answer.0 answer.1.items) }
-    ensures fault { IfErr result (IsOfCrew crew.entry.workers (G.may_refuse crew.entry.gate.now)) }
+    ensures passed { IfOk result (λ answer.
+        HavePassedFor (G.passed crew.entry.gate.now) crew.entry.workers answer.0) }
+    ensures fault { IfErr result
+        (IsOfCrew crew.entry.workers (G.may_refuse crew.entry.gate.now) (G.passed crew.entry.gate.now)) }
 {
     let (counts, found) = found_on(alloc, crew, trace);
     reported(alloc, found, trace, counts)
@@ -161,8 +169,10 @@ fn found_on<R: Threads + Sync, G: Gate + Sync>(
     requires { (1 ≤ crew.workers) × (crew.workers ≤ 256) }
     ensures counts { IfSome result.0 (AreCounts trace.now.records) }
     ensures verdict { IfOk result.1 (IsVerdict trace.now.records) }
+    ensures passed { IfOk result.1 (HavePassedFor (G.passed crew.entry.gate.now) crew.entry.workers) }
     ensures fault { IfErr result.1 (λ fault.
-        IsOfCrew crew.entry.workers (G.may_refuse crew.entry.gate.now) (AuditFault.Check fault)) }
+        IsOfCrew crew.entry.workers (G.may_refuse crew.entry.gate.now) (G.passed crew.entry.gate.now)
+        (AuditFault.Check fault)) }
 {
     if crew.workers == 1 {
         return (None, check_on(crew.threads, alloc, trace, 1, crew.gate));
@@ -175,8 +185,10 @@ fn found_on<R: Threads + Sync, G: Gate + Sync>(
         || -> Result<Verdict, CheckFault>
             requires { IsSync R.row × IsSync G.row × (1 ≤ crew.workers) × (crew.workers ≤ 256) }
             ensures verdict { IfOk result (IsVerdict trace.entry.now.records) }
+            ensures passed { IfOk result (HavePassedFor (G.passed crew.entry.gate.now) crew.entry.workers) }
             ensures fault { IfErr result (λ fault.
-                IsOfCrew crew.entry.workers (G.may_refuse crew.entry.gate.now) (AuditFault.Check fault)) }
+                IsOfCrew crew.entry.workers (G.may_refuse crew.entry.gate.now) (G.passed crew.entry.gate.now)
+                (AuditFault.Check fault)) }
         { check_on(crew.threads, alloc, trace, crew.workers, crew.gate) },
     );
     (Some(counts), found)
@@ -192,6 +204,7 @@ fn reported(
     requires found { IfOk found (IsVerdict trace.now.records) }
     requires counts { IfSome counts (AreCounts trace.now.records) }
     ensures verdict { IfOk result (λ answer. IsVerdict trace.now.records answer.0) }
+    ensures found { IfOk result (λ answer. found ≡ Ok answer.0) }
     ensures text { IfOk result (λ answer. Prints Shown.Report trace.now.records answer.0 answer.1.items) }
     ensures fault { IfErr result (λ fault. (fault ≡ AuditFault.Memory)
         ⊎ ((f : CheckFault) × (found ≡ Err f) × (fault ≡ AuditFault.Check f))) }

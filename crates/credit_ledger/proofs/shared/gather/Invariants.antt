@@ -1,7 +1,10 @@
-use Rattle.std.proofs.Common.{◌≡◌, ◌++◌, All, length}
+use Rattle.std.proofs.Common.{◌≡◌, ◌++◌, [], All, length}
 use Rattle.std.specs.Prelude.{map}
-use Rattle.credit_ledger.specs.Seats.{claim_of}
+use Rattle.std.specs.List.{flat_map}
+use Rattle.credit_ledger.specs.Places.{view_of}
+use Rattle.credit_ledger.specs.Seats.{claims_of}
 use Rattle.credit_ledger.specs.declared.view.Stage.TheVariants.{Turn}
+use Rattle.credit_ledger.specs.declared.view.View.{View}
 use Rattle.credit_ledger.proofs.shared.gather.Given as goal
 
 abbrev pub decreases-seats : goal.decreases-seats
@@ -13,7 +16,10 @@ invariant-seats l = record {
   stage : l.place.me.0.stage ≡ Turn;
   slots : l.place.me.1 ≡ l.initial.place.me.1;
   seen : l.place.me.0.seen ≡ l.initial.place.me.0.seen;
-  claims : map (λ seat. claim_of seat.place.me.0) l.seats.items ++ l.place.me.0.claims
-      ≡ map (λ seat. claim_of seat.place.me.0) l.initial.seats.items;
+  own : l.place.me.0.own ≡ [];
+  shares : flat_map (λ (v : View). v.shares) (map view_of l.seats.items) ++ l.place.me.0.shares
+      ≡ flat_map (λ (v : View). v.shares) (map view_of l.initial.seats.items);
+  claims : flat_map claims_of (map view_of l.seats.items) ++ l.place.me.0.claims
+      ≡ flat_map claims_of (map view_of l.initial.seats.items);
   tables : All (λ seat. seat.place.table_id ≡ l.board.shared.table_id) l.seats.items;
 }

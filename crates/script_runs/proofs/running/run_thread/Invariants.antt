@@ -1,11 +1,13 @@
-use Rattle.std.specs.Prelude.{◌≡◌, take}
-use Rattle.script_runs.specs.Parts.{HasRunTo}
+use Rattle.std.specs.Prelude.{◌≡◌}
+use Rattle.script_runs.specs.Parts.{fixed_of}
+use Rattle.script_runs.proofs.RunLemmas.{IsAfter}
 use Rattle.script_runs.proofs.running.run_thread.Given as goal
 
--- the recorder has recorded the calls of the steps so far
+-- the recorder has recorded the steps so far
 abbrev pub invariant-loop-index : goal.invariant-loop-index
 invariant-loop-index g l = record {
   thread : l.recorder.thread ≡ l.thread;
   ledger : l.recorder.ledger ≡ g.C.Context.ledger;
-  run : HasRunTo g.C.Context.steps (take l.index l.places) l.recorder;
+  fixed : fixed_of l.recorder ≡ fixed_of l.initial.recorder;
+  run : IsAfter g.C.Context.script g.C.Context.seats l.thread l.index l.recorder;
 }

@@ -2,7 +2,7 @@ use Rattle.std.proofs.Common.{rules, ◌≡◌, List, ℕ, Ok, OnOk, IfErr, refl
 use Rattle.std.specs.Io.KnownBytes.{Appends}
 use Rattle.taskaudit.specs.declared.work.Shown.TheVariants.{Report}
 use Rattle.taskaudit.specs.Audits.{IsWriteFault}
-use Rattle.taskaudit.proofs.AuditLemmas.{reports_of, leaves_of, leaves_on, nothing_met}
+use Rattle.taskaudit.proofs.AuditLemmas.{reports_of, leaves_on, passed_by, nothing_met}
 use Rattle.taskaudit.proofs.auditing.audit_on.Goals as goal
 
 pub returns-then-crew-eq0-clause-devices : goal.returns-then-crew-eq0-clause-devices
@@ -36,8 +36,12 @@ returns-clause-leaves g c =
     λ text. IfErr c.put.result (IsWriteFault (λ n. Appends old new (take n text))) in
     let part : P c.in_ok-verdict.text.items = subst P c.as_slice.ensures.value c.put.ensures.part in
     leaves_on c.args.crew.workers (g.G.Gate.may_refuse c.args.crew.gate.now)
-    (λ n. Appends old new (take n c.in_ok-verdict.text.items)) bytes old new c.put.result part
-    (leaves_of Report bytes old new trace c.in_ok-verdict.verdict c.in_ok-verdict.text.items
+    (g.G.Gate.passed c.args.crew.gate.now) bytes old new trace c.in_ok-verdict.verdict
+    c.in_ok-verdict.text.items
     (record { file = rw read at c.read_on.ensures.file; right = c.in_ok-verdict.ensures.verdict })
-    c.in_ok-verdict.ensures.text
-    c.put.result part)
+    c.in_ok-verdict.ensures.text c.in_ok-verdict.ensures.passed c.put.result part
+
+pub returns-clause-passed : goal.returns-clause-passed
+returns-clause-passed g c =
+    passed_by (g.G.Gate.passed c.args.crew.gate.now) c.args.crew.workers c.in_ok-verdict.verdict c.put.result
+    c.in_ok-verdict.ensures.passed c.put.ensures.kind

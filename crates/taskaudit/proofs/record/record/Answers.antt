@@ -23,7 +23,7 @@ returns-in-Err-clause-leaves g c =
     let kept : Keeps before before = search rules in
     rw c.of_run.ensures
     (run_leaves (g.I.Source.remaining c.args.source.now) before script c.in-Err.fault
-    (rw read at c.read_script.ensures.file) c.in-Err.ensures.line kept)
+    (rw read at c.read_script.ensures.file) c.in-Err.ensures.fault kept)
 
 pub returns-clause-leaves : goal.returns-clause-leaves
 returns-clause-leaves g c =

@@ -6,5 +6,5 @@ use Rattle.checker.proofs.workers.Work.find_in_range.Given as goal
 
 -- at the records of the range so far all is complete
 abbrev pub invariant-loop-at : goal.invariant-loop-at
-invariant-loop-at l = (i : ℕ) → i < l.at → begin_of l.self l.worker ≤ i
+invariant-loop-at g l = (i : ℕ) → i < l.at → begin_of l.self l.worker ≤ i
     → AreComplete (by_task l.self.records) i

@@ -15,7 +15,7 @@ store-requires g c =
           c.args.seat.now.place.me.0 c.draw-ticket.result h c.args.entry c.args.self.now.counts.1
           (c.in-Ok.ensures.entered
           ∙ ap (λ m. (m.0, (0, Some (entries_after h ++ c.args.entry ∷ [])) ∷ [])) is)
-          c.in-Ok.ensures.possible,
+          c.args.seat.now.right c.in-Ok.ensures.possible,
     )
 
 pub store-requires-in-Err : goal.store-requires-in-Err

@@ -9,8 +9,8 @@ pub push-requires-clause-rises : goal.push-requires-clause-rises
 push-requires-clause-rises g c =
     let i = c.self.inside in
     subst (λ k. k ≤ c.look-seen.result) (sym c.reserve.ensures.kept.known)
-    (known-below i.log.records i.log.known c.look-seen.result (view_of i.seat) (view_of c.look-seen.new.seat)
-    Look c.self.invariant c.look-seen.ensures.call)
+    (known-below i.past.calls i.log.records i.log.known c.look-seen.result (view_of i.seat)
+    (view_of c.look-seen.new.seat) Look c.self.invariant c.look-seen.ensures.call)
 
 pub invariant_of-self-2 : goal.invariant_of-self-2
 invariant_of-self-2 g c =
@@ -22,6 +22,7 @@ invariant_of-self-2 g c =
       seen = c.look-seen.result;
       body = c.args.body;
     } in
-    observed i.log c.reserve.new.self c.push.new.self (view_of i.seat) (view_of c.look-seen.new.seat) r
-    c.self.invariant c.reserve.ensures.kept
-    c.look-seen.ensures.call c.requires.unfinished c.push.ensures.records c.push.ensures.known
+    observed i.past.calls i.log c.reserve.new.self c.push.new.self (view_of i.seat)
+    (view_of c.look-seen.new.seat) r c.self.invariant c.reserve.ensures.kept
+    c.look-seen.ensures.call c.requires.unfinished c.requires.looks c.push.ensures.records
+    c.push.ensures.known

@@ -1,17 +1,60 @@
-use Rattle.std.proofs.Common.{sym, refl, length}
-use Rattle.std.proofs.lemmas.Bool.{ltb-true}
-use Rattle.std.proofs.lemmas.Option.{slice_get_read}
-use Rattle.script_runs.proofs.PlaceLemmas.{taken_here}
+use Rattle.std.proofs.Common.{arith, length, refl}
+use Rattle.std.specs.Prelude.{option_map}
+use Rattle.script_runs.specs.Parts.{by_another}
+use Rattle.script_runs.proofs.PlaceLemmas.{place_of_step}
+use Rattle.script_runs.proofs.NoteLemmas.{step_met}
+use Rattle.script_runs.proofs.StepLemmas.{next_step, step_read, row_within}
 use Rattle.script_runs.proofs.shared.Shared.take_step.Goals as goal
 
-pub returns-in-Ok-clause-taken : goal.returns-in-Ok-clause-taken
-returns-in-Ok-clause-taken g c _ =
-    let steps = c.steps.result.now in
-    let s = c.in-Some.step.now in
-    let is =
-    slice_get_read steps (length steps) c.args.at s refl
-    (ltb-true c.args.at (length steps) (sym c.in-Some.ensures.lookup.0)) c.in-Some.ensures.lookup.1 in
-    taken_here g.C.Context.steps c.args.at s c.args.recorder.now c.met-values.new.recorder c.call.new.recorder
-    c.left-left.new.recorder (rw (sym c.args.self.now.of_the_script, sym c.steps.ensures.value) is)
-    c.met-values.ensures.records c.met-values.ensures.thread c.in-Ok.ensures.called
-    c.left-left.ensures.records c.left-left.ensures.thread
+pub await_tasks-requires : goal.await_tasks-requires
+await_tasks-requires g c =
+    let script = g.C.Context.script in
+    let shared = c.args.self.now in
+    let step = c.index-steps-at.result in
+    let read =
+    step_read script shared.script c.steps.result.now c.args.at c.args.recorder.now.thread step
+    c.steps.ensures.value shared.of_the_script c.index-steps-at.is c.requires.step in
+    let placed =
+    place_of_step script.steps shared.threads.items step.thread c.args.at step shared.by_thread read.0 refl in
+    let low = row_within shared.threads.items step.thread _ _ placed in
+    omega (arith, low, shared.as_many)
+
+pub returns-in_default-clause-stop : goal.returns-in_default-clause-stop
+returns-in_default-clause-stop g c =
+    let script = g.C.Context.script in
+    let shared = c.args.self.now in
+    let step = c.index-steps-at.result in
+    let read =
+    step_read script shared.script c.steps.result.now c.args.at c.args.recorder.now.thread step
+    c.steps.ensures.value shared.of_the_script c.index-steps-at.is c.requires.step in
+    rw (shared.is_script.lines c.args.at step read.0) by_another
+
+pub take_ready-requires-clause-next : goal.take_ready-requires-clause-next
+take_ready-requires-clause-next g c =
+    let script = g.C.Context.script in
+    let shared = c.args.self.now in
+    let step = c.index-steps-at.result in
+    let read =
+    step_read script shared.script c.steps.result.now c.args.at c.args.recorder.now.thread step
+    c.steps.ensures.value shared.of_the_script c.index-steps-at.is c.requires.step in
+    next_step (λ h. h.since) (λ h. h.task) script (length script.steps) c.args.at step c.args.recorder.now
+    c.met-values.new.recorder c.at-uses.result c.in-Some.pair.first c.in-Some.pair.second
+    c.met-values.result.first c.met-values.result.second shared.is_script read.0 read.1 c.requires.run
+    c.met-values.ensures.recorder (c.at-uses.ensures script.steps (length script.steps) shared.by_step)
+    (λ h. h.value)
+    c.in-Some.ensures.first c.in-Some.ensures.second c.met-values.ensures.first
+    c.met-values.ensures.second
+
+pub take_ready-requires-clause-met : goal.take_ready-requires-clause-met
+take_ready-requires-clause-met g c =
+    let script = g.C.Context.script in
+    let shared = c.args.self.now in
+    let step = c.index-steps-at.result in
+    let read =
+    step_read script shared.script c.steps.result.now c.args.at c.args.recorder.now.thread step
+    c.steps.ensures.value shared.of_the_script c.index-steps-at.is c.requires.step in
+    step_met (λ h. h.since) (λ h. h.task) (λ h. option_map (λ n. n.note) h.note) script g.C.Context.seats
+    c.args.at step c.at-uses.result c.in-Some.pair.first c.in-Some.pair.second c.args.recorder.now
+    c.met-values.new.recorder shared.is_script read.0 read.1 c.requires.aware c.met-values.ensures.recorder
+    (c.at-uses.ensures script.steps (length script.steps) shared.by_step) (λ h. h.noted)
+    c.in-Some.ensures.first c.in-Some.ensures.second c.met-values.ensures.met

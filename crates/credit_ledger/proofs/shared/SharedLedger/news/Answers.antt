@@ -1,0 +1,10 @@
+use Rattle.std.proofs.Common.{arith}
+use Rattle.credit_ledger.proofs.SeatLemmas.{notes}
+use Rattle.credit_ledger.proofs.shared.SharedLedger.news.Goals as goal
+
+pub split_seat-place-requires : goal.split_seat-place-requires
+split_seat-place-requires c = (
+  c.requires.seat,
+  omega (arith, c.args.self.now.counts.0),
+  notes c.args.seat.now.place.id c.args.seat.now.place.me.0 c.args.seat.now.stage,
+)
