@@ -9,3 +9,4 @@ pub mod SeenLemmas
 pub mod PairLaw
 pub mod TraceLemmas
 pub mod MadeLemmas
+pub mod NoteLaw

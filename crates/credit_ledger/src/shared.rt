@@ -33,7 +33,7 @@ type Board = Table<Option<Ledger>, View, (), Lock, Global>;
 type Place = atomic_table::Seat<Option<Ledger>, View>;
 
 /// A ledger that several threads share. Each call on it takes the turn, which one seat has at a time; only
-/// `split`, `news` and `hear` take no turn.
+/// `split`, `news`, `again` and `hear` take no turn.
 #[derive(Drop)]
 pub struct SharedLedger {
     board: Board,
@@ -192,6 +192,24 @@ impl SharedLedger {
         let place = self.board.shared.split_seat::<Notes>(&mut seat.place);
         News {
             place: settle(&self.board, &mut seat.place, place),
+        }
+    }
+
+    /// Returns the same news again, for one more seat to learn. They have a number of their own.
+    pub fn again(&self, news: &mut News) -> News
+        requires news { news.old.place.table_id ≡ self.now.board.shared.table_id }
+        ensures table { news.new.place.table_id ≡ news.old.place.table_id }
+        ensures news { news.new.place.me ≡ (
+          with_given news.old.place.me.0
+              (result.place.me.0.number + 1),
+          news.old.place.me.1,
+        ) }
+        ensures place { result.place.table_id ≡ news.old.place.table_id }
+        ensures copy { IsCopy news.old.place.me.0 result.place.me.0 }
+    {
+        let place = self.board.shared.split_seat::<Notes>(&mut news.place);
+        News {
+            place: settle(&self.board, &mut news.place, place),
         }
     }
 

@@ -73,6 +73,21 @@ impl Model for Note {
     ghost view = { λ note. record { ledger = news_id note.news; seat = view_told note.news } };
 }
 
+impl Note {
+    /// Returns the same note again, for one more recorder to meet.
+    pub fn again(&mut self, ledger: &SharedLedger) -> Note
+        requires { self.old.ledger ≡ ledger_id ledger.now }
+        ensures same { self.new
+            ≡ record self.old { seat = with_given self.old.seat (result.seat.number + 1) } }
+        ensures ledger { result.ledger ≡ self.old.ledger }
+        ensures copy { IsCopy self.old.seat result.seat }
+    {
+        Note {
+            news: ledger.again(&mut self.news),
+        }
+    }
+}
+
 impl Recorder {
     /// Returns a recorder without records, for the thread with this number, whose records become part of a
     /// trace of version 2: no parallel region is begun inside another one. Each recorder of a ledger needs its

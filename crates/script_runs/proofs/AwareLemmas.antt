@@ -1,10 +1,10 @@
 -- What a recorder knows of the ledger after its steps, and what its records name.
 use Rattle.std.proofs.Common.{ℕ, ◌≡◌, ◌∙◌, ◌++◌, ◌∷◌, ◌+◌, ◌<◌, ◌≤◌, ◌⊎◌, [], List, Some, None, Option}
-use Rattle.std.proofs.Common.{Bool, length, take, refl, sym, ap, subst, arith, inl, inr, cond}
+use Rattle.std.proofs.Common.{Bool, true, false, length, take, refl, sym, ap, subst, arith, inl, inr, cond}
 use Rattle.std.proofs.Common.{zero, suc}
 use Rattle.std.specs.Prelude.{◌==◌, slice_get, option_and_then, is_some}
 use Rattle.std.specs.Option.{option_map_or}
-use Rattle.std.proofs.lemmas.Bool.{cases_eq, cases_lt, eq-eqb, ne_eqb}
+use Rattle.std.proofs.lemmas.Bool.{cases_eq, cases_lt, eq-eqb, ne_eqb, false≢true}
 use Rattle.std.proofs.lemmas.List.{append-nil, append_assoc, length-map, length_push}
 use Rattle.std.proofs.lemmas.Option.{same_Some, slice_get_within}
 use Rattle.ompt_events.specs.declared.records.Record.{Record}
@@ -14,19 +14,20 @@ use Rattle.credit_ledger.specs.declared.view.Call.TheVariants.{Enter, Look}
 use Rattle.credit_ledger.specs.declared.view.Step as seat_step
 use Rattle.credit_ledger.specs.declared.view.View.{View}
 use Rattle.credit_ledger.specs.Seats.{Extends, StartsWith, seat_calls, told_of}
-use Rattle.credit_ledger.proofs.ExtendsLemmas.{reply-known, looked-length, entered-there}
+use Rattle.credit_ledger.proofs.ExtendsLemmas.{met, reply-known, looked-length, entered-there}
 use Rattle.scripts.specs.declared.script.Step.{Step}
 use Rattle.scripts.specs.Scripts.{ScriptView, step_count}
 use Rattle.recorder.specs.Recorders.{RecorderView, NoteView, entries_of}
 use Rattle.recorder.specs.Tasks.{TaskView}
 use Rattle.script_runs.specs.Calls.{first_given, second_given, reads_ledger}
 use Rattle.script_runs.specs.Calls.{recorded_body}
-use Rattle.script_runs.specs.HandOvers.{IsNextUse}
+use Rattle.script_runs.specs.HandOvers.{IsNextUse, ComesAfter, is_reader}
 use Rattle.script_runs.specs.Progress.{own_records, refused_at, without_seen, thread_records, progress_to}
 use Rattle.script_runs.specs.Progress.{progress_with}
 use Rattle.script_runs.specs.Progress.{Progress, step_refusal}
 use Rattle.script_runs.specs.Parts.{HasCalled, alone, looked, entered, EndsWithCall, HasKnown, IsKnownTo}
-use Rattle.script_runs.specs.Parts.{HasSeat, HasRecordAt, HasNamed, IsAware, HasMet, IsMet, IsStepKnown}
+use Rattle.script_runs.specs.Parts.{HasSeat, HasRecordAt, HasNamed, IsAware, HasMet, HasHeard, IsMet}
+use Rattle.script_runs.specs.Parts.{IsStepKnown}
 use Rattle.script_runs.specs.Parts.{HasRun, IsNext, IsCalled, IsStepOf}
 use Rattle.script_runs.specs.Parts.{notes_met}
 use Rattle.script_runs.specs.Parts.{calls_at, ledger_count, number_of, seat_of, IsNewSeat}
@@ -145,6 +146,26 @@ called_seat seats count old new seen uses seat thread (entered entry extends kno
       omega (arith, low, rises),
       omega (arith, last),
     )
+
+-- a call on the ledger learns what the seat was told
+told_call : (v w : View) (call : Call) (reply seat calls : ℕ) → Extends v call reply w
+    → calls ≤ length (seat_calls seat v.told) → IsKnownTo w.seen seat calls reply
+told_call v w call reply seat calls extends many = record {
+  moment = v.told;
+  begins = told_before v call reply w extends;
+  calls = many;
+  high = let m = met v w call reply extends in omega (arith, m.2.length_kept, m.4);
+}
+
+-- and the record of a step that uses the ledger names its length
+told_known : (old new : RecorderView) (seen : ℕ) (uses : Bool) (seat calls : ℕ) → uses ≡ true
+    → HasCalled old seen new uses → calls ≤ length (seat_calls seat old.seat.told)
+    → IsKnownTo new.seat.seen seat calls seen
+told_known old new seen uses seat calls reads (alone same is known) many = absurd (false≢true reads)
+told_known old new seen uses seat calls reads (looked extends known) many =
+    told_call old.seat new.seat Look seen seat calls extends many
+told_known old new seen uses seat calls reads (entered entry extends known) many =
+    told_call old.seat new.seat (Enter entry) seen seat calls extends many
 
 -- at the moment the seat has made all its calls
 now_known : (seats : List (Option View)) (count : ℕ) (r : RecorderView) (known : ℕ) → HasSeat seats count r
@@ -285,6 +306,10 @@ named_later script seats n old new has thread records number grown = record {
       known_to_later old.seat.seen new.seat.seen (number_of seats t.thread)
       (ledger_count script.steps t.thread (first + 1)) q.seen grown
       (has.passed task first at t q below (was at q there) uses is (λ e. apart (e ∙ sym thread)));
+  awaited = λ first at q below there comes reads apart.
+      known_to_later old.seat.seen new.seat.seen (number_of seats comes.before.thread)
+      (ledger_count script.steps comes.before.thread (first + 1)) q.seen grown
+      (has.awaited first at q below (was at q there) comes reads (λ e. apart (e ∙ sym thread)));
 }
   where
     was : (at : ℕ) (q : Record) → HasRecordAt script new at q → HasRecordAt script old at q
@@ -332,9 +357,9 @@ is_new script at x q old new run thread records there =
 -- after the call of the step
 pub aware_next : (script : ScriptView) (seats : List (Option View)) (at : ℕ) (s : Step)
     (old new : RecorderView) (first second first_after second_after : Option TaskView)
-    → IsNext script at s old first second → HasMet script seats at s old
+    → IsNext script at s old first second → HasMet script seats at s old → HasHeard script seats at old
     → IsCalled old s.body first second new first_after second_after → IsAware script seats (at + 1) new
-aware_next script seats at s old new first second first_after second_after next ready called = record {
+aware_next script seats at s old new first second first_after second_after next ready heard called = record {
   seat =
       subst (λ n. HasSeat seats n new)
       (ap (λ t. ledger_count script.steps t at + first_notes + second_notes + reads) (sym next.of_thread)
@@ -383,6 +408,33 @@ aware_next script seats at s old new first second first_after second_after next 
           (ledger_count script.steps t.thread (from + 1)) old.known made.1
           (ready.heard task from t (subst (IsNextUse script.steps task from) here uses) is
           (λ e. apart (e ∙ sym thread)))))
+    ];
+    awaited = λ from n q below there comes reads apart. elim (cases_lt n at) [
+      | inl earlier ↦
+          known_to_later old.seat.seen new.seat.seen (number_of seats comes.before.thread)
+          (ledger_count script.steps comes.before.thread (from + 1)) q.seen made.1
+          (ready.named.awaited from n q earlier
+          (was_there script at n x q old new next.run within thread records earlier there) comes reads
+          (λ e. apart (e ∙ sym thread)))
+      | inr late ↦
+          let here : n ≡ at = omega (arith, below, late) in
+          let own : x ≡ q =
+          is_new script at x q old new next.run thread records
+          (subst (λ k. HasRecordAt script new k q) here there) in
+          let moved : ComesAfter script.steps from at = record {
+            before = comes.before;
+            step = comes.step;
+            below = let low = comes.below in omega (arith, low, here);
+            is_before = comes.is_before;
+            is_step = ap (slice_get script.steps) (sym here) ∙ comes.is_step;
+            named = comes.named;
+          } in
+          subst (λ (y : Record). IsStepKnown script seats new.seat.seen from comes.before y.seen) own
+          (told_known old new x.seen (reads_ledger s.body) (number_of seats comes.before.thread)
+          (ledger_count script.steps comes.before.thread (from + 1))
+          (sym
+          (ap (λ (o : Option Step). option_map_or (λ (p : Step). reads_ledger p.body) o false) next.there)
+          ∙ ap (is_reader script.steps) (sym here) ∙ reads) called.seat (heard from moved))
     ];
   };
 }
@@ -457,6 +509,7 @@ aware_first script seats n r v within none is same new known = record {
   named = record {
     known = λ at q below there. absurd (never at below there.of_thread);
     passed = λ task first at t q below there uses stands apart. absurd (never at below there.of_thread);
+    awaited = λ first at q below there comes reads apart. absurd (never at below there.of_thread);
   };
 }
   where
@@ -477,6 +530,8 @@ aware_between script seats n m r low within same aware = record {
     known = λ at q below there. aware.named.known at q (earlier at below there.of_thread) there;
     passed = λ task first at t q below there.
         aware.named.passed task first at t q (earlier at below there.of_thread) there;
+    awaited = λ first at q below there.
+        aware.named.awaited first at q (earlier at below there.of_thread) there;
   };
 }
   where

@@ -34,8 +34,9 @@ use Rattle.callbacks.proofs.KnownLaw.{take_next}
 use Rattle.recorder.specs.Schedules.{with_discarded, discard_body}
 use Rattle.recorder.specs.Tasks.{TaskView, after_stop, after_start, child_of, with_child, with_region}
 use Rattle.recorder.specs.Tasks.{without_region, root_of}
+use Rattle.task_tree.specs.Subjects.{subject, object}
 use Rattle.script_runs.specs.Called.{called, recorded_calls, calls_of}
-use Rattle.script_runs.specs.Calls.{first_named, second_named, first_given, second_given, recorded_body}
+use Rattle.script_runs.specs.Calls.{first_given, second_given, recorded_body}
 use Rattle.script_runs.specs.Calls.{first_left, second_left}
 use Rattle.script_runs.specs.Parts.{id_of}
 use Rattle.script_runs.specs.Progress.{Progress, Values, value, values_after, progress, progress_to}
@@ -104,7 +105,7 @@ HaveValues steps n values =
     → Has (values task) task
 
 -- what a call leaves of the value of a task that it names first, and does not end
-first_stays : (thread : ℕ) (body : Body) (t : TaskView) (task : ℕ) → first_named body ≡ Some task
+first_stays : (thread : ℕ) (body : Body) (t : TaskView) (task : ℕ) → subject body ≡ Some task
     → made body ≢ Some task → ended body ≢ Some task → t.id ≡ task
     → Has (first_left thread body (Some t)) task
 first_stays thread (ThreadBegin kind) t task names other on id = (t, refl, id)
@@ -146,7 +147,7 @@ first_stays thread (Cancel given own claimed) t task names other on id =
     by false is = (t, refl, id)
     by true is = absurd (on (rw is names))
 
-pub first_is_named : (body : Body) (task : ℕ) → first_named body ≡ Some task → Contains (named body) task
+pub first_is_named : (body : Body) (task : ℕ) → subject body ≡ Some task → Contains (named body) task
 first_is_named (ParallelBegin requested own parallel) task is = (0, omega arith, same_Some own task is)
 first_is_named (ParallelEnd own parallel) task is = (0, omega arith, same_Some own task is)
 first_is_named (ImplicitTask endpoint actual index given parallel own) task is =
@@ -167,7 +168,7 @@ next_is_named (TaskSchedule status turns prior None claimed) task is = absurd (n
 next_is_named _ task is = absurd (none-some task is)
 
 pub given_unmade : (body : Body) (task : ℕ) → first_given body ≡ Some task
-    → ((a b : ℕ) → first_named body ≡ Some a → second_named body ≡ Some b → a ≢ b)
+    → ((a b : ℕ) → subject body ≡ Some a → object body ≡ Some b → a ≢ b)
     → made body ≢ Some task
 given_unmade (TaskCreate deps flags own child) task is apart same = apart own child refl refl
     (same_Some own task is ∙ sym (same_Some child task same))
@@ -214,7 +215,7 @@ next_has steps n s values have rules task is =
 
 -- the task that the step makes has its value
 made_has : (values : Values) (thread : ℕ) (body : Body) (task : ℕ) → made body ≡ Some task
-    → ((a b : ℕ) → first_named body ≡ Some a → second_named body ≡ Some b → a ≢ b)
+    → ((a b : ℕ) → subject body ≡ Some a → object body ≡ Some b → a ≢ b)
     → ((a : ℕ) → first_given body ≡ Some a → Has (values a) a)
     → Has (values_by values thread body task) task
 made_has values thread (ImplicitTask Begin actual index flags parallel own) task makes apart have =
@@ -242,16 +243,16 @@ made_has values thread _ task makes apart have = absurd (none-some task makes)
 kept_has : (values : Values) (thread : ℕ) (body : Body) (task : ℕ) → made body ≢ Some task
     → ended body ≢ Some task → Has (values task) task → Has (values_by values thread body task) task
 kept_has values thread body task other on (t, was, id) =
-    cond_both (is_task task (first_named body)) first rest (λ (o : Option TaskView). Has o task)
+    cond_both (is_task task (subject body)) first rest (λ (o : Option TaskView). Has o task)
     (λ here.
-    let names = the_one task (first_named body) here in
+    let names = the_one task (subject body) here in
     let given = given_or_made body task other names in
     subst (λ (o : Option TaskView). Has (first_left thread body o) task)
     (sym (ap (value values) (given ∙ names) ∙ was))
     (first_stays thread body t task names other on id))
     (λ apart.
-    cond_both (is_task task (second_named body)) second (values task) (λ (o : Option TaskView). Has o task)
-    (λ here. second_has body (the_one task (second_named body) here) other)
+    cond_both (is_task task (object body)) second (values task) (λ (o : Option TaskView). Has o task)
+    (λ here. second_has body (the_one task (object body) here) other)
     (λ gone. (t, was, id)))
   where
     first : Option TaskView
@@ -261,9 +262,9 @@ kept_has values thread body task other on (t, was, id) =
     second = second_left body (value values (first_given body)) (value values (second_given body))
 
     rest : Option TaskView
-    rest = cond (is_task task (second_named body)) second (values task)
+    rest = cond (is_task task (object body)) second (values task)
 
-    second_has : (b : Body) → second_named b ≡ Some task → made b ≢ Some task
+    second_has : (b : Body) → object b ≡ Some task → made b ≢ Some task
         → Has (second_left b (value values (first_given b)) (value values (second_given b))) task
     second_has (TaskCreate deps flags creator child) is unmade = absurd (unmade is)
     second_has (TaskSchedule s turns prior next claimed) is unmade =

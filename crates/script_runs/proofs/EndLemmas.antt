@@ -33,7 +33,7 @@ use Rattle.script_runs.proofs.CloseLemmas.{own_threads, pairs, of_kind, within_l
 use Rattle.script_runs.specs.HandOvers.{ArePassedOn}
 use Rattle.script_runs.proofs.HandOverLemmas.{handed_over, made_once}
 use Rattle.script_runs.proofs.HistoryLemmas.{history_of}
-use Rattle.script_runs.proofs.PassLemmas.{passed_on}
+use Rattle.script_runs.proofs.PassLemmas.{AreRunBy, passed_on, awaited}
 use Rattle.script_runs.proofs.TilingLemmas.{entries_apart}
 use Rattle.script_runs.proofs.RunLemmas.{run_fault, run_whole, all_accepted, all_into}
 
@@ -142,6 +142,7 @@ run_of script trace recorders closed history rules ended by is = subst (IsRunOf 
   not_ahead = none_ahead closed by.are belong.apart belong.paired;
   on_host = none_on_device closed by.are;
   passed_on = passed;
+  awaited = awaited script ended.seats recorders closed history by_recorders;
   handed_over = handed_over script (gathered closed.buffers) rules accepted records passed;
   rising =
       none_back closed by.are belong.apart
@@ -167,8 +168,8 @@ run_of script trace recorders closed history rules ended by is = subst (IsRunOf 
         made_once script (gathered closed.buffers) rules accepted records
         (threads_numbered closed by.are belong.apart)
 
-    passed : ArePassedOn script.steps (gathered closed.buffers)
-    passed = passed_on script ended.seats recorders closed history (record {
+    by_recorders : AreRunBy script ended.seats recorders closed history
+    by_recorders = record {
       accepted = accepted;
       aware = ended.aware refl;
       cared = ended.cared;
@@ -177,7 +178,10 @@ run_of script trace recorders closed history rules ended by is = subst (IsRunOf 
       apart = belong.apart;
       threads = ended.apart;
       claims = by.claims;
-    })
+    }
+
+    passed : ArePassedOn script.steps (gathered closed.buffers)
+    passed = passed_on script ended.seats recorders closed history by_recorders
 
     unseen_calls : (rs : List Record) → recorded_calls (map without_seen rs) ≡ recorded_calls rs
     unseen_calls [] = refl

@@ -34,8 +34,9 @@ use Rattle.scripts.specs.Scripts.{ScriptView, IsScript, step_count}
 use Rattle.scripts.specs.Rules.{IsMadeByStep}
 use Rattle.scripts.proofs.RuleLemmas.{step_rules}
 use Rattle.recorder.specs.Tasks.{TaskView}
+use Rattle.task_tree.specs.Subjects.{subject, object}
 use Rattle.script_runs.specs.Called.{called}
-use Rattle.script_runs.specs.Calls.{first_named, second_named, first_given, second_given, recorded_body}
+use Rattle.script_runs.specs.Calls.{first_given, second_given, recorded_body}
 use Rattle.script_runs.specs.HandOvers.{step_record, is_use, ArePassedOn}
 use Rattle.script_runs.specs.Parts.{id_of}
 use Rattle.script_runs.specs.Progress.{Progress, value, progress_to, refused_at, step_refusal, thread_records}
@@ -201,24 +202,24 @@ has_record script rs n s accepted records is =
 -- ---- uses of a task
 
 first_use : (steps : List Step) (task n : ℕ) (s : Step) → slice_get steps n ≡ Some s
-    → first_named s.body ≡ Some task → is_use steps task n ≡ true
+    → subject s.body ≡ Some task → is_use steps task n ≡ true
 first_use steps task n s is names =
     ap
     (λ (o : Option Step).
-    option_map_or (λ (q : Step). is_task task (first_named q.body) || is_task task (second_named q.body)) o
+    option_map_or (λ (q : Step). is_task task (subject q.body) || is_task task (object q.body)) o
     false) is
-    ∙ or_left (is_task task (first_named s.body)) (is_task task (second_named s.body))
-    (the_task task (first_named s.body) names)
+    ∙ or_left (is_task task (subject s.body)) (is_task task (object s.body))
+    (the_task task (subject s.body) names)
 
 second_use : (steps : List Step) (task n : ℕ) (s : Step) → slice_get steps n ≡ Some s
-    → second_named s.body ≡ Some task → is_use steps task n ≡ true
+    → object s.body ≡ Some task → is_use steps task n ≡ true
 second_use steps task n s is names =
     ap
     (λ (o : Option Step).
-    option_map_or (λ (q : Step). is_task task (first_named q.body) || is_task task (second_named q.body)) o
+    option_map_or (λ (q : Step). is_task task (subject q.body) || is_task task (object q.body)) o
     false) is
-    ∙ or_right (is_task task (first_named s.body)) (is_task task (second_named s.body))
-    (the_task task (second_named s.body) names)
+    ∙ or_right (is_task task (subject s.body)) (is_task task (object s.body))
+    (the_task task (object s.body) names)
 
 -- a use has its step
 use_step : (steps : List Step) (task n : ℕ) → is_use steps task n ≡ true
@@ -227,7 +228,7 @@ use_step steps task n is = by (slice_get steps n) refl is
   where
     by : (o : Option Step) → slice_get steps n ≡ o
         → option_map_or
-        (λ (s : Step). is_task task (first_named s.body) || is_task task (second_named s.body)) o false
+        (λ (s : Step). is_task task (subject s.body) || is_task task (object s.body)) o false
         ≡ true
         → (s : Step) × (slice_get steps n ≡ Some s)
     by None none used = absurd (false≢true used)
@@ -375,11 +376,11 @@ created_made : (body : Body) (task : ℕ) → created body ≡ Some task → mad
 created_made (TaskCreate deps given own child) task is = is
 created_made _ task is = absurd (none-some task is)
 
-created_second : (body : Body) (task : ℕ) → created body ≡ Some task → second_named body ≡ Some task
+created_second : (body : Body) (task : ℕ) → created body ≡ Some task → object body ≡ Some task
 created_second (TaskCreate deps given own child) task is = is
 created_second _ task is = absurd (none-some task is)
 
-started_second : (body : Body) (task : ℕ) → says.started body ≡ Some task → second_named body ≡ Some task
+started_second : (body : Body) (task : ℕ) → says.started body ≡ Some task → object body ≡ Some task
 started_second (TaskSchedule s turns prior next claimed) task is = is
 started_second _ task is = absurd (none-some task is)
 
@@ -387,7 +388,7 @@ started_unmade : (body : Body) (task other : ℕ) → says.started body ≡ Some
 started_unmade (TaskSchedule s turns prior next claimed) task other is makes = none-some other makes
 started_unmade _ task other is makes = none-some task is
 
-suspended_first : (body : Body) (task : ℕ) → suspended body ≡ Some task → first_named body ≡ Some task
+suspended_first : (body : Body) (task : ℕ) → suspended body ≡ Some task → subject body ≡ Some task
 suspended_first (TaskSchedule status.Yield turns prior next claimed) task is = is
 suspended_first (TaskSchedule status.Switch turns prior next claimed) task is = is
 suspended_first _ task is = absurd (none-some task is)
@@ -397,12 +398,12 @@ suspended_given (TaskSchedule status.Yield turns prior next claimed) task is = i
 suspended_given (TaskSchedule status.Switch turns prior next claimed) task is = is
 suspended_given _ task is = absurd (none-some task is)
 
-fulfilled_first : (body : Body) (task : ℕ) → fulfilled body ≡ Some task → first_named body ≡ Some task
+fulfilled_first : (body : Body) (task : ℕ) → fulfilled body ≡ Some task → subject body ≡ Some task
 fulfilled_first (TaskSchedule status.EarlyFulfill turns prior next claimed) task is = is
 fulfilled_first (TaskSchedule status.LateFulfill turns prior next claimed) task is = is
 fulfilled_first _ task is = absurd (none-some task is)
 
-discarded_first : (body : Body) (task : ℕ) → discarded body ≡ Some task → first_named body ≡ Some task
+discarded_first : (body : Body) (task : ℕ) → discarded body ≡ Some task → subject body ≡ Some task
 discarded_first (Cancel given own claimed) task is = by (has_flag given.0 flag.discarded_task) is
   where
     by : (b : Bool) → cond b (Some own) None ≡ Some task → Some own ≡ Some task
@@ -410,7 +411,7 @@ discarded_first (Cancel given own claimed) task is = by (has_flag given.0 flag.d
     by false none = absurd (none-some task none)
 discarded_first _ task is = absurd (none-some task is)
 
-pub second_is_named : (body : Body) (task : ℕ) → second_named body ≡ Some task → Contains (named body) task
+pub second_is_named : (body : Body) (task : ℕ) → object body ≡ Some task → Contains (named body) task
 second_is_named (TaskCreate deps given own child) task is = (1, omega arith, same_Some child task is)
 second_is_named (TaskSchedule s turns prior (Some next) claimed) task is =
     (1, omega arith, same_Some next task is)
@@ -495,8 +496,8 @@ ends_first script rs task turn q r is_script accepted ends begins i j = elim (ca
         → IsFromTurn (turn + 1) ((progress_to script (j.index + 1)).values task)
     begun starts next_is =
         let second = started_second j.step.body task starts in
-        let apart : is_task task (first_named j.step.body) ≡ false =
-        not_first (first_named j.step.body) task (λ a first.
+        let apart : is_task task (subject j.step.body) ≡ false =
+        not_first (subject j.step.body) task (λ a first.
         named_apart j.step.body a task (step_rules script.steps j.index j.step is_script j.stands).apart
         first second) in
         subst (λ (o : Option TaskView). IsFromTurn (turn + 1) o)

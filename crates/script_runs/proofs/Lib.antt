@@ -7,9 +7,9 @@
 -- the calls of the steps, and HandOverLemmas that tasks are handed over with the ledger's length, over
 -- TurnLemmas, on the turns of one task, where PassLemmas proves that they go with it from step to step. This
 -- stands on KnownLemmas, of what two seats know of one history, AwareLemmas, of what a recorder knows after its
--- steps, and NoteLemmas, of the notes that go with tasks. CreditLemmas proves that the credits are the
--- machine's, over HolderLemmas, on who has which credit, HeldLemmas, on what one record changes, MoveLemmas, on
--- the moves of one task, and MachineLemmas, on one call.
+-- steps, NoteLemmas, of the notes that go with tasks, and HeardLemmas, of those for steps that wait for others.
+-- CreditLemmas proves that the credits are the machine's, over HolderLemmas, on who has which credit,
+-- HeldLemmas, on what one record changes, MoveLemmas, on the moves of one task, and MachineLemmas, on one call.
 pub mod CallLemmas
 pub mod PlaceLemmas
 pub mod UseLemmas
@@ -30,6 +30,7 @@ pub mod TurnLemmas
 pub mod HandOverLemmas
 pub mod AwareLemmas
 pub mod NoteLemmas
+pub mod HeardLemmas
 pub mod PassLemmas
 pub mod HolderLemmas
 pub mod HeldLemmas

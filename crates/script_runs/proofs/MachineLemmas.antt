@@ -48,7 +48,8 @@ use Rattle.recorder.specs.Tasks.{state_moved, holder_in, with_child, child_of}
 use Rattle.recorder.specs.Tasks.{is_detached, is_running, may_create, is_deep, is_crowded, nature, in_state}
 use Rattle.recorder.specs.Tasks.{after_stop, with_region, without_region}
 use Rattle.recorder.specs.declared.fault.CallFault.TheVariants.{WrongState}
-use Rattle.script_runs.specs.Calls.{first_named, second_named, first_given, second_given, recorded_body}
+use Rattle.task_tree.specs.Subjects.{subject, object}
+use Rattle.script_runs.specs.Calls.{first_given, second_given, recorded_body}
 use Rattle.script_runs.specs.Calls.{first_left, second_left, call_refusal}
 use Rattle.script_runs.specs.Progress.{Values, value}
 use Rattle.script_runs.specs.Tiling.{Holder, of_task, of_record, held_credit, credit_events}
@@ -81,12 +82,12 @@ last_same (Some t) None l m same left = absurd (none-some (credit_of t) (sym sam
 
 -- a task that a call neither makes nor names first keeps its credit
 other_credit : (values : Values) (thread : ℕ) (body : Body) (task : ℕ) → made body ≢ Some task
-    → is_task task (first_named body) ≡ false
+    → is_task task (subject body) ≡ false
     → option_map credit_of (values task) ≡ option_map credit_of (values_by values thread body task)
 other_credit values thread body task other apart =
-    cond_both (is_task task (second_named body)) second (values task) (λ (o : Option TaskView).
+    cond_both (is_task task (object body)) second (values task) (λ (o : Option TaskView).
     option_map credit_of (values task) ≡ option_map credit_of o)
-    (λ here. second_credit body (the_one task (second_named body) here) other) (λ gone. refl)
+    (λ here. second_credit body (the_one task (object body) here) other) (λ gone. refl)
     ∙ ap (λ b. option_map credit_of (cond b first rest)) (sym apart)
   where
     first : Option TaskView
@@ -96,13 +97,13 @@ other_credit values thread body task other apart =
     second = second_left body (value values (first_given body)) (value values (second_given body))
 
     rest : Option TaskView
-    rest = cond (is_task task (second_named body)) second (values task)
+    rest = cond (is_task task (object body)) second (values task)
 
     started : (o : Option TaskView) → option_map credit_of o ≡ option_map credit_of (option_map after_start o)
     started None = refl
     started (Some t) = ap Some (sym (start_credit t))
 
-    second_credit : (b : Body) → second_named b ≡ Some task → made b ≢ Some task
+    second_credit : (b : Body) → object b ≡ Some task → made b ≢ Some task
         → option_map credit_of (values task)
         ≡ option_map credit_of
         (second_left b (value values (first_given b)) (value values (second_given b)))
@@ -112,15 +113,15 @@ other_credit values thread body task other apart =
     second_credit _ is unmade = absurd (none-some task is)
 
 -- the task that it names first
-first_value : (values : Values) (thread : ℕ) (body : Body) (task : ℕ) → first_named body ≡ Some task
+first_value : (values : Values) (thread : ℕ) (body : Body) (task : ℕ) → subject body ≡ Some task
     → values_by values thread body task ≡ first_left thread body (value values (first_given body))
 first_value values thread body task is =
     ap (λ b. cond b (first_left thread body (value values (first_given body))) rest)
-    (the_task task (first_named body) is)
+    (the_task task (subject body) is)
   where
     rest : Option TaskView
     rest =
-        cond (is_task task (second_named body))
+        cond (is_task task (object body))
         (second_left body (value values (first_given body)) (value values (second_given body)))
         (values task)
 
@@ -131,7 +132,7 @@ not_named named a task is other =
 -- a call that leaves the credit of the task that it names first
 quiet_last : (values left left_after : Values) (thread : ℕ) (body : Body)
     → ((task : ℕ) → made body ≢ Some task) → ended_root body ≡ None
-    → first_given body ≡ first_named body
+    → first_given body ≡ subject body
     → ((task : ℕ) → left_after task ≡ cond (is_task task (ended_root body)) (values task) (left task))
     → option_map credit_of (value values (first_given body))
     ≡ option_map credit_of (first_left thread body (value values (first_given body)))
@@ -142,9 +143,9 @@ quiet_last values left left_after thread body unmade unended given lefts same ta
     (sym (lefts task ∙ ap (λ o. cond (is_task task o) (values task) (left task)) unended))
   where
     credit : option_map credit_of (values task) ≡ option_map credit_of (values_by values thread body task)
-    credit = elim (cases_Bool (is_task task (first_named body))) [
+    credit = elim (cases_Bool (is_task task (subject body))) [
       | inl here ↦
-          let names = the_one task (first_named body) here in
+          let names = the_one task (subject body) here in
           ap (λ o. option_map credit_of (value values o)) (sym (given ∙ names)) ∙ same
           ∙ ap (option_map credit_of) (sym (first_value values thread body task names))
       | inr apart ↦ other_credit values thread body task (unmade task) apart
@@ -177,7 +178,7 @@ pub record IsNextCall (p : Place) (body : Body) : Type 0 where
   pub is_body : p.s.body ≡ body
   pub unclaimed : claim body ≡ None
   pub new : (task : ℕ) → made body ≡ Some task → IsMadeByStep (take p.n p.steps) task → ⊥
-  pub apart : (a b : ℕ) → first_named body ≡ Some a → second_named body ≡ Some b → a ≢ b
+  pub apart : (a b : ℕ) → subject body ≡ Some a → object body ≡ Some b → a ≢ b
   pub none : (task : ℕ) → first_given body ≡ Some task → p.left task ≡ None
   pub lefts : (task : ℕ)
       → p.left_after task ≡ cond (is_task task (ended_root body)) (p.values task) (p.left task)
@@ -198,7 +199,7 @@ IsNextTiled p body first second =
 
 quiet_next : (p : Place) (body : Body) (first second : Option TaskView) → IsNextCall p body
     → ((task : ℕ) → made body ≢ Some task) → ended_root body ≡ None
-    → first_given body ≡ first_named body → value p.values (first_given body) ≡ first
+    → first_given body ≡ subject body → value p.values (first_given body) ≡ first
     → option_map credit_of first ≡ option_map credit_of (first_left p.view.thread body first)
     → credit_events (record_at p body first second) ≡ []
     → entry_of (record_at p body first second) ≡ None → IsNextTiled p body first second
@@ -213,16 +214,16 @@ quiet_next p body first second call unmade unended given was same quiet none =
 
 -- the credits of other tasks
 others_same : (p : Place) (body : Body) (prior : ℕ) → IsNextCall p body → ((task : ℕ) → made body ≢ Some task)
-    → ended_root body ≡ None → first_named body ≡ Some prior → (task : ℕ) → task ≢ prior
+    → ended_root body ≡ None → subject body ≡ Some prior → (task : ℕ) → task ≢ prior
     → option_map credit_of (last p.values p.left task) ≡ option_map credit_of (values_next p body task)
 others_same p body prior call unmade unended named task other =
     last_same (p.values task) (values_by p.values p.view.thread body task) (p.left task) (p.left_after task)
     (other_credit p.values p.view.thread body task (unmade task)
-    (not_named (first_named body) prior task named other))
+    (not_named (subject body) prior task named other))
     (sym (call.lefts task ∙ ap (λ o. cond (is_task task o) (p.values task) (p.left task)) unended))
 
 -- the value of the task that it names first
-first_next : (p : Place) (body : Body) (prior : ℕ) (v : TaskView) → first_named body ≡ Some prior
+first_next : (p : Place) (body : Body) (prior : ℕ) (v : TaskView) → subject body ≡ Some prior
     → first_given body ≡ Some prior → p.values prior ≡ Some v
     → values_by p.values p.view.thread body prior ≡ first_left p.view.thread body (Some v)
 first_next p body prior v named given was =
@@ -232,7 +233,7 @@ first_next p body prior v named given was =
 ended_next : (p : Place) (body : Body) (prior : ℕ) (v : TaskView) (second : Option TaskView) (e : Entry)
     (passes : Credit → Bool) (others : Credit → List Credit)
     → IsNextCall p body → ((task : ℕ) → made body ≢ Some task) → ended_root body ≡ None
-    → first_named body ≡ Some prior → first_given body ≡ Some prior → p.values prior ≡ Some v
+    → subject body ≡ Some prior → first_given body ≡ Some prior → p.values prior ≡ Some v
     → fold next_credits (credits_after (events_of p.rs)) (credit_events (record_at p body (Some v) second))
     ≡ exchange passes others (credits_after (events_of p.rs))
     → entry_of (record_at p body (Some v) second) ≡ Some e → e.task ≡ v.id → passes (credit_of v) ≡ true
@@ -268,7 +269,7 @@ no_events r none = ap (λ o. option_map_or (λ (e : Entry). entry_event e.part e
 
 whole_next : (p : Place) (body : Body) (prior : ℕ) (v : TaskView) (second : Option TaskView)
     → IsNextCall p body → ((task : ℕ) → made body ≢ Some task) → ended_root body ≡ None
-    → first_named body ≡ Some prior → first_given body ≡ Some prior → p.values prior ≡ Some v
+    → subject body ≡ Some prior → first_given body ≡ Some prior → p.values prior ≡ Some v
     → credit_events (record_at p body (Some v) second) ≡ credits.Finish v.id ∷ []
     → entry_of (record_at p body (Some v) second) ≡ Some (entry_for p.view.thread v part.Whole)
     → holder_in v.state ≡ credits.Running → is_detached v.state ≡ false

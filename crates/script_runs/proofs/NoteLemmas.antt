@@ -24,7 +24,8 @@ use Rattle.scripts.specs.declared.script.Step.{Step}
 use Rattle.scripts.specs.Scripts.{ScriptView, IsScript}
 use Rattle.recorder.specs.Recorders.{RecorderView, NoteView}
 use Rattle.recorder.specs.Tasks.{TaskView}
-use Rattle.script_runs.specs.Calls.{first_named, second_named, first_given, second_given, names_it}
+use Rattle.task_tree.specs.Subjects.{subject, object}
+use Rattle.script_runs.specs.Calls.{first_given, second_given, names_it}
 use Rattle.script_runs.specs.Calls.{first_left}
 use Rattle.script_runs.specs.HandOvers.{is_use, IsNextUse}
 use Rattle.script_runs.specs.Parts.{IsKnownTo}
@@ -211,7 +212,7 @@ taken_met since_of task_of note_of script seats n at count s given named (Some u
     met_is)
 
 -- a task that a call names first is given to it, unless the call makes it
-given_or_made : (body : Body) (task : ℕ) → first_named body ≡ Some task
+given_or_made : (body : Body) (task : ℕ) → subject body ≡ Some task
     → (first_given body ≡ Some task) ⊎ (made body ≡ Some task)
 given_or_made (ThreadBegin kind) task is = inl is
 given_or_made ThreadEnd task is = inl is
@@ -227,7 +228,7 @@ given_or_made (SyncRegion kind endpoint parallel own) task is = inl is
 given_or_made (Cancel given own claimed) task is = inl is
 
 -- the same of the one that it names next
-next_or_made : (body : Body) (task : ℕ) → second_named body ≡ Some task
+next_or_made : (body : Body) (task : ℕ) → object body ≡ Some task
     → (second_given body ≡ Some task) ⊎ (made body ≡ Some task)
 next_or_made (TaskCreate deps given own child) task is = inr is
 next_or_made (TaskSchedule status turns prior next claimed) task is = inl is
@@ -237,10 +238,10 @@ next_or_made _ task is = absurd (none-some task is)
 use_named : (steps : List Step) (task n : ℕ) (s : Step) → slice_get steps n ≡ Some s
     → is_use steps task n ≡ true → Contains (named s.body) task
 use_named steps task n s is used =
-    elim (or_cases (is_task task (first_named s.body)) (is_task task (second_named s.body))
+    elim (or_cases (is_task task (subject s.body)) (is_task task (object s.body))
     (sym (ap (λ (o : Option Step). option_map_or (λ (q : Step). names_it q.body task) o false) is) ∙ used)) [
-      | inl first ↦ first_is_named s.body task (is_the_task task (first_named s.body) first)
-      | inr second ↦ second_is_named s.body task (is_the_task task (second_named s.body) second)
+      | inl first ↦ first_is_named s.body task (is_the_task task (subject s.body) first)
+      | inr second ↦ second_is_named s.body task (is_the_task task (object s.body) second)
     ]
 
 -- a task that a step names, and that an earlier one named, is given to it
@@ -248,14 +249,14 @@ pub given_again : (steps : List Step) (task first at : ℕ) (s : Step) → IsScr
     → slice_get steps at ≡ Some s → IsNextUse steps task first at
     → (first_given s.body ≡ Some task) ⊎ (second_given s.body ≡ Some task)
 given_again steps task first at s rules is uses =
-    elim (or_cases (is_task task (first_named s.body)) (is_task task (second_named s.body))
+    elim (or_cases (is_task task (subject s.body)) (is_task task (object s.body))
     (sym (ap (λ (o : Option Step). option_map_or (λ (q : Step). names_it q.body task) o false) is)
     ∙ uses.used_next)) [
-      | inl one ↦ elim (given_or_made s.body task (is_the_task task (first_named s.body) one)) [
+      | inl one ↦ elim (given_or_made s.body task (is_the_task task (subject s.body) one)) [
         | inl given ↦ inl given
         | inr makes ↦ absurd (unmade makes)
       ]
-      | inr two ↦ elim (next_or_made s.body task (is_the_task task (second_named s.body) two)) [
+      | inr two ↦ elim (next_or_made s.body task (is_the_task task (object s.body) two)) [
         | inl given ↦ inr given
         | inr makes ↦ absurd (unmade makes)
       ]
@@ -409,15 +410,15 @@ first_is_left script at s uses r called first second first_after second_after u 
     record {
       at = at;
       step = s;
-      named = first_named s.body;
+      named = subject s.body;
       since_is = refl;
       is = next.there;
       of_thread = next.of_thread ∙ sym (ap (λ (x : RecorderView). x.thread) made.recorded_is);
       names = names;
       used = named_use script.steps at s t.id next.there
-          (or_left (is_task t.id (first_named s.body)) (is_task t.id (second_named s.body))
-          (the_task t.id (first_named s.body) names));
-      use_is = subst (IsUseOf script.steps (length script.steps) at (first_named s.body)) is
+          (or_left (is_task t.id (subject s.body)) (is_task t.id (object s.body))
+          (the_task t.id (subject s.body) names));
+      use_is = subst (IsUseOf script.steps (length script.steps) at (subject s.body)) is
           (used.first s next.there);
     }
 
@@ -432,15 +433,15 @@ second_is_left script at s uses r called first second first_after second_after u
     record {
       at = at;
       step = s;
-      named = second_named s.body;
+      named = object s.body;
       since_is = refl;
       is = next.there;
       of_thread = next.of_thread ∙ sym (ap (λ (x : RecorderView). x.thread) made.recorded_is);
       names = names;
       used = named_use script.steps at s t.id next.there
-          (or_right (is_task t.id (first_named s.body)) (is_task t.id (second_named s.body))
-          (the_task t.id (second_named s.body) names));
-      use_is = subst (IsUseOf script.steps (length script.steps) at (second_named s.body)) is
+          (or_right (is_task t.id (subject s.body)) (is_task t.id (object s.body))
+          (the_task t.id (object s.body) names));
+      use_is = subst (IsUseOf script.steps (length script.steps) at (object s.body)) is
           (used.second s next.there);
     }
 
@@ -461,25 +462,25 @@ step_met since_of task_of note_of script seats at s uses one two old new rules t
     noted taken too met_are =
     let first =
     taken_met since_of task_of note_of script seats (length script.steps) at
-    (ledger_count script.steps old.thread at) s (first_given s.body) (first_named s.body) uses.first one old
+    (ledger_count script.steps old.thread at) s (first_given s.body) (subject s.body) uses.first one old
     met_are.middle aware.seat met_are.same.thread there (given_first s.body) first_used (used.first s there)
     noted taken met_are.first_is in
     both_met script seats at s old met_are.middle new rules there of_thread aware first
     (taken_met since_of task_of note_of script seats (length script.steps) at
     (ledger_count script.steps old.thread at + notes_met script.steps at s.thread (first_given s.body)) s
-    (second_given s.body) (second_named s.body) uses.second two met_are.middle new first.seat
+    (second_given s.body) (object s.body) uses.second two met_are.middle new first.seat
     (same.thread ∙ sym met_are.same.thread) there (given_second s.body) second_used (used.second s there)
     noted
     too met_are.second_is) same.thread same.records
   where
-    first_used : (task : ℕ) → first_named s.body ≡ Some task → is_use script.steps task at ≡ true
+    first_used : (task : ℕ) → subject s.body ≡ Some task → is_use script.steps task at ≡ true
     first_used task names =
         named_use script.steps at s task there
-        (or_left (is_task task (first_named s.body)) (is_task task (second_named s.body))
-        (the_task task (first_named s.body) names))
+        (or_left (is_task task (subject s.body)) (is_task task (object s.body))
+        (the_task task (subject s.body) names))
 
-    second_used : (task : ℕ) → second_named s.body ≡ Some task → is_use script.steps task at ≡ true
+    second_used : (task : ℕ) → object s.body ≡ Some task → is_use script.steps task at ≡ true
     second_used task names =
         named_use script.steps at s task there
-        (or_right (is_task task (first_named s.body)) (is_task task (second_named s.body))
-        (the_task task (second_named s.body) names))
+        (or_right (is_task task (subject s.body)) (is_task task (object s.body))
+        (the_task task (object s.body) names))

@@ -1,6 +1,7 @@
--- In the trace of a run each task is passed on with the ledger's length.
-use Rattle.std.proofs.Common.{ℕ, ◌≡◌, ◌≢◌, ◌∙◌, ◌+◌, ◌≤◌, List, Some, Option, length, map, take, refl, sym}
-use Rattle.std.proofs.Common.{ap, subst, arith, inl, inr, zero, suc, [], ◌∷◌}
+-- In the trace of a run each task is passed on with the ledger's length, and each step comes after those that
+-- it waits for.
+use Rattle.std.proofs.Common.{ℕ, ◌≡◌, ◌≢◌, ◌∙◌, ◌+◌, ◌<◌, ◌≤◌, List, Some, Option, length, map, take, refl}
+use Rattle.std.proofs.Common.{sym, ap, subst, arith, inl, inr, zero, suc, [], ◌∷◌}
 use Rattle.std.specs.Prelude.{All, slice_get, option_map, option_and_then}
 use Rattle.std.specs.List.Sorted.{IsPermutation}
 use Rattle.std.proofs.lemmas.Bool.{cases_eq}
@@ -16,9 +17,9 @@ use Rattle.recorder.specs.Recorders.{RecorderView}
 use Rattle.callbacks.specs.Closed.{ClosedView, AreClosed, thread_of, recorded_by}
 use Rattle.callbacks.specs.Gathered.{gathered, HaveOwnThreads}
 use Rattle.callbacks.proofs.KnownLaw.{known_between, seen_known}
-use Rattle.script_runs.specs.HandOvers.{step_record, ArePassedOn}
+use Rattle.script_runs.specs.HandOvers.{step_record, ArePassedOn, AreAwaited}
 use Rattle.script_runs.specs.Progress.{own_records, thread_records}
-use Rattle.script_runs.specs.Parts.{IsCared, IsAware, HasKnown, HasRecordAt}
+use Rattle.script_runs.specs.Parts.{IsCared, IsAware, HasKnown, HasNamed, HasRecordAt, IsStepKnown}
 use Rattle.script_runs.specs.Parts.{ledger_count, number_of}
 use Rattle.credit_ledger.specs.declared.view.View.{View}
 use Rattle.script_runs.proofs.NoteLemmas.{use_there}
@@ -109,27 +110,27 @@ own_of script seats recorders closed history at t q run is recorded = by (run.ca
           };
         }
 
-pub passed_on : (script : ScriptView) (seats : List (Option View)) (recorders : List RecorderView)
-    (closed : ClosedView) (history : List seat_step.Step) → AreRunBy script seats recorders closed history
-    → ArePassedOn script.steps (gathered closed.buffers)
-passed_on script seats recorders closed history run task first next q r uses recorded recorded_next =
-    let (t, is) = use_there script.steps task first uses.used in
-    let (u, also) = use_there script.steps task next uses.used_next in
-    let one = own_of script seats recorders closed history first t q run is recorded in
-    let two = own_of script seats recorders closed history next u r run also recorded_next in
+-- the record of a later step names no less than that of an earlier one of its thread, or of one of another
+-- thread that is known with its length
+not_less : (script : ScriptView) (seats : List (Option View)) (recorders : List RecorderView)
+    (closed : ClosedView) (history : List seat_step.Step) (first next : ℕ) (t u : Step) (q r : Record)
+    → AreRunBy script seats recorders closed history → slice_get script.steps first ≡ Some t → first < next
+    → (one : HasOwn script recorders first t q) → (two : HasOwn script recorders next u r)
+    → (t.thread ≢ two.recorder.thread → HasNamed script seats (length script.steps) two.recorder
+    → IsStepKnown script seats two.recorder.seat.seen first t r.seen)
+    → q.seen ≤ r.seen
+not_less script seats recorders closed history first next t u q r run is below one two known_then =
     elim (cases_eq t.thread u.thread) [
-      | inl same ↦ along t u is also one two same
-      | inr apart ↦ across t u is also one two apart
+      | inl same ↦ along same
+      | inr apart ↦ across apart
     ]
   where
-    along : (t u : Step) → slice_get script.steps first ≡ Some t → slice_get script.steps next ≡ Some u
-        → (one : HasOwn script recorders first t q) → (two : HasOwn script recorders next u r)
-        → t.thread ≡ u.thread → q.seen ≤ r.seen
-    along t u is also one two same =
+    along : t.thread ≡ u.thread → q.seen ≤ r.seen
+    along same =
         let own : one.recorder ≡ two.recorder =
         same_recorder one.index two.index one.recorder two.recorder one.among two.among
         (one.of_thread ∙ same ∙ sym two.of_thread) in
-        let past = count_past script.steps t.thread first next t is refl uses.below in
+        let past = count_past script.steps t.thread first next t is refl below in
         let number = ap (step_count (take next script.steps)) same in
         let orderly =
         recorder_orderly recorders closed two.recorder run.same run.are
@@ -150,26 +151,47 @@ passed_on script seats recorders closed history run task first next q r uses rec
           | inr other ↦ absurd (threads_differ recorders i j x y run.threads other at_x at_y threads)
         ]
 
-    across : (t u : Step) → slice_get script.steps first ≡ Some t → slice_get script.steps next ≡ Some u
-        → (one : HasOwn script recorders first t q) → (two : HasOwn script recorders next u r)
-        → t.thread ≢ u.thread → q.seen ≤ r.seen
-    across t u is also one two apart =
+    across : t.thread ≢ u.thread → q.seen ≤ r.seen
+    across apart =
         let aware = all_get (IsAware script seats (length script.steps)) recorders one.index one.recorder
         run.aware
         one.among in
         let other = all_get (IsAware script seats (length script.steps)) recorders two.index two.recorder
         run.aware
         two.among in
-        let within = slice_get_within script.steps next u also in
-        let low = uses.below in
+        let within = slice_get_within script.steps first t is in
         let known =
         subst (λ n. HasKnown one.recorder.seat.seen n (ledger_count script.steps t.thread (first + 1)) q.seen)
         (aware.seat.number ∙ ap (number_of seats) one.of_thread)
         (subst (λ n. HasKnown one.recorder.seat.seen one.recorder.seat.number
         (ledger_count script.steps n (first + 1)) q.seen) one.of_thread
-        (aware.named.known first q (omega (arith, low, within)) one.there)) in
+        (aware.named.known first q within one.there)) in
         known_below history one.recorder.seat.seen two.recorder.seat.seen (number_of seats t.thread)
         (ledger_count script.steps t.thread (first + 1)) q.seen r.seen
         (seen_in history recorders one.index one.recorder run.claims one.among)
         (seen_in history recorders two.index two.recorder run.claims two.among) known
-        (other.named.passed task first next t r within two.there uses is (λ e. apart (e ∙ two.of_thread)))
+        (known_then (λ e. apart (e ∙ two.of_thread)) other.named)
+
+pub passed_on : (script : ScriptView) (seats : List (Option View)) (recorders : List RecorderView)
+    (closed : ClosedView) (history : List seat_step.Step) → AreRunBy script seats recorders closed history
+    → ArePassedOn script.steps (gathered closed.buffers)
+passed_on script seats recorders closed history run task first next q r uses recorded recorded_next =
+    let (t, is) = use_there script.steps task first uses.used in
+    let (u, also) = use_there script.steps task next uses.used_next in
+    let one = own_of script seats recorders closed history first t q run is recorded in
+    let two = own_of script seats recorders closed history next u r run also recorded_next in
+    let within = slice_get_within script.steps next u also in
+    not_less script seats recorders closed history first next t u q r run is uses.below one two
+    (λ apart named. named.passed task first next t r within two.there uses is apart)
+
+pub awaited : (script : ScriptView) (seats : List (Option View)) (recorders : List RecorderView)
+    (closed : ClosedView) (history : List seat_step.Step) → AreRunBy script seats recorders closed history
+    → AreAwaited script.steps (gathered closed.buffers)
+awaited script seats recorders closed history run first at q r comes reads recorded recorded_next =
+    let t = comes.before in
+    let u = comes.step in
+    let one = own_of script seats recorders closed history first t q run comes.is_before recorded in
+    let two = own_of script seats recorders closed history at u r run comes.is_step recorded_next in
+    let within = slice_get_within script.steps at u comes.is_step in
+    not_less script seats recorders closed history first at t u q r run comes.is_before comes.below one two
+    (λ apart named. named.awaited first at r within two.there comes reads apart)

@@ -48,8 +48,9 @@ use Rattle.scripts.specs.declared.script.Step.{Step}
 use Rattle.scripts.specs.Scripts.{ScriptView, step_count}
 use Rattle.scripts.proofs.RuleLemmas.{step_rules}
 use Rattle.callbacks.proofs.KnownLaw.{take_next}
+use Rattle.task_tree.specs.Subjects.{subject, object}
 use Rattle.script_runs.specs.Calls.{first_given, second_given, recorded_body, refusal_by, call_refusal}
-use Rattle.script_runs.specs.Calls.{first_named, second_named, first_left, second_left, names_it}
+use Rattle.script_runs.specs.Calls.{first_left, second_left, names_it}
 use Rattle.script_runs.specs.Progress.{Progress, Values, value, values_after, progress_after, no_progress}
 use Rattle.script_runs.specs.Progress.{progress_with}
 use Rattle.script_runs.specs.Progress.{progress, progress_to, recorder_with, step_refusal, refused_at}
@@ -307,35 +308,35 @@ neither true b x y z is = absurd (false≢true (sym is))
 value_other : (values : Values) (s : Step) (task : ℕ) → names_it s.body task ≡ false
     → values_after values s task ≡ values task
 value_other values s task is =
-    neither (is_task task (first_named s.body)) (is_task task (second_named s.body)) _ _ _ is
+    neither (is_task task (subject s.body)) (is_task task (object s.body)) _ _ _ is
 
 -- the value of the task that it names first
-value_first : (values : Values) (s : Step) (task : ℕ) → first_named s.body ≡ Some task
+pub value_first : (values : Values) (s : Step) (task : ℕ) → subject s.body ≡ Some task
     → values_after values s task ≡ first_left s.thread s.body (value values (first_given s.body))
 value_first values s task is =
     ap (λ b. cond b (first_left s.thread s.body (value values (first_given s.body))) other)
-    (the_task task (first_named s.body) is)
+    (the_task task (subject s.body) is)
   where
     other : Option TaskView
     other =
-        cond (is_task task (second_named s.body))
+        cond (is_task task (object s.body))
         (second_left s.body (value values (first_given s.body)) (value values (second_given s.body)))
         (values task)
 
 -- and of the one that it names next
-pub value_second : (values : Values) (s : Step) (task : ℕ) → is_task task (first_named s.body) ≡ false
-    → second_named s.body ≡ Some task
+pub value_second : (values : Values) (s : Step) (task : ℕ) → is_task task (subject s.body) ≡ false
+    → object s.body ≡ Some task
     → values_after values s task
     ≡ second_left s.body (value values (first_given s.body)) (value values (second_given s.body))
 value_second values s task other is =
     ap (λ b. cond b (first_left s.thread s.body (value values (first_given s.body))) second) other
-    ∙ ap (λ b. cond b left (values task)) (the_task task (second_named s.body) is)
+    ∙ ap (λ b. cond b left (values task)) (the_task task (object s.body) is)
   where
     left : Option TaskView
     left = second_left s.body (value values (first_given s.body)) (value values (second_given s.body))
 
     second : Option TaskView
-    second = cond (is_task task (second_named s.body)) left (values task)
+    second = cond (is_task task (object s.body)) left (values task)
 
 -- the value of a task stays the same while no step names it
 pub unused_value : (script : ScriptView) (task since at : ℕ) → at ≤ length script.steps
@@ -392,7 +393,7 @@ taken_id since_of task_of given since None taken = sym taken
 taken_id since_of task_of given since (Some h) (is, noted) = sym is
 
 -- a task that a call is given is one that it names
-pub given_first : (body : Body) (task : ℕ) → first_given body ≡ Some task → first_named body ≡ Some task
+pub given_first : (body : Body) (task : ℕ) → first_given body ≡ Some task → subject body ≡ Some task
 given_first (ThreadBegin kind) task is = is
 given_first ThreadEnd task is = is
 given_first (ParallelBegin requested own parallel) task is = is
@@ -407,7 +408,7 @@ given_first (SyncRegion kind endpoint parallel own) task is = is
 given_first (Cancel given own claimed) task is = is
 
 -- the same of the second one
-pub given_second : (body : Body) (task : ℕ) → second_given body ≡ Some task → second_named body ≡ Some task
+pub given_second : (body : Body) (task : ℕ) → second_given body ≡ Some task → object body ≡ Some task
 given_second (TaskSchedule status turns prior next claimed) task is = is
 given_second _ task is = absurd (none-some task is)
 
@@ -454,7 +455,7 @@ none_undiscarded t false P is = none_left t P is
 
 -- what is left of the first value is the value of the task that the call names first
 pub first_id : (thread : ℕ) (body : Body) (first : Option TaskView) (t : TaskView)
-    → id_of first ≡ first_given body → first_left thread body first ≡ Some t → first_named body ≡ Some t.id
+    → id_of first ≡ first_given body → first_left thread body first ≡ Some t → subject body ≡ Some t.id
 first_id thread (ImplicitTask Begin actual index flags parallel task) first t given is =
     ap (λ (o : Option TaskView). id_of o) is
 first_id thread (ImplicitTask End actual index flags parallel task) first t given is = none_left t _ is
@@ -495,7 +496,7 @@ first_id thread (Cancel flags task claimed) (Some u) t given is =
 -- and what is left of the second one that of the task that it names next
 pub second_id : (body : Body) (first second : Option TaskView) (t : TaskView)
     → id_of second ≡ second_given body
-    → second_left body first second ≡ Some t → second_named body ≡ Some t.id
+    → second_left body first second ≡ Some t → object body ≡ Some t.id
 second_id (TaskCreate deps flags task child) None second t given is = none_left t _ is
 second_id (TaskCreate deps flags task child) (Some u) second t given is =
     ap (λ (o : Option TaskView). id_of o) is
@@ -555,7 +556,7 @@ left_first script at s r called first second first_after second_after next made 
 
 -- a call names two tasks that are apart
 pub named_apart : (body : Body) (a b : ℕ) → AllPairs (λ x y. x ≢ y) (named body)
-    → first_named body ≡ Some a → second_named body ≡ Some b → a ≢ b
+    → subject body ≡ Some a → object body ≡ Some b → a ≢ b
 named_apart (TaskCreate deps flags task child) a b apart first second same =
     apart 0 1 0 (omega arith) (omega arith) (same_Some task a first ∙ same ∙ sym (same_Some child b second))
 named_apart (TaskSchedule status turns prior None claimed) a b apart first second same =
@@ -580,7 +581,7 @@ left_second script at s r called first second first_after second_after next made
     accepted : refused_at script at ≡ None
     accepted = step_accepted script at s r called first second first_after second_after next made
 
-    apart : (task a : ℕ) → second_named s.body ≡ Some task → first_named s.body ≡ Some a → a ≢ task
+    apart : (task a : ℕ) → object s.body ≡ Some task → subject s.body ≡ Some a → a ≢ task
     apart task a named first =
         named_apart s.body a task (step_rules script.steps at s next.rules next.there).apart first named
 
@@ -590,7 +591,7 @@ left_second script at s r called first second first_after second_after next made
         let named = second_id s.body first second t next.given.second_is left in
         ap (λ (p : Progress). p.values t.id) (accepted_next script at s next.there accepted)
         ∙ value_second (progress_to script at).values s t.id
-        (not_first (first_named s.body) t.id (λ a first. apart t.id a named first)) named
+        (not_first (subject s.body) t.id (λ a first. apart t.id a named first)) named
         ∙ ap (λ o. second_left s.body o (value (progress_to script at).values (second_given s.body)))
         (sym next.first_is)
         ∙ ap (second_left s.body first) (sym next.second_is) ∙ left

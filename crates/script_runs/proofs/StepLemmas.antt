@@ -15,8 +15,8 @@ use Rattle.recorder.specs.Tasks.{TaskView}
 use Rattle.recorder.specs.declared.fault.CallFault.TheVariants as call
 use Rattle.scripts.specs.declared.script.Step.{Step}
 use Rattle.scripts.specs.Scripts.{ScriptView, IsScript}
+use Rattle.task_tree.specs.Subjects.{subject, object}
 use Rattle.script_runs.specs.Calls.{first_given, second_given, recorded_body, call_refusal}
-use Rattle.script_runs.specs.Calls.{first_named, second_named}
 use Rattle.script_runs.specs.Progress.{Progress, value}
 use Rattle.script_runs.specs.Progress.{progress_to, refused_at}
 use Rattle.script_runs.specs.Progress.{without_seen, own_records}
@@ -90,12 +90,12 @@ next_step since_of task_of script n at s old r uses one two first second rules t
       first_is =
           first_is
           ∙ sym
-          (value_taken since_of task_of script n at (first_given s.body) (first_named s.body) _ one within are
+          (value_taken since_of task_of script n at (first_given s.body) (subject s.body) _ one within are
           (given_first s.body) (used.first s there) taken);
       second_is =
           second_is
           ∙ sym
-          (value_taken since_of task_of script n at (second_given s.body) (second_named s.body) _ two within
+          (value_taken since_of task_of script n at (second_given s.body) (object s.body) _ two within
           are
           (given_second s.body) (used.second s there) too);
     }

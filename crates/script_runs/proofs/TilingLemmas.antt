@@ -30,7 +30,8 @@ use Rattle.recorder.specs.declared.fault.CallFault.{CallFault}
 use Rattle.recorder.specs.Recorders.{RecorderView, entry_by}
 use Rattle.recorder.specs.Tasks.{TaskView, may_create, is_deep, is_crowded, is_detached, child_of, with_child}
 use Rattle.recorder.specs.Tasks.{root_of}
-use Rattle.script_runs.specs.Calls.{first_named, second_named, first_given, second_given, recorded_body}
+use Rattle.task_tree.specs.Subjects.{subject, object}
+use Rattle.script_runs.specs.Calls.{first_given, second_given, recorded_body}
 use Rattle.script_runs.specs.Calls.{first_left, second_left, call_refusal}
 use Rattle.script_runs.specs.Progress.{Progress, Values, value, progress, progress_to}
 use Rattle.script_runs.specs.Progress.{progress_with, step_refusal}
@@ -124,8 +125,8 @@ split_apart steps n old new fresh source e from are was kept parts halves h f ot
 
 abbrev pub values_by : Values → ℕ → Body → Values
 values_by values thread body task =
-    if is_task task (first_named body) then first_left thread body (value values (first_given body))
-    else if is_task task (second_named body) then
+    if is_task task (subject body) then first_left thread body (value values (first_given body))
+    else if is_task task (object body) then
     second_left body (value values (first_given body)) (value values (second_given body))
     else values task
 
@@ -153,7 +154,7 @@ task_held (Some t) e has = (t, refl, same_Some (pending t) e has)
 
 -- the value of a task that the call does not make
 second_comes : (body : Body) (values : Values) (task : ℕ) (u : TaskView) → made body ≢ Some task
-    → second_named body ≡ Some task
+    → object body ≡ Some task
     → second_left body (value values (first_given body)) (value values (second_given body)) ≡ Some u
     → ComesFrom (values task) u
 second_comes (TaskCreate deps flags creator child) values task u other is left = absurd (other is)
@@ -161,8 +162,8 @@ second_comes (TaskSchedule s turns prior next claimed) values task u other is le
     subst (λ (o : Option ℕ). ComesFrom (value values o) u) is (next_comes (value values next) u left)
 second_comes _ values task u other is left = absurd (none-some task is)
 
-pub given_or_made : (body : Body) (task : ℕ) → made body ≢ Some task → first_named body ≡ Some task
-    → first_given body ≡ first_named body
+pub given_or_made : (body : Body) (task : ℕ) → made body ≢ Some task → subject body ≡ Some task
+    → first_given body ≡ subject body
 given_or_made (ImplicitTask Begin actual index flags parallel own) task other is = absurd (other is)
 given_or_made (ImplicitTask End actual index flags parallel own) task other is = refl
 given_or_made (ImplicitTask BeginEnd actual index flags parallel own) task other is = refl
@@ -181,18 +182,18 @@ value_comes : (view : RecorderView) (values : Values) (thread : ℕ) (body : Bod
     → call_refusal view body (value values (first_given body)) (value values (second_given body)) ≡ None
     → values_by values thread body task ≡ Some u → ComesFrom (values task) u
 value_comes view values thread body task u other accepted left =
-    cond_both (is_task task (first_named body)) first rest (λ (o : Option TaskView).
+    cond_both (is_task task (subject body)) first rest (λ (o : Option TaskView).
     o ≡ Some u → ComesFrom (values task) u)
     (λ here is.
-    let names = the_one task (first_named body) here in
+    let names = the_one task (subject body) here in
     let given = given_or_made body task other names in
     subst (λ (o : Option ℕ). ComesFrom (value values o) u) (given ∙ names)
     (first_comes view thread body (value values (first_given body)) (value values (second_given body)) u
     given accepted is))
     (λ apart is.
-    cond_both (is_task task (second_named body)) second (values task) (λ (o : Option TaskView).
+    cond_both (is_task task (object body)) second (values task) (λ (o : Option TaskView).
     o ≡ Some u → ComesFrom (values task) u)
-    (λ here left. second_comes body values task u other (the_one task (second_named body) here) left)
+    (λ here left. second_comes body values task u other (the_one task (object body) here) left)
     (λ gone same. record { from = u; was = same; within = within_itself (pending u) })
     is)
     left
@@ -204,7 +205,7 @@ value_comes view values thread body task u other accepted left =
     second = second_left body (value values (first_given body)) (value values (second_given body))
 
     rest : Option TaskView
-    rest = cond (is_task task (second_named body)) second (values task)
+    rest = cond (is_task task (object body)) second (values task)
 
 -- each task that it does not make, and each earlier record, has no more than it had
 task_kept : (view : RecorderView) (values : Values) (rs : List Record) (r : Record) (thread : ℕ) (body : Body)
@@ -292,9 +293,9 @@ entered_next steps n s view values rs r thread body is are other unclaimed accep
         → first_given body ≡ Some task → new (of_task task) ≡ Some f → AreDisjoint e f
     remains task e f made is left =
         let found = task_held (values_by values thread body task) f left in
-        let first = the_task task (first_named body) (given_first body task is) in
+        let first = the_task task (subject body) (given_first body task is) in
         let rest : Option TaskView =
-        cond (is_task task (second_named body))
+        cond (is_task task (object body))
         (second_left body (value values (first_given body)) (value values (second_given body)))
         (values task) in
         subst (AreDisjoint e) found.2

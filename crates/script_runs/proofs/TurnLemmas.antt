@@ -31,7 +31,8 @@ use Rattle.recorder.specs.Schedules.{schedule_of, schedule_body, schedule_refusa
 use Rattle.recorder.specs.Schedules.{left_of, comes_back, has_its_next, is_by_parent, may_start, is_last_turn}
 use Rattle.recorder.specs.Tasks.{TaskView, current_turn, turn_begun_next, after_stop, after_start, started_in}
 use Rattle.recorder.specs.Tasks.{in_state, state_moved, with_child, with_region, without_region}
-use Rattle.script_runs.specs.Calls.{first_named, second_named, first_given, second_given, recorded_body}
+use Rattle.task_tree.specs.Subjects.{subject, object}
+use Rattle.script_runs.specs.Calls.{first_given, second_given, recorded_body}
 use Rattle.script_runs.specs.Calls.{first_left, second_left, call_refusal}
 use Rattle.script_runs.specs.Parts.{id_of}
 use Rattle.script_runs.specs.Progress.{Progress, Values, value, values_after, progress_to, refused_at}
@@ -104,7 +105,7 @@ from_cancel turn true first from t is = absurd (none-some t is)
 from_cancel turn false first from t is = from t is
 
 -- of the task that it names first, and does not make
-first_turn : (thread turn : ℕ) (body : Body) (first : Option TaskView) → first_given body ≡ first_named body
+first_turn : (thread turn : ℕ) (body : Body) (first : Option TaskView) → first_given body ≡ subject body
     → IsFromTurn turn first → IsFromTurn turn (first_left thread body first)
 first_turn thread turn (ImplicitTask Begin actual index flags parallel task) first given from =
     absurd (none-some task given)
@@ -130,15 +131,15 @@ first_turn thread turn (Dependences task list) first given from = from
 
 -- of the one that it names next
 second_turn : (turn : ℕ) (body : Body) (first second : Option TaskView)
-    → second_given body ≡ second_named body → IsFromTurn turn second
+    → second_given body ≡ object body → IsFromTurn turn second
     → IsFromTurn turn (second_left body first second)
 second_turn turn (TaskCreate deps flags task child) first second given from = absurd (none-some child given)
 second_turn turn (TaskSchedule s turns prior next claimed) first second given from =
     from_map turn after_start second start_turn from
 second_turn turn _ first second given from = from
 
-next_or_made : (body : Body) (task : ℕ) → made body ≢ Some task → second_named body ≡ Some task
-    → second_given body ≡ second_named body
+next_or_made : (body : Body) (task : ℕ) → made body ≢ Some task → object body ≡ Some task
+    → second_given body ≡ object body
 next_or_made (TaskCreate deps flags creator child) task other is = absurd (other is)
 next_or_made (TaskSchedule s turns prior next claimed) task other is = refl
 next_or_made _ task other is = absurd (none-some task is)
@@ -147,17 +148,17 @@ next_or_made _ task other is = absurd (none-some task is)
 values_turn : (values : Values) (s : Step) (task turn : ℕ) → made s.body ≢ Some task
     → IsFromTurn turn (values task) → IsFromTurn turn (values_after values s task)
 values_turn values s task turn other from =
-    cond_both (is_task task (first_named s.body)) first rest (λ (o : Option TaskView). IsFromTurn turn o)
+    cond_both (is_task task (subject s.body)) first rest (λ (o : Option TaskView). IsFromTurn turn o)
     (λ here.
-    let names = the_one task (first_named s.body) here in
+    let names = the_one task (subject s.body) here in
     let given = given_or_made s.body task other names in
     first_turn s.thread turn s.body (value values (first_given s.body)) given
     (subst (λ (o : Option ℕ). IsFromTurn turn (value values o)) (sym (given ∙ names)) from))
     (λ apart.
-    cond_both (is_task task (second_named s.body)) second (values task)
+    cond_both (is_task task (object s.body)) second (values task)
     (λ (o : Option TaskView). IsFromTurn turn o)
     (λ here.
-    let names = the_one task (second_named s.body) here in
+    let names = the_one task (object s.body) here in
     let given = next_or_made s.body task other names in
     second_turn turn s.body (value values (first_given s.body)) (value values (second_given s.body)) given
     (subst (λ (o : Option ℕ). IsFromTurn turn (value values o)) (sym (given ∙ names)) from))
@@ -170,7 +171,7 @@ values_turn values s task turn other from =
     second = second_left s.body (value values (first_given s.body)) (value values (second_given s.body))
 
     rest : Option TaskView
-    rest = cond (is_task task (second_named s.body)) second (values task)
+    rest = cond (is_task task (object s.body)) second (values task)
 
 -- ---- more steps
 

@@ -23,7 +23,7 @@ use Rattle.scripts.specs.Scripts.{IsScript}
 use Rattle.scripts.specs.Rules.{IsMadeByStep}
 use Rattle.scripts.proofs.RuleLemmas.{step_rules}
 use Rattle.callbacks.proofs.KnownLaw.{take_next}
-use Rattle.script_runs.specs.Calls.{first_named, second_named}
+use Rattle.task_tree.specs.Subjects.{subject, object}
 use Rattle.script_runs.specs.Calls.{names_it}
 use Rattle.script_runs.specs.HandOvers.{is_use, IsNextUse}
 use Rattle.script_runs.specs.Parts.{IsUnusedSince, IsUseOf, IsUsed, AreUses, AreLastUses, IsNumberOf, IsTold}
@@ -219,8 +219,8 @@ use_here steps at s task named is names =
 -- with one step more, which names these two and no others
 pub last_next : (steps : List Step) (at : ℕ) (s : Step) (ids since : List ℕ) (first second : Option Use)
     → slice_get steps at ≡ Some s → AreLastUses steps at ids since
-    → IsFound ids since (first_named s.body) (option_map (λ (u : Use). (u.task, u.since)) first)
-    → IsFound ids since (second_named s.body) (option_map (λ (u : Use). (u.task, u.since)) second)
+    → IsFound ids since (subject s.body) (option_map (λ (u : Use). (u.task, u.since)) first)
+    → IsFound ids since (object s.body) (option_map (λ (u : Use). (u.task, u.since)) second)
     → AreLastUses steps (at + 1) ids
     (noted (noted since (option_map (λ (u : Use). u.task) first) (at + 1))
     (option_map (λ (u : Use). u.task) second) (at + 1))
@@ -228,13 +228,13 @@ last_next steps at s ids since first second there last is is_too number id here 
     elim (noted_cases once also (at + 1) number inside) [
       | inl (own, new) ↦
           used_now _ new
-          (or_right (is_task id (first_named s.body)) (is_task id (second_named s.body))
-          (own_named ids since (second_named s.body) second number id is_too here own))
+          (or_right (is_task id (subject s.body)) (is_task id (object s.body))
+          (own_named ids since (object s.body) second number id is_too here own))
       | inr (apart, same) ↦ elim (noted_cases since named (at + 1) number low) [
         | inl (own, new) ↦
             used_now _ (same ∙ new)
-            (or_left (is_task id (first_named s.body)) (is_task id (second_named s.body))
-            (own_named ids since (first_named s.body) first number id is here own))
+            (or_left (is_task id (subject s.body)) (is_task id (object s.body))
+            (own_named ids since (subject s.body) first number id is here own))
         | inr (other, old) ↦
             let before : IsUnusedSince steps id (get_or since number 0) at = last number id here low in
             subst (λ (n : ℕ). IsUnusedSince steps id n (at + 1)) (sym (same ∙ old)) record {
@@ -245,9 +245,9 @@ last_next steps at s ids since first second there last is is_too number id here 
                     let now : i ≡ at = omega arith in
                     ap (is_use steps id) now
                     ∙ use_here steps at s id false there
-                    (or_from (is_task id (first_named s.body)) (is_task id (second_named s.body))
-                    (other_named ids since (first_named s.body) first number id is here low other)
-                    (other_named ids since (second_named s.body) second number id is_too here low apart))
+                    (or_from (is_task id (subject s.body)) (is_task id (object s.body))
+                    (other_named ids since (subject s.body) first number id is here low other)
+                    (other_named ids since (object s.body) second number id is_too here low apart))
               ];
               last = before.last;
             }
@@ -383,8 +383,8 @@ next_told steps ids at named found thread i task u told number names uses =
 -- what is told of one use of a task by both uses of the next step
 told_both : (steps : List Step) (ids : List ℕ) (at : ℕ) (s : Step) (used : Uses) (i : ℕ)
     (named : Option ℕ) (o : Option Use) → slice_get steps at ≡ Some s
-    → IsTold steps ids at (first_named s.body) used.first
-    → IsTold steps ids at (second_named s.body) used.second → i < at → IsNumberOf ids named o
+    → IsTold steps ids at (subject s.body) used.first
+    → IsTold steps ids at (object s.body) used.second → i < at → IsNumberOf ids named o
     → IsUseOf steps at i named o
     → IsUseOf steps (at + 1) i named
     (option_map (told_use used.second s.thread i) (option_map (told_use used.first s.thread i) o))
@@ -418,9 +418,9 @@ told_both steps ids at s used i named (Some v) is told also below number used_so
         → slice_get steps k ≡ Some t → twice.next ≡ Some t.thread
     earlier_next task k t names uses earlier stands =
         let own = number task v names refl in
-        next_kept steps ids at (second_named s.body) used.second s.thread i task k once (Some t.thread) also
+        next_kept steps ids at (object s.body) used.second s.thread i task k once (Some t.thread) also
         (of_once task own) uses earlier
-        (next_kept steps ids at (first_named s.body) used.first s.thread i task k v (Some t.thread) told own
+        (next_kept steps ids at (subject s.body) used.first s.thread i task k v (Some t.thread) told own
         uses earlier (used_so.next task k t v names refl uses earlier stands))
 
     now_next : (task k : ℕ) (t : Step) → named ≡ Some task → IsNextUse steps task i k → k ≡ at
@@ -431,15 +431,15 @@ told_both steps ids at s used i named (Some v) is told also below number used_so
         let same : s ≡ t = same_Some s t (sym is ∙ ap (slice_get steps) (sym now) ∙ stands) in
         let is_named : names_it s.body task ≡ true = sym (use_here steps at s task _ is refl)
         ∙ here.used_next in
-        elim (or_cases (is_task task (first_named s.body)) (is_task task (second_named s.body)) is_named) [
+        elim (or_cases (is_task task (subject s.body)) (is_task task (object s.body)) is_named) [
           | inl first ↦
               told_stays used.second s.thread i once
-              (next_told steps ids at (first_named s.body) used.first s.thread i task v told own
-              (is_the_task task (first_named s.body) first) here)
+              (next_told steps ids at (subject s.body) used.first s.thread i task v told own
+              (is_the_task task (subject s.body) first) here)
               ∙ ap (λ (x : Step). Some x.thread) same
           | inr second ↦
-              next_told steps ids at (second_named s.body) used.second s.thread i task once also
-              (of_once task own) (is_the_task task (second_named s.body) second) here
+              next_told steps ids at (object s.body) used.second s.thread i task once also
+              (of_once task own) (is_the_task task (object s.body) second) here
               ∙ ap (λ (x : Step). Some x.thread) same
         ]
 
@@ -476,8 +476,8 @@ told_from used thread i u before after told stands = by (slice_get before i) ref
 
 pub uses_told : (steps : List Step) (ids : List ℕ) (at : ℕ) (s : Step) (used : Uses)
     (before after : List Uses) → slice_get steps at ≡ Some s
-    → IsTold steps ids at (first_named s.body) used.first
-    → IsTold steps ids at (second_named s.body) used.second → length before ≡ at
+    → IsTold steps ids at (subject s.body) used.first
+    → IsTold steps ids at (object s.body) used.second → length before ≡ at
     → AreNumbered steps ids before → AreUses steps at before → AreTold used s.thread before after
     → AreUses steps (at + 1) after
 uses_told steps ids at s used before after is told also long numbered are all i u stands =
@@ -486,10 +486,10 @@ uses_told steps ids at s used before after is told also long numbered are all i 
     let below : i < at = omega (arith, within, long) in
     subst (IsUsed steps (at + 1) i) same (record {
       first = λ q there.
-          told_both steps ids at s used i (first_named q.body) v.first is told also below
+          told_both steps ids at s used i (subject q.body) v.first is told also below
           (numbered i v q was there).0 ((are i v was).first q there);
       second = λ q there.
-          told_both steps ids at s used i (second_named q.body) v.second is told also below
+          told_both steps ids at s used i (object q.body) v.second is told also below
           (numbered i v q was there).1 ((are i v was).second q there);
     })
 
@@ -511,17 +511,17 @@ pub numbers_told : (steps : List Step) (ids : List ℕ) (used : Uses) (thread : 
 numbers_told steps ids used thread before after numbered all i u s stands is =
     let (v, was, same) = told_from used thread i u before after all stands in
     let (first, second) = numbered i v s was is in
-    subst (λ (x : Uses). IsNumberOf ids (first_named s.body) x.first
-    × IsNumberOf ids (second_named s.body) x.second)
+    subst (λ (x : Uses). IsNumberOf ids (subject s.body) x.first
+    × IsNumberOf ids (object s.body) x.second)
     same (
-      number_told ids (first_named s.body) used thread i v.first first,
-      number_told ids (second_named s.body) used thread i v.second second,
+      number_told ids (subject s.body) used thread i v.first first,
+      number_told ids (object s.body) used thread i v.second second,
     )
 
 -- with those by one step more
 pub numbers_next : (steps : List Step) (ids : List ℕ) (at : ℕ) (s : Step) (uses : List Uses) (used : Uses)
     → slice_get steps at ≡ Some s → length uses ≡ at
-    → IsNumberOf ids (first_named s.body) used.first → IsNumberOf ids (second_named s.body) used.second
+    → IsNumberOf ids (subject s.body) used.first → IsNumberOf ids (object s.body) used.second
     → AreNumbered steps ids uses → AreNumbered steps ids (uses ++ used ∷ [])
 numbers_next steps ids at s uses used is long first second numbered i u q stands there =
     elim (pushed_cases uses used u i stands) [
@@ -529,24 +529,24 @@ numbers_next steps ids at s uses used is long first second numbered i u q stands
       | inr (last, same) ↦
           let own : s ≡ q =
           same_Some s q (sym is ∙ ap (slice_get steps) (sym (last ∙ long)) ∙ there) in
-          subst (λ (x : Uses). IsNumberOf ids (first_named q.body) x.first
-          × IsNumberOf ids (second_named q.body) x.second)
+          subst (λ (x : Uses). IsNumberOf ids (subject q.body) x.first
+          × IsNumberOf ids (object q.body) x.second)
           same
-          (subst (λ (x : Step). IsNumberOf ids (first_named x.body) used.first
-          × IsNumberOf ids (second_named x.body) used.second) own (first, second))
+          (subst (λ (x : Step). IsNumberOf ids (subject x.body) used.first
+          × IsNumberOf ids (object x.body) used.second) own (first, second))
     ]
 
 -- no later step is among the first ones
 pub used_last : (steps : List Step) (ids : List ℕ) (at : ℕ) (s : Step) (used : Uses)
-    → slice_get steps at ≡ Some s → IsTold steps ids at (first_named s.body) used.first
-    → IsTold steps ids at (second_named s.body) used.second → IsUsed steps (at + 1) at used
+    → slice_get steps at ≡ Some s → IsTold steps ids at (subject s.body) used.first
+    → IsTold steps ids at (object s.body) used.second → IsUsed steps (at + 1) at used
 used_last steps ids at s used is told also = record {
   first = λ q there.
-      subst (λ (x : Step). IsUseOf steps (at + 1) at (first_named x.body) used.first)
-      (same_Some s q (sym is ∙ there)) (of_told (first_named s.body) used.first told);
+      subst (λ (x : Step). IsUseOf steps (at + 1) at (subject x.body) used.first)
+      (same_Some s q (sym is ∙ there)) (of_told (subject s.body) used.first told);
   second = λ q there.
-      subst (λ (x : Step). IsUseOf steps (at + 1) at (second_named x.body) used.second)
-      (same_Some s q (sym is ∙ there)) (of_told (second_named s.body) used.second also);
+      subst (λ (x : Step). IsUseOf steps (at + 1) at (object x.body) used.second)
+      (same_Some s q (sym is ∙ there)) (of_told (object s.body) used.second also);
 }
   where
     of_told : (named : Option ℕ) (found : Option Use) → IsTold steps ids at named found

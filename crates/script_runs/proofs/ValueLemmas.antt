@@ -37,7 +37,8 @@ use Rattle.recorder.specs.Schedules.{with_discarded, has_its_next, may_start, is
 use Rattle.recorder.specs.Tasks.{TaskView, nature, state_moved, after_stop, after_start, started_in, in_state}
 use Rattle.recorder.specs.Tasks.{running_in, is_detached, is_running, may_create, with_child, is_deep}
 use Rattle.recorder.specs.Tasks.{is_crowded, turn_begun_next, with_region, without_region}
-use Rattle.script_runs.specs.Calls.{first_named, first_given, recorded_body}
+use Rattle.task_tree.specs.Subjects.{subject}
+use Rattle.script_runs.specs.Calls.{first_given, recorded_body}
 use Rattle.script_runs.specs.Calls.{first_left, call_refusal}
 use Rattle.script_runs.proofs.ShareLemmas.{AreDisjoint, IsWithin, within_itself, within_whole, within_same}
 use Rattle.script_runs.proofs.ShareLemmas.{part_left, pending, creator_within, halves_disjoint}
@@ -168,7 +169,7 @@ left_after f (Some t) u each is = record {
 -- the value of the task that an accepted call names first, and does not make
 pub first_comes : (r : RecorderView) (thread : ℕ) (body : Body) (first second : Option TaskView)
     (u : TaskView)
-    → first_given body ≡ first_named body → call_refusal r body first second ≡ None
+    → first_given body ≡ subject body → call_refusal r body first second ≡ None
     → first_left thread body first ≡ Some u → ComesFrom first u
 first_comes r thread (ThreadBegin kind) first second u given accepted is = same_value first u is
 first_comes r thread ThreadEnd first second u given accepted is = same_value first u is

@@ -11,6 +11,7 @@ use Rattle.ompt_events.specs.Flags as flag
 use Rattle.ompt_events.specs.Flags.{task_flags, are_named, has_flag}
 use Rattle.ompt_events.specs.Names.{status_part}
 use Rattle.ompt_events.specs.States.{is_task}
+use Rattle.task_tree.specs.Subjects.{subject, object}
 use Rattle.recorder.specs.declared.fault.CallFault.{CallFault}
 use Rattle.recorder.specs.declared.fault.CallFault.TheVariants.{WrongState}
 use Rattle.recorder.specs.Tasks.{TaskView, root_of, child_of, with_child, after_start, with_region}
@@ -21,33 +22,16 @@ use Rattle.recorder.specs.Recorders.{RecorderView, refusal_at, may_fork, uses_le
 use Rattle.recorder.specs.Schedules.{schedule_of, schedule_body, schedule_refusal, left_of, discard_body}
 use Rattle.recorder.specs.Schedules.{discard_refusal}
 
--- ---- which tasks a call names
-
--- the task that a call names first, and the one that it names next; a call of a script names no others
-abbrev pub first_named : Body → Option ℕ
-first_named (ParallelBegin requested task parallel) = Some task
-first_named (ParallelEnd task parallel) = Some task
-first_named (ImplicitTask endpoint actual index given parallel task) = Some task
-first_named (TaskCreate deps given task child) = Some task
-first_named (Dependences task list) = Some task
-first_named (TaskSchedule status turns prior next claimed) = Some prior
-first_named (SyncRegion kind endpoint parallel task) = Some task
-first_named (Cancel given task claimed) = Some task
-first_named _ = None
-
-abbrev pub second_named : Body → Option ℕ
-second_named (TaskCreate deps given task child) = Some child
-second_named (TaskSchedule status turns prior next claimed) = next
-second_named _ = None
+-- ---- which tasks a call names: its subject and its object, no others
 
 -- the call names the task
 abbrev pub names_it : Body → ℕ → Bool
-names_it body task = is_task task (first_named body) || is_task task (second_named body)
+names_it body task = is_task task (subject body) || is_task task (object body)
 
 -- the tasks that a call names, without one that it makes: the call is given the values of these
 abbrev pub first_given : Body → Option ℕ
 first_given (ImplicitTask Begin actual index given parallel task) = None
-first_given body = first_named body
+first_given body = subject body
 
 abbrev pub second_given : Body → Option ℕ
 second_given (TaskSchedule status turns prior next claimed) = next

@@ -35,13 +35,15 @@ use Rattle.credit_ledger.specs.Seats.{AreAll, Extends, StartsWith, seat_calls, t
 use Rattle.callbacks.specs.Closed.{HasUnusedSeat}
 use Rattle.recorder.specs.Recorders.{RecorderView, NoteView, IsRefusedByLedger, recorded, entry_by}
 use Rattle.recorder.specs.Recorders.{entries_of}
-use Rattle.script_runs.specs.Calls.{first_named, second_named, first_given, second_given, recorded_body}
+use Rattle.task_tree.specs.Subjects.{subject, object}
+use Rattle.script_runs.specs.Calls.{first_given, second_given, recorded_body}
 use Rattle.script_runs.specs.Calls.{first_left, second_left, call_refusal, reads_ledger}
-use Rattle.script_runs.specs.HandOvers.{is_use, IsNextUse}
+use Rattle.script_runs.specs.HandOvers.{is_use, is_reader, IsNextUse, ComesAfter}
 use Rattle.script_runs.specs.Progress.{progress_to, refused_at, value, without_seen, own_records}
 use Rattle.script_runs.specs.Runs.{line_of_fault}
 use Rattle.script_runs.specs.declared.fault.Stop.{Stop}
 use Rattle.script_runs.specs.declared.fault.Stop.TheVariants.{Refused, Ended}
+use Rattle.script_runs.specs.declared.board.Awaited.{Awaited}
 use Rattle.script_runs.specs.declared.uses.Use.{Use}
 use Rattle.script_runs.specs.declared.uses.Uses.{Uses}
 use Rattle.script_runs.specs.declared.fault.RunFault.{RunFault}
@@ -192,9 +194,9 @@ pub record IsUseOf (steps : List Step) (n at : ℕ) (named : Option ℕ) (used :
 
 -- the same of both tasks that the step names
 pub record IsUsed (steps : List Step) (n at : ℕ) (uses : Uses) : Type 0 where
-  pub first : (s : Step) → slice_get steps at ≡ Some s → IsUseOf steps n at (first_named s.body) uses.first
+  pub first : (s : Step) → slice_get steps at ≡ Some s → IsUseOf steps n at (subject s.body) uses.first
   pub second : (s : Step) → slice_get steps at ≡ Some s
-      → IsUseOf steps n at (second_named s.body) uses.second
+      → IsUseOf steps n at (object s.body) uses.second
 
 -- the uses by all steps
 abbrev pub AreUses : List Step → ℕ → List Uses → Type 0
@@ -209,7 +211,7 @@ IsNumberOf ids named used =
 abbrev pub AreNumbered : List Step → List ℕ → List Uses → Type 0
 AreNumbered steps ids uses =
     (at : ℕ) (u : Uses) (s : Step) → slice_get uses at ≡ Some u → slice_get steps at ≡ Some s
-    → IsNumberOf ids (first_named s.body) u.first × IsNumberOf ids (second_named s.body) u.second
+    → IsNumberOf ids (subject s.body) u.first × IsNumberOf ids (object s.body) u.second
 
 -- the last uses of the tasks with these ids, before the place
 abbrev pub AreLastUses : List Step → ℕ → List ℕ → List ℕ → Type 0
@@ -379,7 +381,8 @@ IsStepKnown script seats seen at t known =
     IsKnownTo seen (number_of seats t.thread) (ledger_count script.steps t.thread (at + 1)) known
 
 -- what the records of the first n steps name: no more than was known after the step; and, where the last step
--- that named a task of the step is of another thread, at least what was known after that
+-- that named a task of the step is of another thread, at least what was known after that. The same where the
+-- step comes after one of another thread, and uses the ledger
 pub record HasNamed (script : ScriptView) (seats : List (Option View)) (n : ℕ) (r : RecorderView)
     : Type 0 where
   pub known : (at : ℕ) (q : Record) → at < n → HasRecordAt script r at q
@@ -387,6 +390,9 @@ pub record HasNamed (script : ScriptView) (seats : List (Option View)) (n : ℕ)
   pub passed : (task first at : ℕ) (t : Step) (q : Record) → at < n → HasRecordAt script r at q
       → IsNextUse script.steps task first at → slice_get script.steps first ≡ Some t → t.thread ≢ r.thread
       → IsStepKnown script seats r.seat.seen first t q.seen
+  pub awaited : (first at : ℕ) (q : Record) → at < n → HasRecordAt script r at q
+      → (c : ComesAfter script.steps first at) → is_reader script.steps at ≡ true
+      → c.before.thread ≢ r.thread → IsStepKnown script seats r.seat.seen first c.before q.seen
 
 -- the same of a recorder and its seat after the first n steps
 pub record IsAware (script : ScriptView) (seats : List (Option View)) (n : ℕ) (r : RecorderView)
@@ -404,6 +410,32 @@ pub record HasMet (script : ScriptView) (seats : List (Option View)) (at : ℕ) 
   pub heard : (task first : ℕ) (t : Step) → IsNextUse script.steps task first at
       → slice_get script.steps first ≡ Some t → t.thread ≢ r.thread
       → IsStepKnown script seats r.seat.seen first t r.known
+
+abbrev pub awaited_at : ℕ → ℕ → Awaited
+awaited_at thread at = record { thread = thread; at = at }
+
+-- what was seen has all calls that the thread's seat makes in the first n steps
+abbrev pub TellsOf : ScriptView → List (Option View) → ℕ → ℕ → List seat_step.Step → Type 0
+TellsOf script seats thread n seen =
+    ledger_count script.steps thread n ≤ length (seat_calls (number_of seats thread) seen)
+
+-- a note tells of the step that is awaited, if one is
+abbrev pub IsDone : ScriptView → List (Option View) → Option Awaited → Option NoteView → Type 0
+IsDone script seats None told = ⊤
+IsDone script seats (Some awaited) None = ⊥
+IsDone script seats (Some awaited) (Some told) =
+    TellsOf script seats awaited.thread (awaited.at + 1) told.seat.seen
+
+-- what the recorder was told last, which its next call on the ledger learns, tells of the step that the one
+-- at this place comes after
+abbrev pub HasHeard : ScriptView → List (Option View) → ℕ → RecorderView → Type 0
+HasHeard script seats at r = (first : ℕ) → (c : ComesAfter script.steps first at)
+    → TellsOf script seats c.before.thread (first + 1) r.seat.told
+
+-- a note is heard, if there is one
+abbrev pub IsHeard : RecorderView → Option NoteView → RecorderView → Type 0
+IsHeard old None new = new ≡ old
+IsHeard old (Some note) new = new ≡ record old { seat = told_of old.seat note.seat }
 
 -- a note is met, if there is one
 abbrev pub IsMet : RecorderView → Option NoteView → RecorderView → Type 0

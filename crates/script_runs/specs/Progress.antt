@@ -10,7 +10,8 @@ use Rattle.scripts.specs.Scripts.{ScriptView}
 use Rattle.recorder.specs.declared.fault.CallFault.{CallFault}
 use Rattle.recorder.specs.Tasks.{TaskView}
 use Rattle.recorder.specs.Recorders.{RecorderView}
-use Rattle.script_runs.specs.Calls.{first_named, second_named, first_given, second_given, recorded_body}
+use Rattle.task_tree.specs.Subjects.{subject, object}
+use Rattle.script_runs.specs.Calls.{first_given, second_given, recorded_body}
 use Rattle.script_runs.specs.Calls.{first_left, second_left, call_refusal}
 
 -- the records of one thread
@@ -27,9 +28,9 @@ value values named = option_and_then values named
 -- the values after a step
 abbrev pub values_after : Values → Step → Values
 values_after values s task =
-    if is_task task (first_named s.body) then
+    if is_task task (subject s.body) then
     first_left s.thread s.body (value values (first_given s.body))
-    else if is_task task (second_named s.body) then
+    else if is_task task (object s.body) then
     second_left s.body (value values (first_given s.body)) (value values (second_given s.body))
     else values task
 

@@ -15,7 +15,7 @@ use Rattle.recorder.specs.declared.fault.CallFault.{CallFault}
 use Rattle.callbacks.specs.Closed.{ClosedView, AreClosed}
 use Rattle.callbacks.specs.Gathered.{gathered, HaveOwnThreads, ArePaired, AreHandedOver, version_of}
 use Rattle.script_runs.specs.Called.{recorded_calls, calls_of}
-use Rattle.script_runs.specs.HandOvers.{ArePassedOn}
+use Rattle.script_runs.specs.HandOvers.{ArePassedOn, AreAwaited}
 use Rattle.script_runs.specs.Progress.{thread_records, own_records, without_seen, refused_at}
 use Rattle.script_runs.specs.declared.fault.RunFault.{RunFault}
 use Rattle.script_runs.specs.declared.fault.RunFault.TheVariants.{Memory, Thread, Call}
@@ -42,7 +42,8 @@ pub record IsHistoryOf (records : List Record) (history : List Step) : Type 0 wh
 -- thread are those that the script determines, but for the ledger lengths that they name, and so have the
 -- calls of its steps. The lengths and the entries are those of one history of the one ledger, and the
 -- finishing records pair off with the entries. The lengths do not fall from a step that names a task to the
--- next one that does. It is of version 3 where regions may lie inside others, else of version 2
+-- next one that does, nor from a step to one that comes after it and uses the ledger. It is of version 3
+-- where regions may lie inside others, else of version 2
 pub record IsRunOf (script : ScriptView) (trace : TraceView) : Type 0 where
   pub version : trace.version ≡ version_of script.nests
   pub accepted : (at : ℕ) → refused_at script at ≡ None
@@ -67,6 +68,7 @@ pub record IsRunOf (script : ScriptView) (trace : TraceView) : Type 0 where
   pub not_ahead : IsFreeOf trace.records LengthAhead
   pub on_host : IsFreeOf trace.records TargetTask
   pub passed_on : ArePassedOn script.steps trace.records
+  pub awaited : AreAwaited script.steps trace.records
   pub handed_over : AreHandedOver trace.records
   pub rising : IsFreeOf trace.records LengthBack
 

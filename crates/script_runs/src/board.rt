@@ -2,13 +2,15 @@
 ghost use Rattle.std.specs.Prelude.{◌≡◌, List, [], Option, IfSome, option_map};
 ghost use Rattle.atomic_table.specs.Seated.{TableId};
 ghost use Rattle.credit_ledger.specs.declared.view.View.{View};
+ghost use Rattle.credit_ledger.specs.Places.{ledger_id};
 ghost use Rattle.scripts.specs.Scripts.{ScriptView, empty_script};
 ghost use Rattle.script_runs.specs.Calls.{first_given, second_given};
-ghost use Rattle.script_runs.specs.Parts.{IsValueAfter, IsNoted, IsTaken};
+ghost use Rattle.script_runs.specs.Parts.{IsValueAfter, IsNoted, IsTaken, IsDone, TellsOf};
 
 use crate::calling::{first_given, second_given};
 use crate::uses::{Use, Uses};
 use callbacks::{Note, TaskData};
+use credit_ledger::SharedLedger;
 use scripts::Step;
 use std::alloc::{AllocError, Global};
 use std::marker::{Brand, PhantomData};
@@ -47,6 +49,20 @@ pub(crate) struct RunNote<C: Context> {
     pub ghost of_the_run: { note.ledger ≡ C.ledger },
 }
 
+impl<C: Context> RunNote<C> {
+    /// Returns the same note again.
+    fn again(&mut self, ledger: &SharedLedger) -> RunNote<C>
+        requires { ledger_id ledger.now ≡ C.ledger }
+        ensures kept { self.new.note.seat.seen ≡ self.old.note.seat.seen }
+        ensures same { result.note.seat.seen ≡ self.old.note.seat.seen }
+    {
+        RunNote {
+            note: self.note.again(ledger),
+            of: PhantomData,
+        }
+    }
+}
+
 /// A task that no thread has, with a note if the next step that names it belongs to another thread.
 #[derive(Drop)]
 pub(crate) struct Held<C: Context> {
@@ -65,13 +81,45 @@ pub(crate) struct Pair<C: Context> {
     pub second: Option<Held<C>>,
 }
 
-/// How far a thread is.
+/// The tasks of a step that is taken, and a note of the thread whose step it comes after, if it comes after one.
+#[derive(Drop)]
+pub(crate) struct Taken<C: Context> {
+    pub pair: Pair<C>,
+    pub note: Option<RunNote<C>>,
+}
+
+/// The tasks that a step leaves, and what its thread tells, if a later step comes after it.
+#[derive(Drop)]
+pub(crate) struct Left<C: Context> {
+    pub pair: Pair<C>,
+    pub told: Option<Told<C>>,
+}
+
+/// A step that another one comes after.
 #[derive(Clone, Copy)]
-struct Progress {
-    /// How many of its steps are done.
-    done: u32,
-    /// The step after which its next step comes, if one is named.
-    after: Option<(u8, u32)>,
+pub(crate) struct Awaited {
+    pub thread: u8,
+    /// The place of the step in the script.
+    pub at: u32,
+}
+
+/// What a thread tells of its steps to those that come after one of them.
+#[derive(Drop)]
+pub(crate) struct Told<C: Context> {
+    pub thread: u8,
+    /// How many steps the script has up to the last one of the thread that is told of, with that one.
+    pub since: u32,
+    pub note: RunNote<C>,
+    pub ghost tells: { TellsOf C.script C.seats thread since note.note.seat.seen },
+}
+
+/// How far a thread is.
+#[derive(Drop)]
+struct Progress<C: Context> {
+    /// What it told at its last step that a later one comes after, if it has done one.
+    told: Option<Told<C>>,
+    /// The step that its next step comes after, if it comes after one.
+    after: Option<Awaited>,
 }
 
 /// What the threads of a run share.
@@ -80,7 +128,7 @@ pub(crate) struct Board<C: Context> {
     /// By number of the task, where it waits for the next step that names it.
     slots: Vec<Option<Held<C>>>,
     /// By number of the thread.
-    threads: Vec<Progress>,
+    threads: Vec<Progress<C>>,
     /// The first line on which no step is taken any more, if the run ends without a trace.
     end: Option<u32>,
 }
@@ -92,13 +140,16 @@ impl<C: Context> Board<C> {
         for _ in 0..tasks {
             slots.push(None)?;
         }
-        let start = Progress {
-            done: 0,
-            after: None,
-        };
+        let mut all = Vec::with_capacity(alloc, threads)?;
+        for _ in 0..threads {
+            all.push(Progress {
+                told: None,
+                after: None,
+            })?;
+        }
         Ok(Board {
             slots,
-            threads: vec![in alloc; start; threads]?,
+            threads: all,
             end: None,
         })
     }
@@ -118,31 +169,66 @@ impl<C: Context> Board<C> {
         }
     }
 
-    /// Notes that the thread is about to take this step.
-    pub(crate) fn expect(&mut self, step: &Step) {
-        if let Some(progress) = self.threads.get_mut(usize::from(step.thread)) {
-            progress.after = step.after;
+    /// Notes that the thread's next step comes after this one, if it comes after one.
+    pub(crate) fn expect(&mut self, thread: u8, after: Option<Awaited>) {
+        if let Some(progress) = self.threads.get_mut(usize::from(thread)) {
+            progress.after = after;
         }
     }
 
-    /// Takes the tasks that the step is given, and returns them. Returns none, and takes none, unless all that
-    /// the step waits for is done.
-    pub(crate) fn take(&mut self, step: &Step, uses: Uses) -> Option<Pair<C>>
-        ensures first { IfSome result (λ pair. IsTaken (first_given step.now.body)
-            (option_map (λ u. u.since) uses.first) (option_map (λ h. (h.since, h.task)) pair.first)) }
-        ensures second { IfSome result (λ pair. IsTaken (second_given step.now.body)
-            (option_map (λ u. u.since) uses.second) (option_map (λ h. (h.since, h.task)) pair.second)) }
+    /// Takes the tasks that the step is given, and returns them with a note that tells of the step that it comes
+    /// after. Returns none, and takes none, unless all that the step waits for is done.
+    pub(crate) fn take(
+        &mut self,
+        ledger: &SharedLedger,
+        step: &Step,
+        uses: Uses,
+        after: Option<Awaited>,
+    ) -> Option<Taken<C>>
+        requires { ledger_id ledger.now ≡ C.ledger }
+        ensures first { IfSome result (λ taken. IsTaken (first_given step.now.body)
+            (option_map (λ u. u.since) uses.first) (option_map (λ h. (h.since, h.task)) taken.pair.first)) }
+        ensures second { IfSome result (λ taken. IsTaken (second_given step.now.body)
+            (option_map (λ u. u.since) uses.second) (option_map (λ h. (h.since, h.task)) taken.pair.second)) }
+        ensures after { IfSome result (λ taken.
+            IsDone C.script C.seats after (option_map (λ n. n.note) taken.note)) }
     {
-        if !self.is_done(step.after) {
-            return None;
-        }
         let first = self.take_one(first_given(&step.body), uses.first)?;
-        match self.take_one(second_given(&step.body), uses.second) {
-            Some(second) => Some(Pair { first, second }),
+        let Some(second) = self.take_one(second_given(&step.body), uses.second) else {
+            self.put(uses.first, first);
+            return None;
+        };
+        match self.note_of(ledger, after) {
+            Some(note) => Some(Taken {
+                pair: Pair { first, second },
+                note,
+            }),
             None => {
                 self.put(uses.first, first);
+                self.put(uses.second, second);
                 None
             }
+        }
+    }
+
+    /// Returns a note that tells of the step, if there is one. Returns none if the step is not done.
+    fn note_of(
+        &mut self,
+        ledger: &SharedLedger,
+        after: Option<Awaited>,
+    ) -> Option<Option<RunNote<C>>>
+        requires { ledger_id ledger.now ≡ C.ledger }
+        ensures { IfSome result (λ note. IsDone C.script C.seats after (option_map (λ n. n.note) note)) }
+    {
+        let Some(after) = after else {
+            return Some(None);
+        };
+        let progress = self.threads.get_mut(usize::from(after.thread))?;
+        match &mut progress.told {
+            Some(told) if told.thread == after.thread && after.at < told.since => {
+                Some(Some(told.note.again(ledger)))
+            }
+            _ => None,
         }
     }
 
@@ -166,23 +252,16 @@ impl<C: Context> Board<C> {
         }
     }
 
-    /// Returns whether the step, given by its thread and its number there, is done.
-    fn is_done(&self, after: Option<(u8, u32)>) -> bool {
-        let Some((thread, number)) = after else {
-            return true;
-        };
-        match self.threads.get(usize::from(thread)) {
-            Some(progress) => number < progress.done,
-            None => false,
-        }
-    }
-
-    /// Notes that the step of the thread is done, and puts back these of its tasks.
-    pub(crate) fn finish(&mut self, thread: u8, uses: Uses, left: Pair<C>) {
-        self.put(uses.first, left.first);
-        self.put(uses.second, left.second);
-        if let Some(progress) = self.threads.get_mut(usize::from(thread)) {
-            progress.done = progress.done.saturating_add(1);
+    /// Notes what a step leaves: puts back its tasks, and keeps what its thread tells.
+    pub(crate) fn finish(&mut self, uses: Uses, left: Left<C>) {
+        let Left { pair, told } = left;
+        let Pair { first, second } = pair;
+        self.put(uses.first, first);
+        self.put(uses.second, second);
+        if let Some(told) = told
+            && let Some(progress) = self.threads.get_mut(usize::from(told.thread))
+        {
+            progress.told = Some(told);
         }
     }
 
@@ -195,7 +274,7 @@ impl<C: Context> Board<C> {
         }
     }
 
-    /// Returns whether the next step of a thread comes after the last step that this other one has done.
+    /// Returns whether the next step of a thread comes after the last step that this other one told of.
     pub(crate) fn awaits(&self, thread: usize, other: u8) -> bool {
         let (Some(waiting), Some(done)) = (
             self.threads.get(thread),
@@ -203,9 +282,11 @@ impl<C: Context> Board<C> {
         ) else {
             return false;
         };
-        match waiting.after {
-            Some((named, number)) => named == other && done.done.checked_sub(1) == Some(number),
-            None => false,
+        match (waiting.after, &done.told) {
+            (Some(after), Some(told)) => {
+                after.thread == other && told.since.checked_sub(1) == Some(after.at)
+            }
+            _ => false,
         }
     }
 }

@@ -1,16 +1,17 @@
 //! How a thread of a run takes a step.
-ghost use Rattle.std.specs.Prelude.{◌≡◌, ◌<◌, ◌≤◌, ◌+◌, ◌↔◌, IsTrue, None, is_some, length, option_map, option_and_then, IfOk, IfErr, IfSome, OnOk, OnErr};
+ghost use Rattle.std.specs.Prelude.{◌≡◌, ◌<◌, ◌≤◌, ◌+◌, ◌↔◌, ℕ, IsTrue, None, Some, is_some, length, option_map, option_and_then, IfOk, IfErr, IfSome, OnOk, OnErr};
 ghost use Rattle.credit_ledger.specs.Places.{ledger_id};
 ghost use Rattle.scripts.specs.Scripts.{IsScript};
 ghost use Rattle.script_runs.specs.declared.fault.RunFault.TheVariants.{Memory};
 ghost use Rattle.script_runs.specs.Calls.{first_given, second_given};
+ghost use Rattle.script_runs.specs.HandOvers.{ComesAfter};
 ghost use Rattle.script_runs.specs.Progress.{refused_at};
 ghost use Rattle.script_runs.specs.declared.fault.Stop.TheVariants.{Refused};
 ghost use Rattle.script_runs.specs.Parts.{ArePlaces, AreUses, AreValuesAfter, HasRun, IsNext, IsStopAt};
-ghost use Rattle.script_runs.specs.Parts.{AreSeats, IsSameThread, AreLeft, AreMet, HasMet, HasSeenSame, IsAware, IsMet, IsUsed, is_other};
+ghost use Rattle.script_runs.specs.Parts.{AreSeats, IsSameThread, AreLeft, AreMet, HasMet, HasHeard, HasSeenSame, IsAware, IsDone, IsHeard, IsMet, IsUsed, awaited_at, is_other};
 ghost use Rattle.script_runs.specs.Parts.{IsSameRun, IsStepOf, IsTaken, fault_of_call};
 
-use crate::board::{Board, Context, Held, Pair, RunNote};
+use crate::board::{Awaited, Board, Context, Held, Left, Pair, RunNote, Taken, Told};
 use crate::calling::{Values, call};
 use crate::fault::{RunFault, Stop};
 use crate::uses::{Use, UseTable, Uses};
@@ -20,6 +21,7 @@ use scripts::{Script, Step};
 use std::alloc::{AllocError, Global};
 use std::marker::PhantomData;
 use std::sync::{Condvar, Mutex, Wait};
+use task_states::row;
 
 /// A step that is taken next, with the values of the tasks that it is given.
 #[derive(Drop)]
@@ -108,10 +110,13 @@ impl<C: Context> Shared<C> {
     {
         let step = &self.script.steps()[at];
         let uses = self.uses.at(at);
-        let Some(pair) = self.await_tasks(rt, step, uses) else {
+        let after = self.awaited(step);
+        let Some(taken) = self.await_tasks(rt, step, uses, after) else {
             return Err(Stop::Ended { line: step.line });
         };
+        let Taken { pair, note } = taken;
         let values = self.met(rt, recorder, pair);
+        self.hear(recorder, note);
         self.take_ready(
             rt,
             recorder,
@@ -132,6 +137,7 @@ impl<C: Context> Shared<C> {
             ready.values.second }
         requires uses { IsUsed C.script.steps (length C.script.steps) ready.at ready.uses }
         requires met { HasMet C.script C.seats ready.at ready.step.now recorder.old }
+        requires heard { HasHeard C.script C.seats ready.at recorder.old }
         ensures same { IsSameThread recorder.old recorder.new }
         ensures accepted { OnOk result (refused_at C.script ready.entry.at ≡ None) }
         ensures taken { OnOk result (HasRun C.script (ready.entry.at + 1) recorder.new) }
@@ -172,24 +178,42 @@ impl<C: Context> Shared<C> {
         }
     }
 
-    /// Waits until all that the step waits for is done, takes its tasks, and returns them. Returns none if the
-    /// run ends before the step.
-    fn await_tasks<R: Wait>(&self, rt: &R, step: &Step, uses: Uses) -> Option<Pair<C>>
+    /// Returns the step that this one comes after, if it names one.
+    fn awaited(&self, step: &Step) -> Option<Awaited>
+        ensures { (first at : ℕ) → (c : ComesAfter C.script.steps first at) → c.step ≡ step.now
+            → result ≡ Some (awaited_at c.before.thread first) }
+    {
+        let (thread, number) = step.after?;
+        let at = row(self.threads.as_slice(), usize::from(thread)).get(number as usize)?;
+        Some(Awaited { thread, at: *at })
+    }
+
+    /// Waits until all that the step waits for is done, takes its tasks, and returns them with a note that tells of
+    /// the step that it comes after. Returns none if the run ends before the step.
+    fn await_tasks<R: Wait>(
+        &self,
+        rt: &R,
+        step: &Step,
+        uses: Uses,
+        after: Option<Awaited>,
+    ) -> Option<Taken<C>>
         requires { step.now.thread < length self.now.changes.items }
-        ensures first { IfSome result (λ pair. IsTaken (first_given step.now.body)
-            (option_map (λ u. u.since) uses.first) (option_map (λ h. (h.since, h.task)) pair.first)) }
-        ensures second { IfSome result (λ pair. IsTaken (second_given step.now.body)
-            (option_map (λ u. u.since) uses.second) (option_map (λ h. (h.since, h.task)) pair.second)) }
+        ensures first { IfSome result (λ taken. IsTaken (first_given step.now.body)
+            (option_map (λ u. u.since) uses.first) (option_map (λ h. (h.since, h.task)) taken.pair.first)) }
+        ensures second { IfSome result (λ taken. IsTaken (second_given step.now.body)
+            (option_map (λ u. u.since) uses.second) (option_map (λ h. (h.since, h.task)) taken.pair.second)) }
+        ensures after { IfSome result (λ taken.
+            IsDone C.script C.seats after (option_map (λ n. n.note) taken.note)) }
     {
         let change = &self.changes[usize::from(step.thread)];
         let mut board = self.board.lock(rt);
-        board.expect(step);
+        board.expect(step.thread, after);
         for _ in rt.forever() {
             if board.ends_before(step.line) {
                 return None;
             }
-            if let Some(pair) = board.take(step, uses) {
-                return Some(pair);
+            if let Some(taken) = board.take(&self.ledger, step, uses, after) {
+                return Some(taken);
             }
             board = change.wait(rt, board);
         }
@@ -232,9 +256,20 @@ impl<C: Context> Shared<C> {
         Some(task)
     }
 
+    /// Learns what the note tells, if there is one. It counts from the next call on the ledger on.
+    fn hear(&self, recorder: &mut Recorder, note: Option<RunNote<C>>)
+        requires { recorder.old.ledger ≡ C.ledger }
+        ensures { IsHeard recorder.old (option_map (λ n. n.note) note) recorder.new }
+    {
+        if let Some(RunNote { note, .. }) = note {
+            recorder.hear(&self.ledger, note);
+        }
+    }
+
     /// Returns the tasks that a step leaves, each with a note if the next step that names it belongs to
-    /// another thread. The first `since` steps of the script are those up to this one.
-    fn left(&self, recorder: &mut Recorder, uses: Uses, values: Values, since: u32) -> Pair<C>
+    /// another thread, and what the thread tells if a later step comes after this one. The first `since` steps of
+    /// the script are those up to this one.
+    fn left(&self, recorder: &mut Recorder, uses: Uses, values: Values, since: u32) -> Left<C>
         requires ledger { recorder.old.ledger ≡ C.ledger }
         requires aware { IsAware C.script C.seats since recorder.old }
         requires first { AreValuesAfter C.script since values.first }
@@ -245,10 +280,32 @@ impl<C: Context> Shared<C> {
         ensures aware { IsAware C.script C.seats since recorder.new }
     {
         let Values { first, second, .. } = values;
-        Pair {
+        let pair = Pair {
             first: self.hold(recorder, uses.first, first, since),
             second: self.hold(recorder, uses.second, second, since),
+        };
+        let told = self.told(recorder, uses.is_awaited, since);
+        Left { pair, told }
+    }
+
+    /// Returns what the thread tells of its steps, of which the last is that up to which the script has `since`
+    /// steps, if a later step comes after that one.
+    fn told(&self, recorder: &mut Recorder, is_awaited: bool, since: u32) -> Option<Told<C>>
+        requires ledger { recorder.old.ledger ≡ C.ledger }
+        requires aware { IsAware C.script C.seats since recorder.old }
+        ensures recorder { IsSameRun recorder.old recorder.new }
+        ensures aware { IsAware C.script C.seats since recorder.new }
+    {
+        if !is_awaited {
+            return None;
         }
+        let thread = recorder.thread();
+        let note = self.note(recorder);
+        Some(Told {
+            thread,
+            since,
+            note,
+        })
     }
 
     /// Returns the task, with a note if the next step that names it belongs to another thread. Returns none
@@ -285,15 +342,25 @@ impl<C: Context> Shared<C> {
         if !is_other(next, recorder.thread()) {
             return None;
         }
-        Some(RunNote {
-            note: recorder.note(&self.ledger),
-            of: PhantomData,
-        })
+        Some(self.note(recorder))
     }
 
-    /// Notes that the step is done, puts back these of its tasks, and wakes the threads that wait for it.
-    fn finish<R: Wait>(&self, rt: &R, step: &Step, uses: Uses, left: Pair<C>) {
-        self.board.lock(rt).finish(step.thread, uses, left);
+    /// Returns a note of what the recorder has seen.
+    fn note(&self, recorder: &mut Recorder) -> RunNote<C>
+        requires ledger { recorder.old.ledger ≡ C.ledger }
+        ensures recorder { IsSameRun recorder.old recorder.new }
+        ensures seat { HasSeenSame recorder.old recorder.new }
+        ensures told { result.note.seat.seen ≡ recorder.old.seat.seen }
+    {
+        RunNote {
+            note: recorder.note(&self.ledger),
+            of: PhantomData,
+        }
+    }
+
+    /// Notes what the step leaves, and wakes the threads that wait for it.
+    fn finish<R: Wait>(&self, rt: &R, step: &Step, uses: Uses, left: Left<C>) {
+        self.board.lock(rt).finish(uses, left);
         self.tell_next(uses.first);
         self.tell_next(uses.second);
         if uses.is_awaited {

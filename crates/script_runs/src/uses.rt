@@ -3,7 +3,7 @@ ghost use Rattle.std.specs.Prelude.{◌≡◌, ◌≤◌, ◌<◌, ◌+◌, ℕ,
 ghost use Rattle.ompt_events.specs.Limits.{max_records};
 ghost use Rattle.scripts.specs.declared.script.Step.{Step};
 ghost use Rattle.scripts.specs.Scripts.{IsScript};
-ghost use Rattle.script_runs.specs.Calls.{first_named, second_named};
+ghost use Rattle.task_tree.specs.Subjects.{subject, object};
 ghost use Rattle.script_runs.specs.Parts.{IsUsed, AreUses, AreLastUses, IsTold, IsFound, noted, next_of, with_next, told_next};
 
 use index_tables::Numbering;
@@ -122,8 +122,8 @@ impl UseTable {
 }
 
 /// Returns the task that a call names first.
-fn first_named(body: &Body) -> Option<u64>
-    ensures { result ≡ first_named body.now }
+fn subject(body: &Body) -> Option<u64>
+    ensures { result ≡ subject body.now }
 {
     match body {
         Body::ThreadBegin { .. } | Body::ThreadEnd => None,
@@ -139,8 +139,8 @@ fn first_named(body: &Body) -> Option<u64>
 }
 
 /// Returns the task that a call of a script names next.
-fn second_named(body: &Body) -> Option<u64>
-    ensures { result ≡ second_named body.now }
+fn object(body: &Body) -> Option<u64>
+    ensures { result ≡ object body.now }
 {
     match body {
         Body::TaskCreate { child, .. } => Some(*child),
@@ -191,15 +191,15 @@ fn use_one(since: &mut Vec<u32>, tasks: &Numbering, body: &Body, at: u32) -> Use
     requires as_many { length since.old.items ≡ length tasks.now }
     ensures same { length since.new.items ≡ length since.old.items }
     ensures first { (steps : List Step) → AreLastUses steps at tasks.now since.old.items
-        → IsTold steps tasks.now at (first_named body.now) result.first }
+        → IsTold steps tasks.now at (subject body.now) result.first }
     ensures second { (steps : List Step) → AreLastUses steps at tasks.now since.old.items
-        → IsTold steps tasks.now at (second_named body.now) result.second }
+        → IsTold steps tasks.now at (object body.now) result.second }
     ensures last { (steps : List Step) (s : Step) → slice_get steps at ≡ Some s → s.body ≡ body.now
         → AreLastUses steps at tasks.now since.old.items
         → AreLastUses steps (at + 1) tasks.now since.new.items }
 {
-    let first = find(since.as_slice(), tasks, first_named(body));
-    let second = find(since.as_slice(), tasks, second_named(body));
+    let first = find(since.as_slice(), tasks, subject(body));
+    let second = find(since.as_slice(), tasks, object(body));
     note(since, first, at + 1);
     note(since, second, at + 1);
     Uses {

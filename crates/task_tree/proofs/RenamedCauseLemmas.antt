@@ -13,7 +13,8 @@ use Rattle.ompt_events.specs.Causes.{HasCause, IsShort, outside, same_index, oth
 use Rattle.ompt_events.specs.Causes.{IsRightClaim, region_order, barrier_order, team_short, share_wrong}
 use Rattle.ompt_events.proofs.PlaceLemmas.{at_within}
 use Rattle.task_tree.proofs.BlindLemmas.{blind_claim, blind_finish, blind_joined, blind_region}
-use Rattle.task_tree.proofs.RenamedPlaceLemmas.{IsReordered, moved_at, own_within, reordered_back}
+use Rattle.task_tree.proofs.RenamedPlaceLemmas.{IsReordered, DoMembersRise, moved_at, own_within}
+use Rattle.task_tree.proofs.RenamedPlaceLemmas.{reordered_back}
 use Rattle.task_tree.proofs.RenamedTreeLemmas.{same_children, moved_explicit, moved_path, same_members_before}
 use Rattle.task_tree.proofs.RenamedTreeLemmas.{same_members, moved_teammate}
 use Rattle.task_tree.proofs.RenamedRegionLemmas.{moved_region, moved_no_region, moved_barrier_begin}
@@ -37,27 +38,27 @@ order_within rs i (region_order (task, kind, is)) = at_within region rs i (task,
 order_within rs i (barrier_order (task, kind, endpoint, says, called, explicit)) =
     at_within region rs i (task, kind, endpoint) says
 
-moved_earlier : {rs ss : List Record} {to back : ℕ → ℕ} → IsReordered rs ss to back
+moved_earlier : {rs ss : List Record} {to back : ℕ → ℕ} → IsReordered rs ss to back → DoMembersRise rs to
     → (i : ℕ) (m e : Membership) → at joined rs i ≡ Some m → Contains (members_before rs m.parallel i) e
     → Contains (members_before ss m.parallel (to i)) e
-moved_earlier r i m e joins has =
+moved_earlier r rise i m e joins has =
     let P : List Membership → Type 0 = λ l. Contains l e in
-    subst P (sym (same_members_before r m.parallel i (ap is_some joins))) has
+    subst P (sym (same_members_before r rise m.parallel i (ap is_some joins))) has
 
-moved_is_short : {rs ss : List Record} {to back : ℕ → ℕ} → IsReordered rs ss to back → (i : ℕ) → IsShort rs i
-    → IsShort ss (to i)
-moved_is_short r i (outside m joins out) = outside m (moved_at joined blind_joined m r i joins) out
-moved_is_short r i (same_index m e joins has same) =
-    same_index m e (moved_at joined blind_joined m r i joins) (moved_earlier r i m e joins has) same
-moved_is_short r i (other_size m e joins has different) =
-    other_size m e (moved_at joined blind_joined m r i joins) (moved_earlier r i m e joins has) different
-moved_is_short r i (few m joins less) =
+moved_is_short : {rs ss : List Record} {to back : ℕ → ℕ} → IsReordered rs ss to back → DoMembersRise rs to
+    → (i : ℕ) → IsShort rs i → IsShort ss (to i)
+moved_is_short r rise i (outside m joins out) = outside m (moved_at joined blind_joined m r i joins) out
+moved_is_short r rise i (same_index m e joins has same) =
+    same_index m e (moved_at joined blind_joined m r i joins) (moved_earlier r rise i m e joins has) same
+moved_is_short r rise i (other_size m e joins has different) =
+    other_size m e (moved_at joined blind_joined m r i joins) (moved_earlier r rise i m e joins has) different
+moved_is_short r rise i (few m joins less) =
     let P : List Membership → Type 0 = λ l. length l < m.actual in
-    few m (moved_at joined blind_joined m r i joins) (subst P (sym (same_members r m.parallel)) less)
-moved_is_short {to = to} {back = back} r i
+    few m (moved_at joined blind_joined m r i joins) (subst P (sym (same_members r rise m.parallel)) less)
+moved_is_short {to = to} {back = back} r rise i
     (missed task member begin number kind ends barrier numbered mate never) =
     missed task member (to begin) number kind (moved_region r i task kind begin ends) barrier
-    (moved_barrier_begin r task number begin numbered) (moved_teammate r task member mate)
+    (moved_barrier_begin r task number begin numbered) (moved_teammate r rise task member mate)
     (λ start starts. never (back start) (moved_barrier_begin (reordered_back r) member number start starts))
 
 pub short_within : (rs : List Record) (i : ℕ) → IsShort rs i → i < length rs
@@ -68,9 +69,9 @@ short_within rs i (few m joins less) = at_within joined rs i m joins
 short_within rs i (missed task member begin number kind ends barrier numbered mate never) =
     own_within rs task i (end_of_region rs i task kind begin ends)
 
-pub moved_short : {rs ss : List Record} {to back : ℕ → ℕ} → IsReordered rs ss to back → (i : ℕ)
-    → HasCause rs i TeamShort → HasCause ss (to i) TeamShort
-moved_short r i (team_short is) = team_short (moved_is_short r i is)
+pub moved_short : {rs ss : List Record} {to back : ℕ → ℕ} → IsReordered rs ss to back → DoMembersRise rs to
+    → (i : ℕ) → HasCause rs i TeamShort → HasCause ss (to i) TeamShort
+moved_short r rise i (team_short is) = team_short (moved_is_short r rise i is)
 
 pub team_within : (rs : List Record) (i : ℕ) → HasCause rs i TeamShort → i < length rs
 team_within rs i (team_short is) = short_within rs i is

@@ -14,7 +14,8 @@ use Rattle.task_tree.specs.Renaming.{IsRenaming, SayAlike, untold}
 use Rattle.task_tree.proofs.BlindLemmas.{IsBlind, blind_at, blind_running, blind_joined}
 use Rattle.task_tree.proofs.RisingListLemmas.{IsIn, filter_in, IsCut, IsSameTest, cut_at, cut_places}
 
--- what a renaming says of the places of records alone; it holds the other way round too
+-- what a renaming says of the places of records alone, without those at which members of teams begin; it
+-- holds the other way round too
 pub record IsReordered (rs ss : List Record) (to back : ℕ → ℕ) : Type 0 where
   pub to_within : (i : ℕ) → i < length rs → to i < length ss
   pub back_within : (j : ℕ) → j < length ss → back j < length rs
@@ -22,8 +23,11 @@ pub record IsReordered (rs ss : List Record) (to back : ℕ → ℕ) : Type 0 wh
   pub to_back : (j : ℕ) → j < length ss → to (back j) ≡ j
   pub alike : (i : ℕ) → i < length rs → SayAlike ss (to i) rs i
   pub own_rise : (task i k : ℕ) → is_own rs task i ≡ true → is_own rs task k ≡ true → i < k → to i < to k
-  pub members_rise : (i k : ℕ) → is_some (at joined rs i) ≡ true → is_some (at joined rs k) ≡ true → i < k
-      → to i < to k
+
+-- what it says of the records at which members of teams begin
+abbrev pub DoMembersRise : List Record → (ℕ → ℕ) → Type 0
+DoMembersRise rs to = (i k : ℕ) → is_some (at joined rs i) ≡ true → is_some (at joined rs k) ≡ true → i < k
+    → to i < to k
 
 pub reordered : {rs ss : List Record} {to back : ℕ → ℕ} → IsRenaming rs ss to back → IsReordered rs ss to back
 reordered r = record {
@@ -33,7 +37,6 @@ reordered r = record {
   to_back = r.to_back;
   alike = r.alike;
   own_rise = r.own_rise;
-  members_rise = r.members_rise;
 }
 
 -- ---- what is said at a place
@@ -110,11 +113,14 @@ reordered_back {rs} {ss} {to} {back} r = record {
       λ task.
       rises_back (is_own rs task) (is_own ss task) to back (r.own_rise task) (own_back r task)
       (λ j own. r.to_back j (own_within ss task j own));
-  members_rise =
-      rises_back (λ i. is_some (at joined rs i)) (λ j. is_some (at joined ss j)) to back r.members_rise
-      (λ j joins. ap is_some (same_back joined blind_joined r j (some_within joined ss j joins)) ∙ joins)
-      (λ j joins. r.to_back j (some_within joined ss j joins));
 }
+
+pub members_back : {rs ss : List Record} {to back : ℕ → ℕ} → IsReordered rs ss to back → DoMembersRise rs to
+    → DoMembersRise ss back
+members_back {rs} {ss} {to} {back} r rise =
+    rises_back (λ i. is_some (at joined rs i)) (λ j. is_some (at joined ss j)) to back rise
+    (λ j joins. ap is_some (same_back joined blind_joined r j (some_within joined ss j joins)) ∙ joins)
+    (λ j joins. r.to_back j (some_within joined ss j joins))
 
 -- ---- a task's own records
 

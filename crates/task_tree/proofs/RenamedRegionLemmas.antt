@@ -23,7 +23,7 @@ use Rattle.ompt_events.proofs.ListLemmas.{get_contains}
 use Rattle.task_tree.proofs.RisingListLemmas.{IsIn, filter_in, filter-map, IsCut}
 use Rattle.task_tree.proofs.BlindLemmas.{blind_region}
 use Rattle.task_tree.proofs.RenamedPlaceLemmas.{IsReordered, same_at, moved_at, own_within, own_cut, past_cut}
-use Rattle.task_tree.proofs.RenamedPlaceLemmas.{own_before_cut, own_in, reordered_back}
+use Rattle.task_tree.proofs.RenamedPlaceLemmas.{DoMembersRise, own_before_cut, own_in, reordered_back}
 use Rattle.task_tree.proofs.RenamedTreeLemmas.{children_cut, moved_family, moved_teammate}
 
 -- ---- open regions
@@ -206,12 +206,12 @@ same_children_between {rs} {ss} {to} r parent begin i own_begin own =
     ∙ ap (drop (length (children_before rs parent begin)))
     (children_cut r parent i (to i) (own_cut r parent i own))
 
-pub moved_covers : {rs ss : List Record} {to back : ℕ → ℕ} → IsReordered rs ss to back → (i task : ℕ)
-    → Covers rs i task → Covers ss (to i) task
-moved_covers {rs} r i task (waited {parent = parent} {begin = begin} ends has) =
+pub moved_covers : {rs ss : List Record} {to back : ℕ → ℕ} → IsReordered rs ss to back → DoMembersRise rs to
+    → (i task : ℕ) → Covers rs i task → Covers ss (to i) task
+moved_covers {rs} r rise i task (waited {parent = parent} {begin = begin} ends has) =
     waited (moved_region r i parent Taskwait begin ends)
     (moved_children_before r parent begin task (begin_of_region rs i parent Taskwait begin ends) has)
-moved_covers {rs} r i task (grouped {parent = parent} {begin = begin} {child = child} ends has family) =
+moved_covers {rs} r rise i task (grouped {parent = parent} {begin = begin} {child = child} ends has family) =
     let P : List ℕ → Type 0 = λ l. Contains l child in
     grouped (moved_region r i parent Taskgroup begin ends)
     (subst P
@@ -220,11 +220,11 @@ moved_covers {rs} r i task (grouped {parent = parent} {begin = begin} {child = c
     (end_of_region rs i parent Taskgroup begin ends)))
     has)
     (moved_family r child task family)
-moved_covers {rs} r i task
+moved_covers {rs} r rise i task
     (synchronised {own = own} {begin = begin} {member = member} {start = start} {child = child}
     {kind = kind} number ends barrier numbered mate starts has family) =
     synchronised number (moved_region r i own kind begin ends) barrier
-    (moved_barrier_begin r own number begin numbered) (moved_teammate r own member mate)
+    (moved_barrier_begin r own number begin numbered) (moved_teammate r rise own member mate)
     (moved_barrier_begin r member number start starts)
     (moved_children_before r member start child (barrier_own rs member number start starts) has)
     (moved_family r child task family)

@@ -18,7 +18,7 @@ use Rattle.task_tree.proofs.RisingListLemmas.{filter_map-map, filter_map-filter}
 use Rattle.task_tree.proofs.BlindLemmas.{blind_begun_initial, blind_begun_root, blind_created, blind_creation}
 use Rattle.task_tree.proofs.BlindLemmas.{blind_dependences, blind_joined}
 use Rattle.task_tree.proofs.RenamedPlaceLemmas.{IsReordered, same_at, moved_at, own_within, past_cut}
-use Rattle.task_tree.proofs.RenamedPlaceLemmas.{own_before_cut, own_in, reordered_back}
+use Rattle.task_tree.proofs.RenamedPlaceLemmas.{DoMembersRise, own_before_cut, own_in, reordered_back}
 
 -- ---- the tree
 
@@ -107,23 +107,25 @@ moved_predecessor r task predecessor is = record {
 
 -- ---- teams
 
-member_test : {rs ss : List Record} {to back : ℕ → ℕ} → IsReordered rs ss to back
+member_test : {rs ss : List Record} {to back : ℕ → ℕ} → IsReordered rs ss to back → DoMembersRise rs to
     → IsSameTest (λ i. is_some (at joined rs i)) (λ j. is_some (at joined ss j)) to back
-member_test {rs} {ss} r = record {
+member_test {rs} {ss} r rise = record {
   kept = λ k says. ap is_some (same_at joined blind_joined r k (some_within joined rs k says)) ∙ says;
   given =
       λ j says.
       ap is_some (same_at joined blind_joined (reordered_back r) j (some_within joined ss j says)) ∙ says;
   to_back = λ j says. r.to_back j (some_within joined ss j says);
-  rises = r.members_rise;
+  rises = rise;
 }
 
-members_cut : {rs ss : List Record} {to back : ℕ → ℕ} → IsReordered rs ss to back → (parallel n m : ℕ)
+members_cut : {rs ss : List Record} {to back : ℕ → ℕ} → IsReordered rs ss to back → DoMembersRise rs to
+    → (parallel n m : ℕ)
     → IsCut (λ i. is_some (at joined rs i)) to n m
     → members_before ss parallel m ≡ members_before rs parallel n
-members_cut {rs} {ss} {to} r parallel n m cut = ap (filter (λ (m : Membership). m.parallel == parallel)) (
+members_cut {rs} {ss} {to} r rise parallel n m cut =
+    ap (filter (λ (e : Membership). e.parallel == parallel)) (
     sym (filter_map-filter (at joined ss) (range_with_len 0 m))
-    ∙ ap (filter_map (at joined ss)) (cut_places (member_test r) n m cut)
+    ∙ ap (filter_map (at joined ss)) (cut_places (member_test r rise) n m cut)
     ∙ filter_map-map to (at joined ss) (at joined rs)
     (filter (λ i. is_some (at joined rs i)) (range_with_len 0 n))
     (λ i is.
@@ -135,14 +137,14 @@ members_cut {rs} {ss} {to} r parallel n m cut = ap (filter (λ (m : Membership).
 
 -- the members that begin before a member
 pub same_members_before : {rs ss : List Record} {to back : ℕ → ℕ} → IsReordered rs ss to back
-    → (parallel i : ℕ) → is_some (at joined rs i) ≡ true
+    → DoMembersRise rs to → (parallel i : ℕ) → is_some (at joined rs i) ≡ true
     → members_before ss parallel (to i) ≡ members_before rs parallel i
-same_members_before {to = to} r parallel i says =
-    members_cut r parallel i (to i) (cut_at (member_test r) i says)
+same_members_before {to = to} r rise parallel i says =
+    members_cut r rise parallel i (to i) (cut_at (member_test r rise) i says)
 
-pub same_members : {rs ss : List Record} {to back : ℕ → ℕ} → IsReordered rs ss to back → (parallel : ℕ)
-    → members ss parallel ≡ members rs parallel
-same_members {rs} {ss} r parallel = members_cut r parallel (length rs) (length ss) (record {
+pub same_members : {rs ss : List Record} {to back : ℕ → ℕ} → IsReordered rs ss to back → DoMembersRise rs to
+    → (parallel : ℕ) → members ss parallel ≡ members rs parallel
+same_members {rs} {ss} r rise parallel = members_cut r rise parallel (length rs) (length ss) (record {
   forth = λ k says below. r.to_within k (some_within joined rs k says);
   back = λ k says below. some_within joined rs k says;
 })
@@ -155,12 +157,13 @@ pub moved_initial : {rs ss : List Record} {to back : ℕ → ℕ} → IsReordere
     → IsInitial rs task → IsInitial ss task
 moved_initial {to = to} r task (i, says) = (to i, moved_at begun_initial blind_begun_initial task r i says)
 
-pub moved_teammate : {rs ss : List Record} {to back : ℕ → ℕ} → IsReordered rs ss to back → (task other : ℕ)
-    → IsTeammate rs task other → IsTeammate ss task other
-moved_teammate r task other (alone is) = alone (moved_initial r task is)
-moved_teammate {rs} {ss} r task other (together parallel own mate has_own same has_mate) =
+pub moved_teammate : {rs ss : List Record} {to back : ℕ → ℕ} → IsReordered rs ss to back
+    → DoMembersRise rs to → (task other : ℕ) → IsTeammate rs task other → IsTeammate ss task other
+moved_teammate r rise task other (alone is) = alone (moved_initial r task is)
+moved_teammate {rs} {ss} r rise task other (together parallel own mate has_own same has_mate) =
     together parallel own mate (kept own has_own) same (kept mate has_mate)
   where
     kept : (m : Membership) → Contains (members rs parallel) m → Contains (members ss parallel) m
     kept m has =
-        let P : List Membership → Type 0 = λ l. Contains l m in subst P (sym (same_members r parallel)) has
+        let P : List Membership → Type 0 = λ l. Contains l m in
+        subst P (sym (same_members r rise parallel)) has

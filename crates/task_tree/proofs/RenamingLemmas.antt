@@ -13,7 +13,8 @@ use Rattle.ompt_events.specs.Regions.{IsRegion}
 use Rattle.ompt_events.specs.Coverage.{Covers, waited, grouped, synchronised}
 use Rattle.ompt_events.specs.Causes.{HasCause}
 use Rattle.task_tree.specs.Renaming.{IsRenaming}
-use Rattle.task_tree.proofs.RenamedPlaceLemmas.{IsReordered, reordered, reordered_back, own_within}
+use Rattle.task_tree.proofs.RenamedPlaceLemmas.{IsReordered, DoMembersRise, reordered, reordered_back}
+use Rattle.task_tree.proofs.RenamedPlaceLemmas.{members_back, own_within}
 use Rattle.task_tree.proofs.RenamedTreeLemmas.{same_children, moved_path, moved_predecessor}
 use Rattle.task_tree.proofs.RenamedRegionLemmas.{end_of_region, moved_covers}
 use Rattle.task_tree.proofs.RenamedCauseLemmas.{moved_order, order_within, moved_short, team_within}
@@ -22,6 +23,9 @@ use Rattle.task_tree.proofs.RenamedCauseLemmas.{moved_share, share_within}
 -- the other way round
 renamed_back : {rs ss : List Record} {to back : ℕ → ℕ} → IsRenaming rs ss to back → IsReordered ss rs back to
 renamed_back r = reordered_back (reordered r)
+
+members_renamed : {rs ss : List Record} {to back : ℕ → ℕ} → IsRenaming rs ss to back → DoMembersRise ss back
+members_renamed r = members_back (reordered r) r.members_rise
 
 -- what stands within the records in the other order stood within them
 from_within : {rs ss : List Record} {to back : ℕ → ℕ} → IsRenaming rs ss to back → (i : ℕ) → to i < length ss
@@ -77,8 +81,9 @@ covers_within rs i task
 pub renamed_covers : {rs ss : List Record} {to back : ℕ → ℕ} → IsRenaming rs ss to back → (i task : ℕ)
     → Covers rs i task ↔ Covers ss (to i) task
 renamed_covers {rs} {ss} r i task =
-    both_ways r (λ i. Covers rs i task) (λ j. Covers ss j task) (λ i. moved_covers (reordered r) i task)
-    (λ j. moved_covers (renamed_back r) j task) (λ j. covers_within ss j task) i
+    both_ways r (λ i. Covers rs i task) (λ j. Covers ss j task)
+    (λ i. moved_covers (reordered r) r.members_rise i task)
+    (λ j. moved_covers (renamed_back r) (members_renamed r) j task) (λ j. covers_within ss j task) i
 
 -- ---- causes of a refusal
 
@@ -91,8 +96,9 @@ renamed_order {rs} {ss} r i =
 pub renamed_short : {rs ss : List Record} {to back : ℕ → ℕ} → IsRenaming rs ss to back → (i : ℕ)
     → HasCause rs i TeamShort ↔ HasCause ss (to i) TeamShort
 renamed_short {rs} {ss} r i =
-    both_ways r (λ i. HasCause rs i TeamShort) (λ j. HasCause ss j TeamShort) (moved_short (reordered r))
-    (moved_short (renamed_back r)) (team_within ss) i
+    both_ways r (λ i. HasCause rs i TeamShort) (λ j. HasCause ss j TeamShort)
+    (moved_short (reordered r) r.members_rise) (moved_short (renamed_back r) (members_renamed r))
+    (team_within ss) i
 
 pub renamed_share : {rs ss : List Record} {to back : ℕ → ℕ} → IsRenaming rs ss to back → (i : ℕ)
     → HasCause rs i ShareWrong ↔ HasCause ss (to i) ShareWrong

@@ -1,6 +1,6 @@
 use Rattle.std.proofs.Common.{◌≡◌, ◌∙◌, ℕ, List, Option, sym, ap, subst, ◌+◌}
 use Rattle.std.specs.Prelude.{option_map}
-use Rattle.script_runs.specs.Calls.{first_named, second_named}
+use Rattle.task_tree.specs.Subjects.{subject, object}
 use Rattle.script_runs.specs.Parts.{IsFound, AreLastUses, noted}
 use Rattle.script_runs.specs.declared.uses.Use.{Use}
 use Rattle.script_runs.proofs.UseLemmas.{told_of, last_next}
@@ -17,19 +17,19 @@ pub returns-clause-first : goal.returns-clause-first
 returns-clause-first c steps last =
     let ids = c.args.tasks.now in
     let since = c.args.since.now.items in
-    told_of steps c.args.at ids since (first_named c.args.body.now) c.find-first.result c.requires.as_many
+    told_of steps c.args.at ids since (subject c.args.body.now) c.find-first.result c.requires.as_many
     last
-    (found_by ids since c.as_slice.result.now c.first_named.result (first_named c.args.body.now) _
-    c.as_slice.ensures.value c.first_named.ensures c.find-first.ensures)
+    (found_by ids since c.as_slice.result.now c.subject.result (subject c.args.body.now) _
+    c.as_slice.ensures.value c.subject.ensures c.find-first.ensures)
 
 pub returns-clause-second : goal.returns-clause-second
 returns-clause-second c steps last =
     let ids = c.args.tasks.now in
     let since = c.args.since.now.items in
-    told_of steps c.args.at ids since (second_named c.args.body.now) c.find-second.result c.requires.as_many
+    told_of steps c.args.at ids since (object c.args.body.now) c.find-second.result c.requires.as_many
     last
-    (found_by ids since c.as_slice-2.result.now c.second_named.result (second_named c.args.body.now) _
-    c.as_slice-2.ensures.value c.second_named.ensures c.find-second.ensures)
+    (found_by ids since c.as_slice-2.result.now c.object.result (object c.args.body.now) _
+    c.as_slice-2.ensures.value c.object.ensures c.find-second.ensures)
 
 pub returns-clause-last : goal.returns-clause-last
 returns-clause-last c steps s is same last =
@@ -43,8 +43,8 @@ returns-clause-last c steps s is same last =
     (c.note-2.ensures
     ∙ ap (λ (l : List ℕ). noted l (option_map (λ (u : Use). u.task) second) now) c.note.ensures))
     (last_next steps c.args.at s ids since first second is last
-    (found_by ids since c.as_slice.result.now c.first_named.result (first_named s.body) _
-    c.as_slice.ensures.value (c.first_named.ensures ∙ ap first_named (sym same)) c.find-first.ensures)
-    (found_by ids since c.as_slice-2.result.now c.second_named.result (second_named s.body) _
-    c.as_slice-2.ensures.value (c.second_named.ensures ∙ ap second_named (sym same))
+    (found_by ids since c.as_slice.result.now c.subject.result (subject s.body) _
+    c.as_slice.ensures.value (c.subject.ensures ∙ ap subject (sym same)) c.find-first.ensures)
+    (found_by ids since c.as_slice-2.result.now c.object.result (object s.body) _
+    c.as_slice-2.ensures.value (c.object.ensures ∙ ap object (sym same))
     c.find-second.ensures))

@@ -1,8 +1,7 @@
-use Rattle.std.proofs.Common.{◌≡◌, ◌∙◌, ℕ, sym, subst}
+use Rattle.std.proofs.Common.{◌∙◌, ℕ, sym, subst}
 use Rattle.ompt_events.specs.Traces.{IsTraceOf}
 use Rattle.ompt_events.specs.Turns.{TellsNoTurns}
 use Rattle.ompt_events.proofs.TurnLemmas.{first_version_tells_none, free_of_gaps}
-use Rattle.task_tree.specs.Rising.{TurnsRise}
 use Rattle.task_tree.proofs.RisingLemmas.{untold_rise}
 use Rattle.task_tree.proofs.families.is_in_own_order.Goals as goal
 

@@ -56,7 +56,7 @@ left-left-requires-clause-aware g c =
     let ready = c.args.ready in
     aware_next g.C.Context.script g.C.Context.seats ready.at ready.step.now c.args.recorder.now
     c.call.new.recorder ready.values.first ready.values.second c.call.new.values.first
-    c.call.new.values.second c.requires.next c.requires.met c.in-Ok.ensures.called
+    c.call.new.values.second c.requires.next c.requires.met c.requires.heard c.in-Ok.ensures.called
 
 pub left-left-requires-clause-first_use : goal.left-left-requires-clause-first_use
 left-left-requires-clause-first_use g c u t used left =
