@@ -7,12 +7,15 @@ import re
 import resource
 import stat
 import subprocess
+import sys
 import tempfile
 
 TOP = os.path.dirname(os.path.dirname(os.path.abspath(__file__)))
 LIMIT = 120
-# More than `explain` may take, in seconds of processor, for a no of 210,000 records; it takes about 2.
-MOST_SECONDS = 4
+# How many times the processor time of the shortest Python program that reads the lines as JSON `explain` may take for a no
+# of 210,000 records; it takes about twice that time, on a fast machine and on a slow one.
+MOST_TIMES = 5
+READING = 'import json, sys\nfor line in open(sys.argv[1], encoding="utf-8"): json.loads(line)'
 # How many arrows of a kind that do not lead to the named record a page has at most.
 MOST_ARROWS = 1000
 
@@ -231,18 +234,34 @@ def fault_of_progress(program):
     return None if all(it in said for it in wanted) and is_cleared and not errors else f'{said!r}, {errors!r}'
 
 
+def seconds_of_children():
+    """The processor time, in seconds, of the programs that ended so far."""
+    used = resource.getrusage(resource.RUSAGE_CHILDREN)
+    return used.ru_utime + used.ru_stime
+
+
+def seconds_to_read(file):
+    """The processor time, in seconds, of a Python program that reads each line of the file as JSON, and nothing else."""
+    before = seconds_of_children()
+    subprocess.run([sys.executable, '-c', READING, file], timeout=LIMIT, check=True)
+    return seconds_of_children() - before
+
+
 def fault_of_time(program, *words):
-    """Whether `explain` takes too much time for a no of 210,001 records, or None."""
+    """Whether `explain` takes too much time for a no of 210,001 records, or None. Its lines are read as JSON before and after
+    it, so that a slow machine, or one that gets slower, is no fault."""
     with tempfile.TemporaryDirectory() as folder:
         file = os.path.join(folder, 'trace.jsonl')
         with open(file, 'w', encoding='utf-8') as it:
             it.write(long_no(23332))
-        before = resource.getrusage(resource.RUSAGE_CHILDREN)
+        reading = seconds_to_read(file)
+        before = seconds_of_children()
         told, _ = explain(program, file, *words)
-        after = resource.getrusage(resource.RUSAGE_CHILDREN)
-    seconds = after.ru_utime + after.ru_stime - before.ru_utime - before.ru_stime
+        seconds = seconds_of_children() - before
+        reading = (reading + seconds_to_read(file)) / 2
     is_right = told.startswith('no: line 139997, thread 0, seq 139995: task 100 unfinished\n')
-    return None if is_right and seconds <= MOST_SECONDS else f'{seconds:.2f} s, {told[:100]!r}'
+    is_quick = seconds <= MOST_TIMES * reading
+    return None if is_right and is_quick else f'{seconds:.2f} s, {reading:.2f} s to read the lines, {told[:100]!r}'
 
 
 def faults(program, small, chromium):
