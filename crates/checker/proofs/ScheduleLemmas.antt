@@ -24,7 +24,8 @@ use Rattle.ompt_events.proofs.TurnLemmas.{begun_started}
 use Rattle.ompt_events.proofs.PlaceLemmas.{at_within}
 use Rattle.ompt_events.proofs.RecordLemmas.{at_through, made_cases, created_unfinished}
 use Rattle.index_tables.specs.Numbering.{AreApart}
-use Rattle.task_tree.specs.Subjects.{object, Calls}
+use Rattle.task_tree.specs.Subjects.{Calls}
+use Rattle.packed_trace.specs.Named.{object}
 use Rattle.task_tree.specs.Family.{FamilyView, IsFamilyOf}
 use Rattle.task_tree.proofs.SubjectLemmas.{call_task, call_index}
 use Rattle.task_tree.proofs.NamedLemmas.{started_object}

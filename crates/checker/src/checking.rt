@@ -10,6 +10,7 @@ use crate::deciding::Deciding;
 use crate::phases::ask;
 use crate::verdict::{CheckFault, Verdict, Why};
 use ompt_events::{Fault, Trace};
+use packed_trace::PackedTrace;
 use std::alloc::Global;
 
 /// Returns the verdict on the records of a trace, by each task's own order. It is malformed with the
@@ -18,6 +19,17 @@ use std::alloc::Global;
 /// taskwait with dependences is complete, before a predecessor is finished. Else it is a yes with the
 /// greedy order. Fails only when out of memory.
 pub fn check(alloc: Global, trace: &Trace) -> Result<Verdict, CheckFault>
+    ensures verdict { IfOk result (IsVerdict trace.now.records) }
+    ensures memory { IsOkUnless result CheckFault.Memory }
+{
+    match PackedTrace::of(alloc, trace) {
+        Ok(packed) => check_packed(alloc, &packed),
+        Err(_) => Err(CheckFault::Memory),
+    }
+}
+
+/// Returns what [`check`] does, of a trace in columns.
+pub fn check_packed(alloc: Global, trace: &PackedTrace) -> Result<Verdict, CheckFault>
     ensures verdict { IfOk result (IsVerdict trace.now.records) }
     ensures memory { IsOkUnless result CheckFault.Memory }
 {

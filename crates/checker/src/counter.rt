@@ -15,6 +15,7 @@ use crate::phases::ask;
 use crate::starts::Precedence;
 use crate::verdict::{CheckFault, Order, Verdict};
 use ompt_events::{Fault, Trace};
+use packed_trace::PackedTrace;
 use std::alloc::Global;
 use wait_coverage::covers_unfinished;
 
@@ -27,6 +28,22 @@ use wait_coverage::covers_unfinished;
 pub fn counter_order(
     alloc: Global,
     trace: &Trace,
+    at: usize,
+    task: u64,
+) -> Result<Option<Order>, CheckFault>
+    ensures counter { IfOk result (IsCounterBy (by_task trace.now.records) at task) }
+    ensures memory { IsOkUnless result CheckFault.Memory }
+{
+    match PackedTrace::of(alloc, trace) {
+        Ok(packed) => counter_order_packed(alloc, &packed, at, task),
+        Err(_) => Err(CheckFault::Memory),
+    }
+}
+
+/// Returns what [`counter_order`] does, of a trace in columns.
+fn counter_order_packed(
+    alloc: Global,
+    trace: &PackedTrace,
     at: usize,
     task: u64,
 ) -> Result<Option<Order>, CheckFault>
@@ -52,6 +69,21 @@ pub fn counter_order(
 pub fn check_with_counter(
     alloc: Global,
     trace: &Trace,
+) -> Result<(Verdict, Option<Order>), CheckFault>
+    ensures verdict { IfOk result (λ answer. IsVerdict trace.now.records answer.0) }
+    ensures counter { IfOk result (λ answer. IsShownBy (by_task trace.now.records) answer.0 answer.1) }
+    ensures memory { IsOkUnless result CheckFault.Memory }
+{
+    match PackedTrace::of(alloc, trace) {
+        Ok(packed) => check_packed_with_counter(alloc, &packed),
+        Err(_) => Err(CheckFault::Memory),
+    }
+}
+
+/// Returns what [`check_with_counter`] does, of a trace in columns.
+pub fn check_packed_with_counter(
+    alloc: Global,
+    trace: &PackedTrace,
 ) -> Result<(Verdict, Option<Order>), CheckFault>
     ensures verdict { IfOk result (λ answer. IsVerdict trace.now.records answer.0) }
     ensures counter { IfOk result (λ answer. IsShownBy (by_task trace.now.records) answer.0 answer.1) }

@@ -33,8 +33,8 @@ mod verdict;
 mod waiting;
 mod workers;
 
-pub use checking::check;
-pub use counter::{check_with_counter, counter_order};
+pub use checking::{check, check_packed};
+pub use counter::{check_packed_with_counter, check_with_counter, counter_order};
 pub use gate::{Gate, OpenGate};
 pub use verdict::{CheckFault, Order, Verdict, Why};
-pub use workers::{MAX_WORKERS, check_on};
+pub use workers::{MAX_WORKERS, check_on, check_packed_on};

@@ -20,9 +20,10 @@ use crate::runs::Runs;
 use crate::sound::Sound;
 use crate::verdict::Order;
 use depend_edges::Edges;
-use ompt_events::{Cause, Fault, Trace, exclude};
+use ompt_events::{Cause, Fault, exclude};
+use packed_trace::PackedTrace;
 use std::alloc::Global;
-use task_states::{States, find_misnested, find_nested, gap, target};
+use task_states::{States, find_misnested, find_nested, gap_in, target};
 use task_tree::Families;
 use teams::Teams;
 use wait_coverage::{Known, find_known};
@@ -33,7 +34,7 @@ use wait_coverage::{Known, find_known};
 /// at each way to do so.
 pub(crate) fn ask<A: Drop, F: Fn(Clear) -> Result<A, Fault>>(
     alloc: Global,
-    trace: &Trace,
+    trace: &PackedTrace,
     answer: &F,
 ) -> Result<A, Fault>
     requires accepts { (clear : _) → F.pre answer.now clear }
@@ -49,7 +50,7 @@ pub(crate) fn ask<A: Drop, F: Fn(Clear) -> Result<A, Fault>>(
 /// Returns what `ask` does. The tree of tasks is known, and shows no cause.
 fn ask_run<A: Drop, F: Fn(Clear) -> Result<A, Fault>>(
     alloc: Global,
-    trace: &Trace,
+    trace: &PackedTrace,
     families: &Families,
     answer: &F,
 ) -> Result<A, Fault>
@@ -104,19 +105,19 @@ fn ask_sound<A: Drop, F: Fn(Clear) -> Result<A, Fault>>(
 // ---- the phases one by one, which a check on several threads has too
 
 /// Returns the families of the trace's tasks. Excludes SeqGap, CreatedTwice and Rootless.
-pub(crate) fn families_of(alloc: Global, trace: &Trace) -> Result<Families, Fault>
+pub(crate) fn families_of(alloc: Global, trace: &PackedTrace) -> Result<Families, Fault>
     ensures families { IfOk result (AreFamiliesOf trace.now.records) }
     ensures clear { OnOk result (IsClear trace.now.records (before NotCurrent)) }
     ensures least { IfErr result (IsLeastFound trace.now.records) }
 {
-    exclude(Cause::SeqGap, gap(trace))?;
+    exclude(Cause::SeqGap, gap_in(trace))?;
     families_without_gap(trace, Families::build(alloc, trace))
 }
 
 /// Returns the families that were built of the trace's tasks, or why there are none. Requires that SeqGap does
 /// not occur. Excludes CreatedTwice and Rootless too.
 pub(crate) fn families_without_gap(
-    trace: &Trace,
+    trace: &PackedTrace,
     built: Result<Families, Fault>,
 ) -> Result<Families, Fault>
     requires gapless { IsFreeOf trace.now.records SeqGap }

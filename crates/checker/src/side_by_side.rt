@@ -15,11 +15,12 @@ use crate::runs::Runs;
 use crate::sound::Sound;
 use crate::verdict::Order;
 use depend_edges::Edges;
-use ompt_events::{Cause, Fault, Trace, exclude};
+use ompt_events::{Cause, Fault, exclude};
+use packed_trace::PackedTrace;
 use std::alloc::Global;
 use std::marker::{Send, Sync};
 use std::thread::{Threads, join};
-use task_states::{States, gap};
+use task_states::{States, gap_in};
 use task_tree::Families;
 use teams::Teams;
 use wait_coverage::Known;
@@ -30,7 +31,7 @@ use wait_coverage::Known;
 pub(crate) fn ask_on<R: Threads, A: Drop, F: Fn(Clear) -> Result<A, Fault>>(
     rt: &R,
     alloc: Global,
-    trace: &Trace,
+    trace: &PackedTrace,
     workers: u32,
     answer: &F,
 ) -> Result<A, Fault>
@@ -51,7 +52,7 @@ pub(crate) fn ask_on<R: Threads, A: Drop, F: Fn(Clear) -> Result<A, Fault>>(
 fn ask_run_on<R: Threads, A: Drop, F: Fn(Clear) -> Result<A, Fault>>(
     rt: &R,
     alloc: Global,
-    trace: &Trace,
+    trace: &PackedTrace,
     families: &Families,
     answer: &F,
 ) -> Result<A, Fault>
@@ -108,7 +109,7 @@ fn ask_sound_on<R: Threads, A: Drop, F: Fn(Clear) -> Result<A, Fault>>(
 
 /// Returns what `families_of` returns. The families are built while the numbers of the threads' records are
 /// looked at.
-fn families_on<R: Threads>(rt: &R, alloc: Global, trace: &Trace) -> Result<Families, Fault>
+fn families_on<R: Threads>(rt: &R, alloc: Global, trace: &PackedTrace) -> Result<Families, Fault>
     ensures families { IfOk result (AreFamiliesOf trace.now.records) }
     ensures clear { OnOk result (IsClear trace.now.records (before NotCurrent)) }
     ensures least { IfErr result (IsLeastFound trace.now.records) }
@@ -117,7 +118,7 @@ fn families_on<R: Threads>(rt: &R, alloc: Global, trace: &Trace) -> Result<Famil
         rt,
         &|| -> Option<usize>
             ensures { FindsFirst trace.entry.now.records SeqGap result }
-        { gap(trace) },
+        { gap_in(trace) },
         &|| -> Result<Families, Fault>
             ensures families { IfOk result (AreFamiliesOf trace.entry.now.records) }
             ensures fault { IfErr result (IsFault trace.entry.now.records (CreatedTwice ∷ Rootless ∷ [])) }

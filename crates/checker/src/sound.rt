@@ -4,7 +4,7 @@ ghost use Rattle.teams.specs.Teams.{own_of};
 ghost use Rattle.checker.specs.Search.{IsSoundView};
 
 use depend_edges::Edges;
-use ompt_events::Trace;
+use packed_trace::PackedTrace;
 use std::marker::Model;
 use task_tree::{Own, Run};
 use teams::Teams;
@@ -13,7 +13,7 @@ use teams::Teams;
 /// the edges of the run in the tasks' own order.
 #[derive(Drop)]
 pub(crate) struct Sound<'a> {
-    pub(crate) trace: &'a Trace,
+    pub(crate) trace: &'a PackedTrace,
     pub(crate) run: &'a Run<'a>,
     pub(crate) teams: &'a Teams<'a>,
     pub(crate) edges: &'a Edges<'a>,

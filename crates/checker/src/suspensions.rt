@@ -8,7 +8,6 @@ ghost use Rattle.checker.specs.Schedule.{EachAwaitsOne, Awaits};
 ghost use Rattle.checker.specs.Suspensions.{IsEndOf, BeginsNoLater, HasSlot, AreRowsInOrder, HaveSlots, AreRowLengths, IsSlotBehind, HasNoSlotBehind, AreTurnEnds, AreSuspensions};
 
 use crate::schedule::{Begin, begun_at};
-use ompt_events::Record;
 use std::alloc::{AllocError, Global};
 use task_tree::Run;
 
@@ -36,7 +35,7 @@ impl Suspensions {
         requires { EachAwaitsOne run.now.records }
         ensures { IfOk result (AreSuspensions run.now.records run.now.family.tasks) }
     {
-        if !tells_turns(run.records()) {
+        if !tells_turns(run) {
             return Ok(Suspensions {
                 rows: Vec::new(alloc),
                 places: Vec::new(alloc),
@@ -112,19 +111,19 @@ pub(crate) fn suspended_at(run: &Run, at: usize) -> Option<End>
     ensures { MatchOption result (says_at suspended_turn run.now.records at ≡ None)
         (λ end. IsEndOf run.now.records run.now.family.tasks at end.index end.turn) }
 {
-    let (_, turn) = run.record(at).body.suspended_turn()?;
+    let turn = run.suspended_turn(at)?;
     let index = run.subject(at)?;
     Some(End { index, turn })
 }
 
 /// Returns whether the first record that starts a task has turns. If it has none, no record has.
-fn tells_turns(records: &[Record]) -> bool
-    requires { EachAwaitsOne records.now }
-    ensures { result ≡ false → BeginsNoLater records.now }
+fn tells_turns(run: &Run) -> bool
+    requires { EachAwaitsOne run.now.records }
+    ensures { result ≡ false → BeginsNoLater run.now.records }
 {
-    for at in 0..records.len() {
-        if records[at].body.begun_turn().is_some() {
-            return records[at].body.told_turns().is_some();
+    for at in 0..run.len() {
+        if run.next_turn(at).is_some() {
+            return run.tells_turns(at);
         }
     }
     false

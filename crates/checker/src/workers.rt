@@ -1,6 +1,6 @@
 //! The check on several threads: workers share out the records of a trace without a cause, a range of the
 //! file for each. The phases before are in `side_by_side`.
-ghost use Rattle.std.specs.Prelude.{ℕ, ◌≡◌, ◌≢◌, ◌≤◌, ◌<◌, ◌↔◌, Err, Some, IfOk, IfErr, OnOk, length, slice_get};
+ghost use Rattle.std.specs.Prelude.{ℕ, ◌≡◌, ◌≢◌, ◌≤◌, ◌<◌, ◌↔◌, Err, Some, true, false, IfOk, IfErr, OnOk, length, slice_get};
 ghost use denote.Param.Send.{IsSync};
 ghost use Rattle.ompt_events.specs.declared.fault.Fault.TheVariants.{Memory};
 ghost use Rattle.checker.specs.Readings.{by_task};
@@ -15,6 +15,7 @@ use crate::gate::Gate;
 use crate::side_by_side::ask_on;
 use crate::verdict::{CheckFault, Verdict, Why};
 use ompt_events::{Fault, Trace};
+use packed_trace::PackedTrace;
 use std::alloc::Global;
 use std::marker::Model;
 use std::thread::{Threads, map_indices};
@@ -50,7 +51,36 @@ pub fn check_on<R: Threads + Sync, G: Gate + Sync>(
         → HaveAllPassed (G.passed gate.now) worker }
     ensures thread { result ≢ Err CheckFault.Thread }
 {
-    if workers == 0 || workers > MAX_WORKERS {
+    if !may_work(workers) {
+        return Err(CheckFault::Workers);
+    }
+    match PackedTrace::of(alloc, trace) {
+        Ok(packed) => check_packed_on(rt, alloc, &packed, workers, gate),
+        Err(_) => Err(CheckFault::Memory),
+    }
+}
+
+/// Returns what [`check_on`] does, of a trace in columns.
+pub fn check_packed_on<R: Threads + Sync, G: Gate + Sync>(
+    rt: &R,
+    alloc: Global,
+    trace: &PackedTrace,
+    workers: u32,
+    gate: &G,
+) -> Result<Verdict, CheckFault>
+    ensures verdict { IfOk result (IsVerdict trace.now.records) }
+    ensures workers { (result ≡ Err CheckFault.Workers) ↔ (1 ≤ workers → 256 < workers) }
+    ensures gate { (worker : ℕ) → result ≡ Err (CheckFault.Gate worker)
+        → (worker < workers) × G.may_refuse gate.now worker }
+
+    // No record is decided by a worker that has not passed the gate. Before a yes or a no each worker has
+    // passed, also one without records; where one is refused, each with a lesser number has.
+    ensures passed { IfOk result (HavePassedFor (G.passed gate.now) workers) }
+    ensures passed_before { (worker : ℕ) → result ≡ Err (CheckFault.Gate worker)
+        → HaveAllPassed (G.passed gate.now) worker }
+    ensures thread { result ≢ Err CheckFault.Thread }
+{
+    if !may_work(workers) {
         return Err(CheckFault::Workers);
     }
     match ask_on(
@@ -75,6 +105,14 @@ pub fn check_on<R: Threads + Sync, G: Gate + Sync>(
         Err(Fault::Memory) => Err(CheckFault::Memory),
         Err(Fault::Malformed { at, cause }) => Ok(Verdict::Malformed { at, cause }),
     }
+}
+
+/// Returns whether a check may have this many workers.
+fn may_work(workers: u32) -> bool
+    ensures few { result ≡ true → (1 ≤ workers) × (workers ≤ 256) }
+    ensures other { result ≡ false → 1 ≤ workers → 256 < workers }
+{
+    1 <= workers && workers <= MAX_WORKERS
 }
 
 /// Returns the verdict on a trace without a cause, or the worker that the gate refuses.

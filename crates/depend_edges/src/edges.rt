@@ -51,7 +51,11 @@ impl<'a> Edges<'a> {
         ensures fault { IfErr result (IsFault trace.now.records (DepsPlace ∷ [])) }
     {
         let families = tree.families();
-        Edges::in_run(alloc, &families.run(trace), &families.own(trace))
+        Edges::in_run(
+            alloc,
+            &families.run(tree.trace()),
+            &families.own(tree.trace()),
+        )
     }
 
     /// Returns the edges between the tasks of the run, which `own` has in the tasks' own order. Fails with

@@ -46,15 +46,15 @@ fn of_edges(rt: &HostRuntime, edges: &Edges) -> Result<()> {
         bail!("there is not one number for each task");
     }
     let latest = again!(rt, _, edges.latest(own.as_slice()))?;
-    for event in run.records() {
-        let Some(task) = event.body.created() else {
+    for at in 0..run.len() {
+        let Some(index) = run.created(at) else {
             continue;
         };
-        let last = match run.index_of(task) {
-            Some(index) if index < latest.len() => latest[index],
-            _ => 0,
-        };
-        of_task(rt, edges, task, last)?;
+        if index >= tasks {
+            bail!("a created task has no index");
+        }
+        let last = latest.get(index).copied().unwrap_or(0);
+        of_task(rt, edges, run.task(index), last)?;
     }
     Ok(())
 }

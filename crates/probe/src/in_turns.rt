@@ -4,7 +4,7 @@ ghost use Rattle.task_tree.specs.Family.{IsFamilyOf};
 
 use crate::standard_input::trace_of_input;
 use anyhow::{Result, bail};
-use ompt_events::Trace;
+use packed_trace::PackedTrace;
 use task_tree::{Families, Family, Own, OwnOrder, arrange, find_gap, turns_of, turns_rise};
 
 /// Prints of the trace on standard input: its version, the turn of each record, the first record with a turn
@@ -12,19 +12,20 @@ use task_tree::{Families, Family, Own, OwnOrder, arrange, find_gap, turns_of, tu
 /// of each task.
 pub fn of_input(rt: &HostRuntime) -> Result<()> {
     let trace = trace_of_input(rt)?;
+    let trace = PackedTrace::of(rt.alloc(), &trace)?;
     let family = family_of(rt, &trace)?;
-    let found = turns_of(rt.alloc(), trace.records(), &family)?;
-    let gap = find_gap(rt.alloc(), trace.records(), &family, &found)?;
+    let found = turns_of(rt.alloc(), &trace, &family)?;
+    let gap = find_gap(rt.alloc(), &trace, &family, &found)?;
     let turns = found.as_slice();
     println!(rt; "version {}, turns {turns:?}, gap {gap:?}", trace.version())?;
-    of_order(rt, &arrange(rt.alloc(), trace.records(), turns)?)?;
-    let rise = turns_rise(rt.alloc(), trace.records(), &family)?;
+    of_order(rt, &arrange(rt.alloc(), &trace, turns)?)?;
+    let rise = turns_rise(rt.alloc(), &trace, &family)?;
     println!(rt; "rise: {rise}")?;
     of_families(rt, &trace)
 }
 
 /// Returns the family of the trace's tasks. Fails where it has none.
-fn family_of(rt: &HostRuntime, trace: &Trace) -> Result<Family>
+fn family_of(rt: &HostRuntime, trace: &PackedTrace) -> Result<Family>
     ensures { IfOk result (IsFamilyOf trace.now.records) }
 {
     match Family::build(rt.alloc(), trace) {
@@ -46,7 +47,7 @@ fn of_order(rt: &HostRuntime, order: &OwnOrder) -> Result<()> {
 }
 
 /// Prints the children of each task that has some, in the order in which it created them.
-fn of_families(rt: &HostRuntime, trace: &Trace) -> Result<()> {
+fn of_families(rt: &HostRuntime, trace: &PackedTrace) -> Result<()> {
     match Families::build(rt.alloc(), trace) {
         Ok(families) => of_children(rt, &families.own(trace)),
         Err(fault) => bail!("no families: {fault}"),

@@ -24,7 +24,7 @@ use Rattle.ompt_events.specs.States.{is_task}
 use Rattle.ompt_events.specs.Turns.{turn_in, turn_after}
 use Rattle.ompt_events.proofs.ListLemmas.{get_within}
 use Rattle.ompt_events.proofs.PlaceLemmas.{is_the_task, the_task, some_of}
-use Rattle.task_tree.specs.Subjects.{subject, object}
+use Rattle.packed_trace.specs.Named.{subject, object}
 use Rattle.scripts.specs.declared.script.Step.{Step}
 use Rattle.scripts.specs.Scripts.{ScriptView}
 use Rattle.recorder.specs.Tasks.{TaskView, after_stop, started_in, in_state, state_moved, turn_begun_next}

@@ -37,7 +37,7 @@ use Rattle.ompt_events.specs.Tree.{IsExplicit}
 use Rattle.ompt_events.specs.Turns.{own_place}
 use Rattle.ompt_events.proofs.ListLemmas.{get_within, get_last}
 use Rattle.ompt_events.proofs.PlaceLemmas.{at_get, at_within, own_more, is_the_task, the_task}
-use Rattle.task_tree.specs.Subjects.{subject, object}
+use Rattle.packed_trace.specs.Named.{subject, object}
 use Rattle.task_tree.proofs.RenamedCauseLemmas.{moved_order}
 use Rattle.scripts.specs.declared.script.Step.{Step}
 use Rattle.scripts.specs.Scripts.{ScriptView}

@@ -34,7 +34,7 @@ use Rattle.ompt_events.proofs.ListLemmas.{get_within, get_last}
 use Rattle.ompt_events.proofs.PlaceLemmas.{at_get, at_within}
 use Rattle.ompt_events.proofs.TreeLemmas.{children_same, children_more, children_stay, child_at_none}
 use Rattle.ompt_events.proofs.TreeLemmas.{child_at_other}
-use Rattle.task_tree.specs.Subjects.{subject}
+use Rattle.packed_trace.specs.Named.{subject}
 use Rattle.task_tree.proofs.RenamedCauseLemmas.{moved_share}
 use Rattle.scripts.specs.declared.script.Step.{Step}
 use Rattle.scripts.specs.Scripts.{ScriptView}

@@ -23,7 +23,7 @@ use Rattle.ompt_events.specs.States.{Move, Stopped, Started, Discarded, moves_by
 use Rattle.ompt_events.specs.States.{first_state}
 use Rattle.ompt_events.proofs.ListLemmas.{get_within}
 use Rattle.ompt_events.proofs.PlaceLemmas.{is_the_task, the_task, some_of}
-use Rattle.task_tree.specs.Subjects.{subject, object}
+use Rattle.packed_trace.specs.Named.{subject, object}
 use Rattle.scripts.specs.declared.script.Step.{Step}
 use Rattle.scripts.specs.Scripts.{ScriptView}
 use Rattle.recorder.specs.Tasks.{TaskView, nature, state_moved, after_stop, in_state, started_in}

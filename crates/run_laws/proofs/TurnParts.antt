@@ -15,7 +15,7 @@ use Rattle.ompt_events.specs.Records.{started, stopped, begun_root, schedule}
 use Rattle.ompt_events.specs.States.{Move, Stopped, is_task, stops, is_early_move, is_apart}
 use Rattle.ompt_events.proofs.ListLemmas.{get_within}
 use Rattle.ompt_events.proofs.PlaceLemmas.{is_the_task, the_task}
-use Rattle.task_tree.specs.Subjects.{subject}
+use Rattle.packed_trace.specs.Named.{subject}
 use Rattle.scripts.specs.declared.script.Step.{Step}
 use Rattle.scripts.specs.Scripts.{ScriptView}
 use Rattle.run_laws.proofs.CoverLemmas.{stopped_of, at_home, running_of}

@@ -18,7 +18,7 @@ use Rattle.ompt_events.specs.Records.{made, begun_root, creation, started, regio
 use Rattle.ompt_events.specs.Regions.{after_region}
 use Rattle.ompt_events.specs.States.{is_task}
 use Rattle.ompt_events.proofs.PlaceLemmas.{is_the_task}
-use Rattle.task_tree.specs.Subjects.{subject, object}
+use Rattle.packed_trace.specs.Named.{subject, object}
 use Rattle.scripts.specs.declared.script.Step.{Step}
 use Rattle.scripts.specs.Scripts.{ScriptView, IsScript}
 use Rattle.scripts.proofs.RuleLemmas.{step_rules}

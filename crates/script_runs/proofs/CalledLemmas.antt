@@ -34,7 +34,7 @@ use Rattle.callbacks.proofs.KnownLaw.{take_next}
 use Rattle.recorder.specs.Schedules.{with_discarded, discard_body}
 use Rattle.recorder.specs.Tasks.{TaskView, after_stop, after_start, child_of, with_child, with_region}
 use Rattle.recorder.specs.Tasks.{without_region, root_of}
-use Rattle.task_tree.specs.Subjects.{subject, object}
+use Rattle.packed_trace.specs.Named.{subject, object}
 use Rattle.script_runs.specs.Called.{called, recorded_calls, calls_of}
 use Rattle.script_runs.specs.Calls.{first_given, second_given, recorded_body}
 use Rattle.script_runs.specs.Calls.{first_left, second_left}

@@ -34,7 +34,7 @@ use Rattle.scripts.specs.Scripts.{ScriptView, IsScript, step_count}
 use Rattle.scripts.specs.Rules.{IsMadeByStep}
 use Rattle.scripts.proofs.RuleLemmas.{step_rules}
 use Rattle.recorder.specs.Tasks.{TaskView}
-use Rattle.task_tree.specs.Subjects.{subject, object}
+use Rattle.packed_trace.specs.Named.{subject, object}
 use Rattle.script_runs.specs.Called.{called}
 use Rattle.script_runs.specs.Calls.{first_given, second_given, recorded_body}
 use Rattle.script_runs.specs.HandOvers.{step_record, is_use, ArePassedOn}

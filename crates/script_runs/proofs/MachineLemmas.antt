@@ -48,7 +48,7 @@ use Rattle.recorder.specs.Tasks.{state_moved, holder_in, with_child, child_of}
 use Rattle.recorder.specs.Tasks.{is_detached, is_running, may_create, is_deep, is_crowded, nature, in_state}
 use Rattle.recorder.specs.Tasks.{after_stop, with_region, without_region}
 use Rattle.recorder.specs.declared.fault.CallFault.TheVariants.{WrongState}
-use Rattle.task_tree.specs.Subjects.{subject, object}
+use Rattle.packed_trace.specs.Named.{subject, object}
 use Rattle.script_runs.specs.Calls.{first_given, second_given, recorded_body}
 use Rattle.script_runs.specs.Calls.{first_left, second_left, call_refusal}
 use Rattle.script_runs.specs.Progress.{Values, value}

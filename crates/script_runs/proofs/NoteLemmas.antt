@@ -24,7 +24,7 @@ use Rattle.scripts.specs.declared.script.Step.{Step}
 use Rattle.scripts.specs.Scripts.{ScriptView, IsScript}
 use Rattle.recorder.specs.Recorders.{RecorderView, NoteView}
 use Rattle.recorder.specs.Tasks.{TaskView}
-use Rattle.task_tree.specs.Subjects.{subject, object}
+use Rattle.packed_trace.specs.Named.{subject, object}
 use Rattle.script_runs.specs.Calls.{first_given, second_given, names_it}
 use Rattle.script_runs.specs.Calls.{first_left}
 use Rattle.script_runs.specs.HandOvers.{is_use, IsNextUse}

@@ -48,7 +48,7 @@ use Rattle.scripts.specs.declared.script.Step.{Step}
 use Rattle.scripts.specs.Scripts.{ScriptView, step_count}
 use Rattle.scripts.proofs.RuleLemmas.{step_rules}
 use Rattle.callbacks.proofs.KnownLaw.{take_next}
-use Rattle.task_tree.specs.Subjects.{subject, object}
+use Rattle.packed_trace.specs.Named.{subject, object}
 use Rattle.script_runs.specs.Calls.{first_given, second_given, recorded_body, refusal_by, call_refusal}
 use Rattle.script_runs.specs.Calls.{first_left, second_left, names_it}
 use Rattle.script_runs.specs.Progress.{Progress, Values, value, values_after, progress_after, no_progress}

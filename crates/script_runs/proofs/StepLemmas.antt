@@ -15,7 +15,7 @@ use Rattle.recorder.specs.Tasks.{TaskView}
 use Rattle.recorder.specs.declared.fault.CallFault.TheVariants as call
 use Rattle.scripts.specs.declared.script.Step.{Step}
 use Rattle.scripts.specs.Scripts.{ScriptView, IsScript}
-use Rattle.task_tree.specs.Subjects.{subject, object}
+use Rattle.packed_trace.specs.Named.{subject, object}
 use Rattle.script_runs.specs.Calls.{first_given, second_given, recorded_body, call_refusal}
 use Rattle.script_runs.specs.Progress.{Progress, value}
 use Rattle.script_runs.specs.Progress.{progress_to, refused_at}

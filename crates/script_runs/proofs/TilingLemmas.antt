@@ -30,7 +30,7 @@ use Rattle.recorder.specs.declared.fault.CallFault.{CallFault}
 use Rattle.recorder.specs.Recorders.{RecorderView, entry_by}
 use Rattle.recorder.specs.Tasks.{TaskView, may_create, is_deep, is_crowded, is_detached, child_of, with_child}
 use Rattle.recorder.specs.Tasks.{root_of}
-use Rattle.task_tree.specs.Subjects.{subject, object}
+use Rattle.packed_trace.specs.Named.{subject, object}
 use Rattle.script_runs.specs.Calls.{first_given, second_given, recorded_body}
 use Rattle.script_runs.specs.Calls.{first_left, second_left, call_refusal}
 use Rattle.script_runs.specs.Progress.{Progress, Values, value, progress, progress_to}

@@ -31,7 +31,7 @@ use Rattle.recorder.specs.Schedules.{schedule_of, schedule_body, schedule_refusa
 use Rattle.recorder.specs.Schedules.{left_of, comes_back, has_its_next, is_by_parent, may_start, is_last_turn}
 use Rattle.recorder.specs.Tasks.{TaskView, current_turn, turn_begun_next, after_stop, after_start, started_in}
 use Rattle.recorder.specs.Tasks.{in_state, state_moved, with_child, with_region, without_region}
-use Rattle.task_tree.specs.Subjects.{subject, object}
+use Rattle.packed_trace.specs.Named.{subject, object}
 use Rattle.script_runs.specs.Calls.{first_given, second_given, recorded_body}
 use Rattle.script_runs.specs.Calls.{first_left, second_left, call_refusal}
 use Rattle.script_runs.specs.Parts.{id_of}

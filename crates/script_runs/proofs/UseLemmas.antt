@@ -23,7 +23,7 @@ use Rattle.scripts.specs.Scripts.{IsScript}
 use Rattle.scripts.specs.Rules.{IsMadeByStep}
 use Rattle.scripts.proofs.RuleLemmas.{step_rules}
 use Rattle.callbacks.proofs.KnownLaw.{take_next}
-use Rattle.task_tree.specs.Subjects.{subject, object}
+use Rattle.packed_trace.specs.Named.{subject, object}
 use Rattle.script_runs.specs.Calls.{names_it}
 use Rattle.script_runs.specs.HandOvers.{is_use, IsNextUse}
 use Rattle.script_runs.specs.Parts.{IsUnusedSince, IsUseOf, IsUsed, AreUses, AreLastUses, IsNumberOf, IsTold}

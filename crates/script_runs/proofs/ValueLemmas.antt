@@ -37,7 +37,7 @@ use Rattle.recorder.specs.Schedules.{with_discarded, has_its_next, may_start, is
 use Rattle.recorder.specs.Tasks.{TaskView, nature, state_moved, after_stop, after_start, started_in, in_state}
 use Rattle.recorder.specs.Tasks.{running_in, is_detached, is_running, may_create, with_child, is_deep}
 use Rattle.recorder.specs.Tasks.{is_crowded, turn_begun_next, with_region, without_region}
-use Rattle.task_tree.specs.Subjects.{subject}
+use Rattle.packed_trace.specs.Named.{subject}
 use Rattle.script_runs.specs.Calls.{first_given, recorded_body}
 use Rattle.script_runs.specs.Calls.{first_left, call_refusal}
 use Rattle.script_runs.proofs.ShareLemmas.{AreDisjoint, IsWithin, within_itself, within_whole, within_same}

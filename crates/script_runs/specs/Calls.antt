@@ -11,7 +11,7 @@ use Rattle.ompt_events.specs.Flags as flag
 use Rattle.ompt_events.specs.Flags.{task_flags, are_named, has_flag}
 use Rattle.ompt_events.specs.Names.{status_part}
 use Rattle.ompt_events.specs.States.{is_task}
-use Rattle.task_tree.specs.Subjects.{subject, object}
+use Rattle.packed_trace.specs.Named.{subject, object}
 use Rattle.recorder.specs.declared.fault.CallFault.{CallFault}
 use Rattle.recorder.specs.declared.fault.CallFault.TheVariants.{WrongState}
 use Rattle.recorder.specs.Tasks.{TaskView, root_of, child_of, with_child, after_start, with_region}

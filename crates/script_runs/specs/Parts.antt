@@ -35,7 +35,7 @@ use Rattle.credit_ledger.specs.Seats.{AreAll, Extends, StartsWith, seat_calls, t
 use Rattle.callbacks.specs.Closed.{HasUnusedSeat}
 use Rattle.recorder.specs.Recorders.{RecorderView, NoteView, IsRefusedByLedger, recorded, entry_by}
 use Rattle.recorder.specs.Recorders.{entries_of}
-use Rattle.task_tree.specs.Subjects.{subject, object}
+use Rattle.packed_trace.specs.Named.{subject, object}
 use Rattle.script_runs.specs.Calls.{first_given, second_given, recorded_body}
 use Rattle.script_runs.specs.Calls.{first_left, second_left, call_refusal, reads_ledger}
 use Rattle.script_runs.specs.HandOvers.{is_use, is_reader, IsNextUse, ComesAfter}

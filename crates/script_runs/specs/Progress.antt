@@ -10,7 +10,7 @@ use Rattle.scripts.specs.Scripts.{ScriptView}
 use Rattle.recorder.specs.declared.fault.CallFault.{CallFault}
 use Rattle.recorder.specs.Tasks.{TaskView}
 use Rattle.recorder.specs.Recorders.{RecorderView}
-use Rattle.task_tree.specs.Subjects.{subject, object}
+use Rattle.packed_trace.specs.Named.{subject, object}
 use Rattle.script_runs.specs.Calls.{first_given, second_given, recorded_body}
 use Rattle.script_runs.specs.Calls.{first_left, second_left, call_refusal}
 

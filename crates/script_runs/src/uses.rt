@@ -3,7 +3,7 @@ ghost use Rattle.std.specs.Prelude.{◌≡◌, ◌≤◌, ◌<◌, ◌+◌, ℕ,
 ghost use Rattle.ompt_events.specs.Limits.{max_records};
 ghost use Rattle.scripts.specs.declared.script.Step.{Step};
 ghost use Rattle.scripts.specs.Scripts.{IsScript};
-ghost use Rattle.task_tree.specs.Subjects.{subject, object};
+ghost use Rattle.packed_trace.specs.Named.{subject, object};
 ghost use Rattle.script_runs.specs.Parts.{IsUsed, AreUses, AreLastUses, IsTold, IsFound, noted, next_of, with_next, told_next};
 
 use index_tables::Numbering;

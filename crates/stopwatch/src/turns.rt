@@ -4,22 +4,22 @@ ghost use Rattle.task_tree.specs.Family.{IsFamilyOf};
 
 use crate::layers::trace_of_input;
 use anyhow::{Result, bail};
-use ompt_events::Trace;
+use packed_trace::PackedTrace;
 use task_tree::{Family, arrange, find_gap, turns_of, turns_rise};
 
 /// Reads the trace on standard input and asks whether its turns rise along the file.
 pub fn rise(rt: &HostRuntime) -> Result<()> {
-    let trace = trace_of_input(rt)?;
+    let trace = PackedTrace::of(rt.alloc(), &trace_of_input(rt)?)?;
     let family = family_of(rt, &trace)?;
     told_rising(rt, &trace, &family)
 }
 
 /// Prints whether turns are found to rise. `bench/turns.py` counts it, so it is not put into its caller.
 #[inline(never)]
-fn told_rising(rt: &HostRuntime, trace: &Trace, family: &Family) -> Result<()>
+fn told_rising(rt: &HostRuntime, trace: &PackedTrace, family: &Family) -> Result<()>
     requires { IsFamilyOf trace.now.records family.now }
 {
-    let rise = turns_rise(rt.alloc(), trace.records(), family)?;
+    let rise = turns_rise(rt.alloc(), trace, family)?;
     println!(rt; "rise: {rise}")?;
     Ok(())
 }
@@ -27,17 +27,17 @@ fn told_rising(rt: &HostRuntime, trace: &Trace, family: &Family) -> Result<()>
 /// Reads the trace on standard input, searches for a turn gap and puts its records into the tasks' own
 /// order.
 pub fn arranged(rt: &HostRuntime) -> Result<()> {
-    let trace = trace_of_input(rt)?;
+    let trace = PackedTrace::of(rt.alloc(), &trace_of_input(rt)?)?;
     let family = family_of(rt, &trace)?;
-    let turns = turns_of(rt.alloc(), trace.records(), &family)?;
-    let gap = find_gap(rt.alloc(), trace.records(), &family, &turns)?;
-    let order = arrange(rt.alloc(), trace.records(), turns.as_slice())?;
+    let turns = turns_of(rt.alloc(), &trace, &family)?;
+    let gap = find_gap(rt.alloc(), &trace, &family, &turns)?;
+    let order = arrange(rt.alloc(), &trace, turns.as_slice())?;
     println!(rt; "{} records, gap {gap:?}", order.len())?;
     Ok(())
 }
 
 /// Returns the family of the trace's tasks. Fails where it has none.
-fn family_of(rt: &HostRuntime, trace: &Trace) -> Result<Family>
+fn family_of(rt: &HostRuntime, trace: &PackedTrace) -> Result<Family>
     ensures { IfOk result (IsFamilyOf trace.now.records) }
 {
     match Family::build(rt.alloc(), trace) {

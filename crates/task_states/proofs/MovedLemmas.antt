@@ -23,7 +23,7 @@ use Rattle.ompt_events.specs.Turns.{turns_in}
 use Rattle.ompt_events.specs.States.{Move, Stopped, Started, Discarded, is_task, is_on, is_early, home_of}
 use Rattle.ompt_events.specs.States.{has_moved, moves_by, moves_at, moves_of, moves_by_file, moved_moves}
 use Rattle.ompt_events.specs.States.{all_moves_of, turn_moves, is_early_move, is_apart}
-use Rattle.task_tree.specs.Runs.{schedule_status as says_status}
+use Rattle.packed_trace.specs.Packed.{schedule_status as says_status}
 use Rattle.task_states.specs.declared.progress.Pass.TheVariants.{Early, Home, Rest}
 use Rattle.task_states.specs.Progress.{is_home, is_switch, is_read, moves_in, turned, moves_before}
 use Rattle.task_states.proofs.PassLemmas.{early_for, early_there, switch_there}

@@ -26,7 +26,7 @@ use Rattle.ompt_events.proofs.PlaceLemmas.{thread_none, contains_place, at_withi
 use Rattle.ompt_events.proofs.PlaceLemmas.{the_task}
 use Rattle.ompt_events.proofs.RecordLemmas.{begun_made, made_cases, begun_at_made}
 use Rattle.ompt_events.proofs.ListLemmas.{pushed_cases, contains_get}
-use Rattle.task_tree.specs.Runs.{is_wait_made}
+use Rattle.packed_trace.specs.Packed.{made_with, makes_with}
 use Rattle.task_tree.proofs.OnceLemmas.{made_once}
 use Rattle.task_tree.proofs.SuspendedLemmas.{explicit_not_root}
 use Rattle.task_states.specs.declared.homes.Home.{Home}
@@ -271,7 +271,8 @@ root_nature rs tasks index task place once is is_task not_explicit = there (slic
 
 pub explicit_nature : (rs : List Record) (tasks : List ℕ) (index task place : ℕ) (wait : Bool)
     → IsFreeOf rs CreatedTwice → at made rs place ≡ slice_get tasks index → slice_get tasks index ≡ Some task
-    → IsExplicit rs task → is_wait_made rs place ≡ wait → nature_of rs task ≡ (if wait then Wait else Plain)
+    → IsExplicit rs task → makes_with flag.taskwait rs place ≡ wait → nature_of rs task ≡
+    (if wait then Wait else Plain)
 explicit_nature rs tasks index task place wait once is is_task explicit waits =
     there (slice_get rs place) refl
   where
@@ -285,9 +286,15 @@ explicit_nature rs tasks index task place wait once is is_task explicit waits =
               absurd
               (explicit_not_root rs task once explicit (place, at_get begun_root rs place r e ∙ begins))
           | inr creates ↦ created_nature task r.body creates
-              ∙ ap (λ o. if option_map_or (λ bits. has_flag bits flag.taskwait) o false then Wait else Plain)
-              (sym (at_get says_flags rs place r e))
-              ∙ ap (λ c. if c then Wait else Plain) waits
+              ∙ ap (λ c. if c then Wait else Plain)
+              (sym
+              (ap (λ o. option_map_or (λ (q : Record). made_with flag.taskwait q.body) o false) e
+              ∙ ap
+              (λ (o : Option ℕ).
+              option_map_or
+              (λ _. option_map_or (λ bits. has_flag bits flag.taskwait) (says_flags r.body) false) o false)
+              makes)
+              ∙ waits)
         ]
 
 root_made : (rs : List Record) (task place : ℕ) → at made rs place ≡ Some task

@@ -25,7 +25,8 @@ use Rattle.ompt_events.specs.Names.{demands_next}
 use Rattle.ompt_events.specs.Turns.{turns_in}
 use Rattle.ompt_events.proofs.PlaceLemmas.{range_more, at_within, at_get, get_at}
 use Rattle.ompt_events.proofs.ListLemmas.{get_within}
-use Rattle.task_tree.specs.Runs.{RunView, IsRun, IsIndexOf, schedule_status as says_status}
+use Rattle.task_tree.specs.Runs.{RunView, IsRun, IsIndexOf}
+use Rattle.packed_trace.specs.Packed.{schedule_status as says_status}
 use Rattle.task_tree.proofs.SubjectLemmas.{call_task}
 use Rattle.task_states.specs.declared.moves.Nature as code
 use Rattle.task_states.specs.declared.moves.Move as steps

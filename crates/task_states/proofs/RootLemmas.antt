@@ -21,7 +21,7 @@ use Rattle.ompt_events.proofs.EveryLemmas.{Every, every_filter, every_take, ever
 use Rattle.ompt_events.proofs.EveryLemmas.{every_get, every_rest}
 use Rattle.ompt_events.proofs.PlaceLemmas.{get_at}
 use Rattle.task_tree.specs.Family.{FamilyView, IsFamilyOf}
-use Rattle.task_tree.specs.Subjects.{object}
+use Rattle.packed_trace.specs.Named.{object}
 use Rattle.task_tree.proofs.SubjectLemmas.{call_index}
 use Rattle.task_tree.proofs.LookupLemmas.{object_calls}
 use Rattle.task_tree.proofs.SuspendedLemmas.{no_misfit_below}

@@ -29,7 +29,7 @@ use Rattle.ompt_events.proofs.PlaceLemmas.{at_within, is_the_task, the_task}
 use Rattle.ompt_events.proofs.TurnLemmas.{begun_started}
 use Rattle.ompt_events.proofs.ListLemmas.{get_contains, contains_get}
 use Rattle.task_tree.specs.Family.{FamilyView, IsFamilyOf}
-use Rattle.task_tree.specs.Subjects.{subject, object}
+use Rattle.packed_trace.specs.Named.{subject, object}
 use Rattle.task_tree.proofs.SubjectLemmas.{call_index}
 use Rattle.task_tree.proofs.LookupLemmas.{subject_calls, object_calls}
 use Rattle.ompt_events.specs.declared.fault.Fault.{Fault}

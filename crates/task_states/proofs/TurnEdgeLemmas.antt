@@ -7,7 +7,7 @@ use Rattle.std.proofs.lemmas.List.{append-nil, append_assoc}
 use Rattle.std.proofs.lemmas.List.Elements.{filter-append, All-filter}
 use Rattle.std.proofs.lemmas.List.FromFn.{length-range_with_len, get_or-range_with_len}
 use Rattle.std.proofs.lemmas.Grind.{flat_map-append}
-use Rattle.std.specs.Prelude.{◌==◌, ◌&&◌, All, map, filter, slice_get, option_and_then, option_map}
+use Rattle.std.specs.Prelude.{◌==◌, ◌&&◌, All, map, unwrap_or, filter, slice_get, option_and_then, option_map}
 use Rattle.std.specs.List.{flat_map, range_with_len}
 use Rattle.std.specs.Option.{option_map_or}
 use Rattle.std.specs.Global.{Vec}
@@ -371,3 +371,9 @@ turned_more rs task turn before begins ends are are' =
         ∙ sym (append_assoc before (turns turn) (first ++ last))
         ∙ sym (append_assoc (before ++ turns turn) first last)
     of false = sym (append-nil (before ++ [] ++ []) ∙ append-nil (before ++ []))
+
+-- the turn that begins, or 0 where none does
+pub turn_or_zero : (begins : Option (ℕ × ℕ)) (turn : Option ℕ) → turn ≡ option_map (λ (b : ℕ × ℕ). b.1) begins
+    → unwrap_or turn 0 ≡ option_map_or (λ (b : ℕ × ℕ). b.1) begins 0
+turn_or_zero None turn is = ap (λ o. unwrap_or o 0) is
+turn_or_zero (Some begin) turn is = ap (λ o. unwrap_or o 0) is

@@ -1,6 +1,5 @@
 -- What the searches test at each record. The states, the walk along a thread and the causes themselves are
 -- defined in `ompt_events`.
-pub mod Targets
 pub mod Nesting
 pub mod Misnesting
 pub mod Walks

@@ -15,7 +15,8 @@ use Rattle.ompt_events.specs.States.{is_task, is_on, is_early, home_of, has_move
 use Rattle.ompt_events.specs.States.{nature_of, state_of}
 use Rattle.ompt_events.specs.Names.{demands_next}
 use Rattle.ompt_events.specs.Turns.{turns_in}
-use Rattle.task_tree.specs.Runs.{RunView, IsRun, schedule_status as says_status}
+use Rattle.task_tree.specs.Runs.{RunView, IsRun}
+use Rattle.packed_trace.specs.Packed.{schedule_status as says_status}
 use Rattle.task_states.specs.declared.homes.Home as homes
 use Rattle.task_states.specs.declared.homes.Home.TheVariants as runs
 use Rattle.task_states.specs.Homes.{home_at}

@@ -40,7 +40,7 @@ impl Begun {
         let Some(task) = run.forking(at) else {
             return Ok(());
         };
-        let Some((_, parallel)) = run.record(at).body.forked() else {
+        let Some(parallel) = run.forked_region(at) else {
             return Ok(());
         };
         self.threads.add(task, run.thread(at));

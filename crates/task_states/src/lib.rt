@@ -29,7 +29,7 @@ mod walk;
 pub use misnesting::find_misnested;
 pub use moves::{Move, Nature, after_move};
 pub use nesting::find_nested;
-pub use numbering::gap;
+pub use numbering::{gap, gap_in};
 pub use ompt_events::State;
 pub use regions::Regions;
 pub use rows::{reach, row};

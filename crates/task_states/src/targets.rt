@@ -1,14 +1,9 @@
 //! Whether a task is to run on a device.
 ghost use Rattle.std.specs.Prelude.{◌≡◌, false, ◌<◌, ◌↔◌, MatchOption, IsTrue, length};
-ghost use Rattle.ompt_events.specs.Flags as flag;
-ghost use Rattle.ompt_events.specs.Flags.{has_flag};
 ghost use Rattle.ompt_events.specs.declared.cause.Cause.TheVariants.{TargetTask};
 ghost use Rattle.ompt_events.specs.Places.{nests_at};
 ghost use Rattle.ompt_events.specs.Causes.{IsFreeOf, IsFirstWith, MakesTarget};
-ghost use Rattle.task_states.specs.Targets.{IsTargetMade};
 
-use bitflags::Flags;
-use ompt_events::{Body, Endpoint, TaskFlags};
 use task_tree::Run;
 
 /// Returns the first record that makes a target task, one with the flag `target` (OpenMP 5.2, 13.8 and
@@ -30,33 +25,11 @@ pub fn target(run: &Run) -> Option<usize>
     None
 }
 
-/// Returns whether the record at a place makes a target task. Looks at records that make a task alone.
+/// Returns whether the record at a place makes a target task.
 fn is_target_there(run: &Run, at: usize) -> bool
     requires within { at < length run.now.records }
     requires flat { nests_at run.now.records at ≡ false }
     ensures { IsTrue result ↔ MakesTarget run.now.records at }
 {
-    run.makes(at) && makes_target(&run.record(at).body)
-}
-
-/// Returns whether the record makes a target task.
-fn makes_target(body: &Body) -> bool
-    ensures { IsTrue result ↔ IsTargetMade body.now }
-{
-    match body {
-        Body::TaskCreate { flags, .. } => is_target(*flags),
-        Body::ImplicitTask {
-            endpoint: Endpoint::Begin,
-            flags,
-            ..
-        } => is_target(*flags),
-        _ => false,
-    }
-}
-
-/// Returns whether these are the flags of a target task.
-fn is_target(flags: TaskFlags) -> bool
-    ensures { result ≡ has_flag flags.0 flag.target }
-{
-    flags.contains(TaskFlags::TARGET)
+    run.makes_target(at)
 }

@@ -35,8 +35,8 @@ pub fn run<'a>(alloc: Global, trace: &'a Trace, tree: &'a Tree) -> Result<States
         (IsShownFault trace.now.records (NotCurrent ∷ Moved ∷ TurnGap ∷ StatusOrder ∷ RegionOrder ∷ [])) }
 {
     let families = tree.families();
-    let own = families.own(trace);
-    States::in_run(alloc, &families.run(trace), &own, families.gap())
+    let own = families.own(tree.trace());
+    States::in_run(alloc, &families.run(tree.trace()), &own, families.gap())
 }
 
 /// Returns the first record of a trace at which a parallel region lies inside another (OpenMP 5.2, 10.1), as
@@ -47,5 +47,5 @@ pub fn nested(alloc: Global, trace: &Trace, tree: &Tree) -> Result<Option<usize>
         (IsFreeOf trace.now.records NestedParallel) (IsFirstWith trace.now.records NestedParallel)) }
     ensures memory_alone { IfErr result (λ fault. fault ≡ Memory) }
 {
-    Ok(find_nested(alloc, &tree.families().run(trace))?)
+    Ok(find_nested(alloc, &tree.families().run(tree.trace()))?)
 }

@@ -1,6 +1,7 @@
 //! Where tasks that moved begin and end their turns.
-ghost use Rattle.std.specs.Prelude.{ℕ, ◌≡◌, ◌<◌, ◌^◌, IfOk, OnOk, length};
+ghost use Rattle.std.specs.Prelude.{ℕ, ◌≡◌, ◌<◌, ◌^◌, Some, IfOk, OnOk, length, slice_get};
 ghost use Rattle.std.specs.Option.{option_map_or};
+ghost use Rattle.ompt_events.specs.declared.records.Record.{Record};
 ghost use Rattle.ompt_events.specs.Records.{begun_turn};
 ghost use Rattle.ompt_events.specs.Turns.{turns_in};
 ghost use Rattle.task_states.specs.declared.turn_edges.Edge.TheVariants.{Begins, Ends};
@@ -9,7 +10,6 @@ ghost use Rattle.task_states.specs.TurnEdges.{moved_turn, AreEdges};
 
 use crate::origins::Origins;
 use crate::rows::reach;
-use ompt_events::Record;
 use std::alloc::{AllocError, Global};
 use task_tree::Run;
 
@@ -25,20 +25,19 @@ pub(crate) fn turn_count(run: &Run) -> usize
     ensures { result ≡ turns_in run.now.records }
 {
     let mut most = 0;
-    for event in run.records() {
-        most = most.max(begun_turn(event));
+    for at in 0..run.len() {
+        most = most.max(begun_turn(run, at));
     }
     most as usize + 1
 }
 
-/// Returns the turn that begins at the record, or 0 where none does.
-fn begun_turn(event: &Record) -> u32
-    ensures { result ≡ option_map_or (λ (b : ℕ × ℕ). b.1) (begun_turn event.now.body) 0 }
+/// Returns the turn that begins at the place, or 0 where none does.
+fn begun_turn(run: &Run, at: usize) -> u32
+    requires { at < length run.now.records }
+    ensures { (r : Record) → slice_get run.now.records at ≡ Some r
+        → result ≡ option_map_or (λ (b : ℕ × ℕ). b.1) (begun_turn r.body) 0 }
 {
-    match event.body.begun_turn() {
-        Some((_, turn)) => turn,
-        None => 0,
-    }
+    run.next_turn(at).unwrap_or(0)
 }
 
 /// Returns by turn the places at which tasks that moved begin it, or end it, in file order.
@@ -98,7 +97,7 @@ fn begun_there(origins: &Origins, at: usize) -> Option<usize>
     if !origins.has_moved(index) {
         return None;
     }
-    let (_, turn) = origins.run().record(at).body.begun_turn()?;
+    let turn = origins.run().next_turn(at)?;
     Some(turn as usize)
 }
 
@@ -111,6 +110,6 @@ fn ended_there(origins: &Origins, at: usize) -> Option<usize>
     if !origins.has_moved(event.prior) {
         return None;
     }
-    let (_, turn) = origins.run().record(at).body.ended_turn()?;
+    let turn = origins.run().ended_turn(at)?;
     Some(turn as usize)
 }

@@ -1,12 +1,9 @@
 -- The tasks' own order of a trace: as in the file, or arranged.
-use Rattle.std.proofs.Common.{◌≡◌, ◌∙◌, ℕ, ◌<◌, ◌+◌, List, [], ◌∷◌, ◌++◌, length, take, Option, Some, None}
-use Rattle.std.proofs.Common.{refl, sym, ap, subst, arith, inl, inr}
-use Rattle.std.proofs.lemmas.Option.{none-some, same_Some, slice_get_within, get_or_from_slice_get}
-use Rattle.std.proofs.lemmas.List.{take_more}
-use Rattle.std.proofs.lemmas.List.Elements.{filter_map-append}
+use Rattle.std.proofs.Common.{◌≡◌, ◌∙◌, ℕ, ◌<◌, List, length, Option, Some, None}
+use Rattle.std.proofs.Common.{sym, ap, subst, arith, inl, inr}
+use Rattle.std.proofs.lemmas.Option.{none-some, same_Some, slice_get_within}
 use Rattle.std.proofs.lemmas.List.FromFn.{length-range_with_len}
 use Rattle.std.specs.Prelude.{slice_get, option_and_then, is_some}
-use Rattle.std.specs.List.{filter_map}
 use Rattle.ompt_events.specs.declared.records.Record.{Record}
 use Rattle.ompt_events.specs.Records.{joined}
 use Rattle.ompt_events.specs.Places.{at, places}
@@ -127,19 +124,3 @@ arranged_families rs families run file is records gap some order = record {
 }
 
 -- ---- the arranged records
-
--- one record more was copied
-pub copied_more : (rs copies pushed : List Record) (order : List ℕ) (number place : ℕ) (copy : Record)
-    → copies ≡ filter_map (slice_get rs) (take number order) → slice_get order number ≡ Some place
-    → slice_get rs place ≡ Some copy → pushed ≡ copies ++ copy ∷ []
-    → pushed ≡ filter_map (slice_get rs) (take (number + 1) order)
-copied_more rs copies pushed order number place copy are stands is more =
-    more ∙ ap (λ l. l ++ copy ∷ []) are
-    ∙ ap (λ l. filter_map (slice_get rs) (take number order) ++ l) (sym one)
-    ∙ sym (filter_map-append (slice_get rs) (take number order) (place ∷ []))
-    ∙ ap (filter_map (slice_get rs))
-    (ap (λ p. take number order ++ p ∷ []) (sym (get_or_from_slice_get order number place 0 stands))
-    ∙ sym (take_more order number 0 (slice_get_within order number place stands)))
-  where
-    one : filter_map (slice_get rs) (place ∷ []) ≡ copy ∷ []
-    one = rw is refl

@@ -3,7 +3,7 @@ use Rattle.std.proofs.Common.{◌≡◌, ◌∙◌, ℕ, ◌≤◌, ◌+◌, Lis
 use Rattle.std.proofs.Common.{sym, ap, subst, arith, inl, inr}
 use Rattle.std.proofs.lemmas.Option.{none-some, same_Some, slice_get_within, slice_get-get_or}
 use Rattle.std.proofs.lemmas.List.{length_push}
-use Rattle.std.specs.Prelude.{slice_get, IfSome, option_and_then}
+use Rattle.std.specs.Prelude.{slice_get, IfSome}
 use Rattle.ompt_events.specs.declared.records.Record.{Record}
 use Rattle.ompt_events.specs.Records.{made, begun_root}
 use Rattle.ompt_events.specs.Places.{at}
@@ -78,17 +78,16 @@ below_stood rs n link tasks links roots (Some found) links_are are is_link stand
     λ task is. child_stood rs n task found link tasks links roots links_are are is is_link stands
 
 -- what is known of a root by the record that makes it
-pub made_stood : (rs : List Record) (n place : ℕ) (event : Record) (tasks places : List ℕ)
-    (found : Option Standing)
-    → AreMade rs (length rs) tasks places → slice_get places n ≡ Some place → slice_get rs place ≡ Some event
-    → IfSome found (λ standing. (begun_root event.body ≡ Some standing.root) × (standing.depth ≡ 0))
+pub made_stood : (rs : List Record) (n place : ℕ) (tasks places : List ℕ) (found : Option Standing)
+    → AreMade rs (length rs) tasks places → slice_get places n ≡ Some place
+    → IfSome found (λ standing. (at begun_root rs place ≡ Some standing.root) × (standing.depth ≡ 0))
     → IfSome found (λ standing. (task : ℕ) → slice_get tasks n ≡ Some task → IsStood rs n task standing)
-made_stood rs n place event tasks places None are at_place is_event made = made
-made_stood rs n place event tasks places (Some found) are at_place is_event (begins, flat) = λ task is.
+made_stood rs n place tasks places None are at_place made = made
+made_stood rs n place tasks places (Some found) are at_place (begins, flat) = λ task is.
     let maker = are.each n task is in
     let same : maker.0 ≡ place = same_Some maker.0 place (sym maker.1 ∙ at_place) in
     root_stood rs place n task found (ap (at made rs) (sym same) ∙ maker.3)
-    (ap (option_and_then (λ (r : Record). begun_root r.body)) is_event ∙ begins) flat
+    begins flat
 
 -- what is known is near the top where there are few tasks
 pub above_shallow : (rs : List Record) (n index : ℕ) (tasks : List ℕ) (roots : List (Option Standing))

@@ -22,7 +22,8 @@ use Rattle.ompt_events.proofs.ListLemmas.{contains_get}
 use Rattle.ompt_events.proofs.TreeLemmas.{child_place}
 use Rattle.task_tree.specs.declared.links.Link.{Link}
 use Rattle.task_tree.specs.Makers.{AreNoted}
-use Rattle.task_tree.specs.Subjects.{subject, object, Calls, AreFound}
+use Rattle.task_tree.specs.Subjects.{Calls, AreFound}
+use Rattle.packed_trace.specs.Named.{subject, object}
 use Rattle.task_tree.specs.Family.{FamilyView, IsFamilyOf}
 use Rattle.index_tables.proofs.NumberingLemmas.{contains_or_not}
 use Rattle.task_tree.proofs.SubjectLemmas.{finds_calls}

@@ -20,7 +20,8 @@ use Rattle.ompt_events.proofs.ListLemmas.{get_pushed, get_last, get_contains, co
 use Rattle.index_tables.specs.Numbering.{AreApart}
 use Rattle.task_tree.specs.declared.makers.Names.{Names}
 use Rattle.task_tree.specs.Makers.{AreNoted, ArePlacesBelow, AreMade, AreGathered, AddsName, IsPlaceAgain}
-use Rattle.task_tree.specs.Makers.{forked_region, ids_named, least_of}
+use Rattle.task_tree.specs.Makers.{ids_named, least_of}
+use Rattle.packed_trace.specs.Packed.{forked_region}
 
 -- an earlier record says the same id
 abbrev pub Repeats : (Body → Option ℕ) → List Record → ℕ → Type 0

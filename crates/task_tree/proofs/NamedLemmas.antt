@@ -18,7 +18,8 @@ use Rattle.ompt_events.specs.Flags as flag
 use Rattle.ompt_events.specs.Flags.{has_flag}
 use Rattle.ompt_events.specs.Records.{joined, begun_initial, dependences, started, finish, region}
 use Rattle.ompt_events.specs.Places.{at}
-use Rattle.task_tree.specs.Subjects.{subject, object, Calls}
+use Rattle.task_tree.specs.Subjects.{Calls}
+use Rattle.packed_trace.specs.Named.{subject, object}
 use Rattle.ompt_events.proofs.RecordLemmas.{at_through}
 use Rattle.task_tree.proofs.SubjectLemmas.{call_index}
 

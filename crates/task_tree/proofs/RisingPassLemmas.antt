@@ -2,7 +2,7 @@
 use Rattle.std.proofs.Common.{◌≡◌, ◌≢◌, ◌∙◌, ℕ, ◌<◌, ◌≤◌, ◌+◌, ◌-◌, ◌⊎◌, ◌↔◌, List, [], ◌∷◌, ◌++◌, length}
 use Rattle.std.proofs.Common.{get_or, Option, Some, None, cond, refl, sym, ap, subst, arith, inl, inr, set}
 use Rattle.std.proofs.lemmas.Bool.{cases_eq, cases_lt, cases_order, eq-eqb, ne_eqb, eqb-true}
-use Rattle.std.proofs.lemmas.Option.{none-some, same_Some, slice_get_within}
+use Rattle.std.proofs.lemmas.Option.{get_or_from_slice_get, none-some, same_Some, slice_get_within}
 use Rattle.std.proofs.lemmas.List.{length-set}
 use Rattle.std.proofs.lemmas.List.Sums.{fold_push}
 use Rattle.std.specs.Prelude.{◌==◌, slice_get, option_and_then, option_map, IsTrue, IsSomeAnd, MatchOption}
@@ -44,6 +44,10 @@ use Rattle.task_tree.proofs.TurnTableLemmas.{turn_own, turn_other}
 
 none_now : (known : Latest) → known.turn ≡ None → turn_now known ≡ 0
 none_now known is = ap (λ (o : Option ℕ). unwrap_or o 0) is
+
+-- the record at a place, as a read of the list has it
+pub read_there : (rs : List Record) (i : ℕ) (r : Record) → slice_get rs i ≡ Some r → r ≡ get_or rs i r
+read_there rs i r stands = sym (get_or_from_slice_get rs i r r stands)
 
 some_now : (known : Latest) (turn : ℕ) → known.turn ≡ Some turn → turn_now known ≡ turn
 some_now known turn is = ap (λ (o : Option ℕ). unwrap_or o 0) is

@@ -3,21 +3,23 @@ use Rattle.std.proofs.Common.{◌≡◌, ◌∙◌, ℕ, ◌<◌, ◌≤◌, ◌
 use Rattle.std.proofs.Common.{None, refl, sym, ap, subst, arith, inl, inr}
 use Rattle.std.proofs.lemmas.Option.{none-some, same_Some, slice_get_within, slice_get-get_or}
 use Rattle.std.proofs.lemmas.Bool.{false≢true, cases_eq}
-use Rattle.std.specs.Prelude.{◌↔◌, ◌⊎◌, zero, suc, is_some, true, false, slice_get, Contains, IsSomeAnd}
+use Rattle.std.specs.Prelude.{◌↔◌, ◌⊎◌, zero, suc, is_some, true, false, slice_get, Contains, IfSome}
+use Rattle.std.specs.Prelude.{IsSomeAnd}
 use Rattle.std.specs.Prelude.{option_map, option_and_then, option_to_list}
 use Rattle.ompt_events.specs.declared.records.Record.{Record}
 use Rattle.ompt_events.specs.declared.cause.Cause.TheVariants.{Rootless}
-use Rattle.ompt_events.specs.Records.{made, named, created, claim, region_named}
+use Rattle.ompt_events.specs.Records.{made, named, created, creation, claim, region_named}
 use Rattle.ompt_events.specs.Places.{at}
 use Rattle.ompt_events.specs.Tree.{IsRoot, IsRooted, root as root_rooted, child as child_rooted, HasPath, top}
 use Rattle.ompt_events.specs.Tree.{below}
 use Rattle.ompt_events.specs.Causes.{IsMade, IsForked, HasNoRoot, unmade, unrooted, no_region, HasCause}
 use Rattle.ompt_events.specs.Causes.{rootless, IsFirstWith, IsFreeOf}
-use Rattle.ompt_events.proofs.PlaceLemmas.{read_get, at_read, at_within, some_and, and_some}
+use Rattle.ompt_events.proofs.PlaceLemmas.{at_get, at_within, none_from_test, some_and, and_some}
 use Rattle.ompt_events.proofs.RecordLemmas.{begun_at_made, created_at_made}
 use Rattle.ompt_events.proofs.TreeLemmas.{child_place}
 use Rattle.ompt_events.proofs.ListLemmas.{contains_get, get_contains}
-use Rattle.task_tree.specs.Makers.{AreNoted, forked_region}
+use Rattle.task_tree.specs.Makers.{AreNoted}
+use Rattle.packed_trace.specs.Packed.{forked_region}
 use Rattle.task_tree.specs.declared.roots.Standing.{Standing}
 use Rattle.task_tree.specs.Roots.{AreRoots}
 use Rattle.std.specs.List.{Any}
@@ -27,9 +29,10 @@ use Rattle.ompt_events.specs.declared.records.Body.TheVariants.{TaskCreate, Depe
 use Rattle.ompt_events.specs.declared.records.Body.TheVariants.{SyncRegion, Cancel}
 use Rattle.ompt_events.specs.declared.records.Claim.{Claim}
 use Rattle.index_tables.specs.Numbering.{AreApart}
-use Rattle.task_tree.specs.Subjects.{subject, object, Finds, AreFound}
+use Rattle.task_tree.specs.Subjects.{Finds, AreFound, IsKnownAt}
+use Rattle.packed_trace.specs.Named.{subject, object}
 use Rattle.task_tree.specs.Rootless.{AreRootsMade, CreatesUnrooted, NamesNoRegion, IsRootless, NamesKnown}
-use Rattle.task_tree.specs.Rootless.{AllNameKnown}
+use Rattle.task_tree.specs.Rootless.{AllNameKnown, IsMissing}
 use Rattle.task_tree.proofs.MakerLemmas.{forked_at, region_at}
 
 -- a task that stands below a root is rooted
@@ -66,40 +69,40 @@ noted_forked rs regions region are has =
 pub rootless_here : (rs : List Record) (tasks regions : List ℕ) (roots : List (Option Standing)) (i : ℕ)
     (r : Record)
     → AreNoted made rs (length rs) tasks → AreNoted forked_region rs (length rs) regions
-    → AreRoots rs tasks roots → i < length rs → r ≡ get_or rs i r → IsRootless tasks regions roots r.body
+    → AreRoots rs tasks roots → slice_get rs i ≡ Some r → IsRootless tasks regions roots r.body
     → HasNoRoot rs i
-rootless_here rs tasks regions roots i r noted begun are within read (inl (k, task, low, is, fresh)) =
-    unmade task (r, read_get rs i r within read, (k, low, is))
+rootless_here rs tasks regions roots i r noted begun are stands (inl (k, task, low, is, fresh)) =
+    unmade task (r, stands, (k, low, is))
     (λ is_made. fresh (made_noted rs tasks task noted is_made))
-rootless_here rs tasks regions roots i r noted begun are within read (inr (inl h)) =
+rootless_here rs tasks regions roots i r noted begun are stands (inr (inl h)) =
     let found = some_and (created r.body) _ h in
-    let creates : at created rs i ≡ Some found.0 = at_read created rs i r within read ∙ found.1 in
+    let creates : at created rs i ≡ Some found.0 = at_get created rs i r stands ∙ found.1 in
     let index =
-    contains_get tasks found.0 (noted.each i found.0 within (created_at_made found.0 rs i creates)) in
+    contains_get tasks found.0 (noted.each i found.0 (slice_get_within rs i r stands)
+    (created_at_made found.0 rs i creates)) in
     unrooted found.0 creates (are.unrooted index.0 found.0 index.1 (found.2 index.0 index.1))
-rootless_here rs tasks regions roots i r noted begun are within read (inr (inr h)) =
+rootless_here rs tasks regions roots i r noted begun are stands (inr (inr h)) =
     let found = some_and (region_named r.body) _ h in
-    no_region found.0 (at_read region_named rs i r within read ∙ found.1)
+    no_region found.0 (at_get region_named rs i r stands ∙ found.1)
     (λ forks. found.2 (forked_noted rs regions found.0 begun forks))
 
 -- and back
 pub here_rootless : (rs : List Record) (tasks regions : List ℕ) (roots : List (Option Standing)) (i : ℕ)
     (r : Record)
     → AreNoted made rs (length rs) tasks → AreNoted forked_region rs (length rs) regions
-    → AreRoots rs tasks roots → i < length rs → r ≡ get_or rs i r → HasNoRoot rs i
+    → AreRoots rs tasks roots → slice_get rs i ≡ Some r → HasNoRoot rs i
     → IsRootless tasks regions roots r.body
-here_rootless rs tasks regions roots i r noted begun are within read (unmade task (other, stands, has) fresh)
-    =
-    let same : other ≡ r = same_Some other r (sym stands ∙ read_get rs i r within read) in
+here_rootless rs tasks regions roots i r noted begun are here_is (unmade task (other, stands, has) fresh) =
+    let same : other ≡ r = same_Some other r (sym stands ∙ here_is) in
     let P : Record → Type 0 = λ q. Contains (named q.body) task in
     let here = subst P same has in
     inl (here.0, task, here.1, here.2, λ is_noted. fresh (noted_made rs tasks task noted is_noted))
-here_rootless rs tasks regions roots i r noted begun are within read (unrooted task creates none) =
+here_rootless rs tasks regions roots i r noted begun are here_is (unrooted task creates none) =
     inr
     (inl
     (and_some (created r.body)
     (λ t. (index : ℕ) → slice_get tasks index ≡ Some t → slice_get roots index ≡ Some None) task
-    (sym (at_read created rs i r within read) ∙ creates) (no_root task none)))
+    (sym (at_get created rs i r here_is) ∙ creates) (no_root task none)))
   where
     no_root : (t : ℕ) → (IsRooted rs t → ⊥) → (index : ℕ) → slice_get tasks index ≡ Some t
         → slice_get roots index ≡ Some None
@@ -113,11 +116,11 @@ here_rootless rs tasks regions roots i r noted begun are within read (unrooted t
         of (Some standing) e =
             let stands = are.rooted index t standing is e in
             absurd (never (path_rooted rs standing.root t stands.0 stands.1))
-here_rootless rs tasks regions roots i r noted begun are within read (no_region region names none) =
+here_rootless rs tasks regions roots i r noted begun are here_is (no_region region names none) =
     inr
     (inr
     (and_some (region_named r.body) (λ g. Contains regions g → ⊥) region
-    (sym (at_read region_named rs i r within read) ∙ names)
+    (sym (at_get region_named rs i r here_is) ∙ names)
     (λ has. none (noted_forked rs regions region begun has))))
 
 pub no_root_at : (rs : List Record) (i : ℕ) → HasCause rs i Rootless → HasNoRoot rs i
@@ -144,11 +147,6 @@ free_of_rootless rs n none all i has =
     none i (let inside = rootless_within rs i here in omega arith) here
 
 -- ---- what decides of a record, by the slots of its subject and its object
-
--- a task that is named, and its slot is empty
-abbrev pub IsMissing : Option ℕ → Option ℕ → Type 0
-IsMissing None slot = ⊥
-IsMissing (Some task) slot = slot ≡ None
 
 any_head : (P : ℕ → Type 0) (x : ℕ) (xs : List ℕ) → Any P (x ∷ xs) → P x ⊎ Any P xs
 any_head P x xs (zero, y, low, is, holds) = inl (subst P (sym is) holds)
@@ -253,121 +251,38 @@ claim_root : (P : ℕ → Type 0) (claimed : Option Claim)
 claim_root P None = (λ h. h, λ h. h)
 claim_root P (Some c) = (λ h. h, λ h. h)
 
-pub full_missing : (o slot : Option ℕ) → (slot ≡ None → ⊥) → IsMissing o slot → ⊥
-full_missing None slot full missing = missing
-full_missing (Some task) slot full missing = full missing
-
-pub none_missing : (o slot : Option ℕ) → o ≡ None → IsMissing o slot → ⊥
-none_missing None slot none missing = missing
-none_missing (Some task) slot none missing = none-some task (sym none)
-
 no_and : {X : Type 0} (o : Option X) (P : X → Type 0) → o ≡ None → IsSomeAnd o P → ⊥
 no_and None P none h = h
 no_and (Some x) P none h = none-some x (sym none)
 
 -- an empty slot alone
-pub missing_subject : (tasks regions : List ℕ) (roots : List (Option Standing)) (b : Body) (task : ℕ)
-    (first : Option ℕ)
-    → Finds tasks (subject b) first → subject b ≡ Some task → first ≡ None → IsRootless tasks regions roots b
-missing_subject tasks regions roots b task first finds is none =
-    let P : Option ℕ → Type 0 = λ o. IsMissing o first in
+pub subject_missing : (tasks regions : List ℕ) (roots : List (Option Standing)) (b : Body) (first : Option ℕ)
+    → Finds tasks (subject b) first → IsMissing (subject b) first → IsRootless tasks regions roots b
+subject_missing tasks regions roots b first finds none =
+    inl
+    ((named_by (λ t. Contains tasks t → ⊥) b).1 (inl (missing_fresh tasks (subject b) first finds none)))
+
+pub object_missing : (tasks regions : List ℕ) (roots : List (Option Standing)) (b : Body) (second : Option ℕ)
+    → Finds tasks (object b) second → IsMissing (object b) second → IsRootless tasks regions roots b
+object_missing tasks regions roots b second finds none =
     inl
     ((named_by (λ t. Contains tasks t → ⊥) b).1
-    (inl (missing_fresh tasks (subject b) first finds (subst P (sym is) none))))
+    (inr (inl (missing_fresh tasks (object b) second finds none))))
 
-missing_object : (tasks regions : List ℕ) (roots : List (Option Standing)) (b : Body) (task : ℕ)
-    (second : Option ℕ)
-    → Finds tasks (object b) second → object b ≡ Some task → second ≡ None → IsRootless tasks regions roots b
-missing_object tasks regions roots b task second finds is none =
-    let P : Option ℕ → Type 0 = λ o. IsMissing o second in
-    inl
-    ((named_by (λ t. Contains tasks t → ⊥) b).1
-    (inr (inl (missing_fresh tasks (object b) second finds (subst P (sym is) none)))))
-
-pub missing_next : (tasks regions : List ℕ) (roots : List (Option Standing)) (b : Body)
-    (next second : Option ℕ)
-    → Finds tasks (object b) second → object b ≡ next → is_some next ≡ true → second ≡ None
-    → IsRootless tasks regions roots b
-missing_next tasks regions roots b None second finds is some none = absurd (false≢true some)
-missing_next tasks regions roots b (Some task) second finds is some none =
-    missing_object tasks regions roots b task second finds is none
-
-pub no_next : (next : Option ℕ) → is_some next ≡ false → next ≡ None
-no_next None none = refl
-no_next (Some task) none = absurd (false≢true (sym none))
-
--- where no slot is empty, the rest decides
-rest_of : (tasks regions : List ℕ) (roots : List (Option Standing)) (b : Body) (first second : Option ℕ)
-    → Finds tasks (subject b) first → Finds tasks (object b) second → (first ≡ None → ⊥)
-    → (IsMissing (object b) second → ⊥) → IsRootless tasks regions roots b
-    → IsSomeAnd (claim b) (λ c. Contains tasks c.root → ⊥)
-    ⊎ (CreatesUnrooted tasks roots b ⊎ NamesNoRegion regions b)
-rest_of tasks regions roots b first second finds found full filled (inl has) =
+-- where no slot is empty and the claim is of a task that is made, it is the child or the region
+pub rest_of : (tasks regions : List ℕ) (roots : List (Option Standing)) (b : Body) (first second : Option ℕ)
+    → Finds tasks (subject b) first → Finds tasks (object b) second → (IsMissing (subject b) first → ⊥)
+    → (IsMissing (object b) second → ⊥) → (IsSomeAnd (claim b) (λ c. Contains tasks c.root → ⊥) → ⊥)
+    → IsRootless tasks regions roots b → CreatesUnrooted tasks roots b ⊎ NamesNoRegion regions b
+rest_of tasks regions roots b first second finds found full filled claimed (inl has) =
     elim ((named_by (λ t. Contains tasks t → ⊥) b).0 has) [
-      | inl fresh ↦
-          absurd (full_missing (subject b) first full (fresh_missing tasks (subject b) first finds fresh))
+      | inl fresh ↦ absurd (full (fresh_missing tasks (subject b) first finds fresh))
       | inr more ↦ elim more [
         | inl fresh ↦ absurd (filled (fresh_missing tasks (object b) second found fresh))
-        | inr fresh ↦ inl ((claim_root (λ t. Contains tasks t → ⊥) (claim b)).1 fresh)
+        | inr fresh ↦ absurd (claimed ((claim_root (λ t. Contains tasks t → ⊥) (claim b)).1 fresh))
       ]
     ]
-rest_of tasks regions roots b first second finds found full filled (inr rest) = inr rest
-
--- a record that names one task and no region
-pub subject_left : (tasks regions : List ℕ) (roots : List (Option Standing)) (b : Body) (task : ℕ)
-    (first second : Option ℕ)
-    → Finds tasks (subject b) first → Finds tasks (object b) second → subject b ≡ Some task → object b ≡ None
-    → claim b ≡ None → created b ≡ None → region_named b ≡ None → IsRootless tasks regions roots b
-    → first ≡ None
-subject_left tasks regions roots b task None second finds found is no_object no_claim no_child none has = refl
-subject_left tasks regions roots b task (Some index) second finds found is no_object no_claim no_child none
-    has =
-    elim
-    (rest_of tasks regions roots b (Some index) second finds found (λ e. none-some index (sym e))
-    (none_missing (object b) second no_object) has) [
-      | inl claimed ↦ absurd (no_and (claim b) _ no_claim claimed)
-      | inr more ↦
-          elim more [
-            | inl child ↦
-                absurd (no_and (created b) _ no_child child)
-            | inr region ↦
-                absurd (no_and (region_named b) _ none region)
-          ]
-    ]
-
--- a record that names a region too
-pub region_left : (tasks regions : List ℕ) (roots : List (Option Standing)) (b : Body)
-    (first second : Option ℕ)
-    → Finds tasks (subject b) first → Finds tasks (object b) second → (first ≡ None → ⊥) → object b ≡ None
-    → claim b ≡ None → created b ≡ None → IsRootless tasks regions roots b → NamesNoRegion regions b
-region_left tasks regions roots b first second finds found full no_object no_claim no_child has =
-    elim
-    (rest_of tasks regions roots b first second finds found full
-    (none_missing (object b) second no_object) has) [
-      | inl claimed ↦ absurd (no_and (claim b) _ no_claim claimed)
-      | inr more ↦
-          elim more [ inl child ↦ absurd (no_and (created b) _ no_child child) | inr region ↦ region ]
-    ]
-
--- a record that may have a claim
-pub claim_left : (tasks regions : List ℕ) (roots : List (Option Standing)) (b : Body)
-    (first second : Option ℕ) (claimed : Option Claim)
-    → Finds tasks (subject b) first → Finds tasks (object b) second → (first ≡ None → ⊥)
-    → (IsMissing (object b) second → ⊥) → claim b ≡ claimed → created b ≡ None → region_named b ≡ None
-    → IsRootless tasks regions roots b → IsSomeAnd claimed (λ c. Contains tasks c.root → ⊥)
-claim_left tasks regions roots b first second claimed finds found full filled is no_child none has =
-    elim (rest_of tasks regions roots b first second finds found full filled has) [
-      | inl claimed ↦
-          let P : Option Claim → Type 0 = λ o. IsSomeAnd o (λ c. Contains tasks c.root → ⊥) in
-          subst P is claimed
-      | inr more ↦
-          elim more [
-            | inl child ↦
-                absurd (no_and (created b) _ no_child child)
-            | inr region ↦
-                absurd (no_and (region_named b) _ none region)
-          ]
-    ]
+rest_of tasks regions roots b first second finds found full filled claimed (inr rest) = rest
 
 pub claim_rootless : (tasks regions : List ℕ) (roots : List (Option Standing)) (b : Body)
     (claimed : Option Claim)
@@ -379,44 +294,34 @@ claim_rootless tasks regions roots b claimed is has =
     ((named_by (λ t. Contains tasks t → ⊥) b).1
     (inr (inr ((claim_root (λ t. Contains tasks t → ⊥) (claim b)).0 (subst P (sym is) has)))))
 
--- a record that creates a task
-pub child_left : (tasks regions : List ℕ) (roots : List (Option Standing)) (b : Body) (child : ℕ)
-    (first second : Option ℕ)
-    → Finds tasks (subject b) first → Finds tasks (object b) second → (first ≡ None → ⊥)
-    → object b ≡ Some child → created b ≡ Some child → claim b ≡ None → region_named b ≡ None
-    → IsRootless tasks regions roots b → (index : ℕ) → second ≡ Some index → slice_get roots index ≡ Some None
-child_left tasks regions roots b child first None finds found full names makes no_claim none has index is =
-    absurd (none-some index is)
-child_left tasks regions roots b child first (Some at) finds found full names makes no_claim none has index is
-    =
-    elim
-    (rest_of tasks regions roots b first (Some at) finds found full
-    (full_missing (object b) (Some at) (λ e. none-some at (sym e))) has) [
-      | inl claimed ↦ absurd (no_and (claim b) _ no_claim claimed)
-      | inr more ↦ elim more [
-        | inl unrooted_child ↦
-            let it = some_and (created b) _ unrooted_child in
-            it.2 index
-            (ap (slice_get tasks) (sym (same_Some at index is)) ∙ found.2 ∙ sym found.1 ∙ names
-            ∙ sym makes ∙ it.1)
-        | inr region ↦ absurd (no_and (region_named b) _ none region)
-      ]
-    ]
+-- the index in a slot is that of a task
+pub slot_low : (tasks : List ℕ) (roots : List (Option Standing)) (found slot : Option ℕ)
+    → length roots ≡ length tasks → Finds tasks found slot → IfSome slot (λ index. index < length roots)
+slot_low tasks roots found None all finds = tt
+slot_low tasks roots found (Some index) all (task, is, stands) =
+    let inside = slice_get_within tasks index task stands in omega (arith, inside, all)
 
-pub child_rootless : (tasks regions : List ℕ) (roots : List (Option Standing)) (b : Body) (child : ℕ)
-    (second : Option ℕ)
-    → AreApart tasks → Finds tasks (object b) second → object b ≡ Some child → created b ≡ Some child
-    → ((index : ℕ) → second ≡ Some index → slice_get roots index ≡ Some None)
-    → IsRootless tasks regions roots b
-child_rootless tasks regions roots b child None apart finds names makes none =
-    missing_object tasks regions roots b child None finds names refl
-child_rootless tasks regions roots b child (Some at) apart (other, says, stands) names makes none =
-    let same : other ≡ child = same_Some other child (sym says ∙ names) in
-    inr
-    (inl
-    (and_some (created b)
-    (λ t. (index : ℕ) → slice_get tasks index ≡ Some t → slice_get roots index ≡ Some None) child
-    makes (λ index is. none index (ap Some (apart at index child (stands ∙ ap Some same) is)))))
+-- a record that creates no task
+pub no_child : (tasks : List ℕ) (roots : List (Option Standing)) (b : Body) → is_some (creation b) ≡ false
+    → CreatesUnrooted tasks roots b → ⊥
+no_child tasks roots b none has =
+    no_and (created b) (λ t. (index : ℕ) → slice_get tasks index ≡ Some t → slice_get roots index ≡ Some None)
+    (ap (option_map (λ (p : ℕ × ℕ). p.1)) (none_from_test (creation b) none)) has
+
+-- and one that creates a task, whose index is in the slot
+pub unrooted_child : (tasks : List ℕ) (roots : List (Option Standing)) (b : Body) (second : Option ℕ)
+    → AreApart tasks → Finds tasks (object b) second → (IsMissing (object b) second → ⊥)
+    → is_some (creation b) ≡ true
+    → ((index : ℕ) → second ≡ Some index → slice_get roots index ≡ Some None) ↔ CreatesUnrooted tasks roots b
+unrooted_child tasks roots (TaskCreate deps given task child) None apart finds filled some =
+    absurd (filled refl)
+unrooted_child tasks roots (TaskCreate deps given task child) (Some at) apart (other, says, stands) filled
+    some =
+    let same : other ≡ child = same_Some other child (sym says) in (
+      λ none index is. none index (ap Some (apart at index child (stands ∙ ap Some same) is)),
+      λ has index is. has index (ap (slice_get tasks) (sym (same_Some at index is)) ∙ stands ∙ ap Some same),
+    )
+unrooted_child tasks roots _ second apart finds filled some = absurd (false≢true some)
 
 -- a chain of parents ends at a root
 path_root : (rs : List Record) (root task : ℕ) (path : List ℕ) → HasPath rs root task path → IsRoot rs root
@@ -436,19 +341,17 @@ roots_made rs tasks roots noted are index standing is =
     made_noted rs tasks standing.root noted (top_is.0, begun_at_made standing.root rs top_is.0 top_is.1)
 
 -- what the slot of a place holds
-pub slot_finds : (says : Body → Option ℕ) (rs : List Record) (tasks : List ℕ) (slots : List (Option ℕ))
-    (i : ℕ) (r : Record) (slot : Option ℕ)
-    → AreFound says rs (length rs) tasks slots → i < length rs → r ≡ get_or rs i r
-    → slot ≡ get_or slots i slot → Finds tasks (says r.body) slot
-slot_finds says rs tasks slots i r slot are within read here =
+pub finds_there : (says : Body → Option ℕ) (rs : List Record) (tasks : List ℕ) (slots : List (Option ℕ))
+    (i : ℕ)
+    (slot : Option ℕ) → AreFound says rs (length rs) tasks slots → i < length rs
+    → slot ≡ get_or slots i slot → Finds tasks (at says rs i) slot
+finds_there says rs tasks slots i slot are within here =
     let found = are.each i within in
-    let P : Option ℕ → Type 0 = λ o. Finds tasks (says r.body) o in
-    let Q : Option ℕ → Type 0 = λ o. Finds tasks o found.0 in
+    let Q : Option ℕ → Type 0 = λ o. Finds tasks (at says rs i) o in
     let same : found.0 ≡ slot =
     same_Some found.0 slot
-    (sym found.1 ∙ slice_get-get_or slots i slot (omega (arith, within, are.all))
-    ∙ ap Some (sym here)) in
-    subst P same (subst Q (at_read says rs i r within read) found.2)
+    (sym found.1 ∙ slice_get-get_or slots i slot (omega (arith, within, are.all)) ∙ ap Some (sym here)) in
+    subst Q same found.2
 
 -- ---- where all that the records name is known
 
@@ -464,6 +367,32 @@ known_more rs n tasks regions r are here known i other low stands = elim (cases_
       subst P (same_Some r other (sym here ∙ ap (slice_get rs) (sym same) ∙ stands)) known
   | inr apart ↦ are i other (omega arith) stands
 ]
+
+-- if each task and region that the record at a place names is known, so it is of its body
+pub named_known : (rs : List Record) (tasks regions : List ℕ) (i : ℕ) (r : Record) → slice_get rs i ≡ Some r
+    → IsKnownAt tasks regions rs i → NamesKnown tasks regions r.body
+named_known rs tasks regions i r stands known = (
+  λ unmade_one.
+      elim ((named_by (λ t. Contains tasks t → ⊥) r.body).0 unmade_one) [
+        | inl fresh ↦ not_both (subject r.body) (Contains tasks)
+            (rw (at_get subject rs i r stands) at known.first) fresh
+        | inr more ↦ elim more [
+          | inl fresh ↦
+              not_both (object r.body) (Contains tasks) (rw (at_get object rs i r stands) at known.second)
+              fresh
+          | inr fresh ↦
+              not_both (claim r.body) (λ (c : Claim). Contains tasks c.root)
+              (rw (at_get claim rs i r stands) at known.root)
+              ((claim_root (λ t. Contains tasks t → ⊥) (claim r.body)).1 fresh)
+        ]
+      ],
+  λ none. not_both (region_named r.body) (Contains regions)
+      (rw (at_get region_named rs i r stands) at known.region) none,
+)
+  where
+    not_both : {X : Type 0} (o : Option X) (P : X → Type 0) → IfSome o P → IsSomeAnd o (λ x. P x → ⊥) → ⊥
+    not_both None P holds never = never
+    not_both (Some x) P holds never = never holds
 
 -- and each root too, no record is rootless
 pub known_free : (rs : List Record) (tasks regions : List ℕ) (roots : List (Option Standing))

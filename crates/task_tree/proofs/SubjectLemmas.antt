@@ -15,7 +15,8 @@ use Rattle.task_tree.proofs.LinkLemmas.{get_set_same, get_set_other}
 use Rattle.index_tables.specs.Numbering.{AreApart}
 use Rattle.task_tree.specs.Links.{IsSlotOf}
 use Rattle.index_tables.proofs.NumberingLemmas.{index_is}
-use Rattle.task_tree.specs.Subjects.{subject, object, Finds, Calls, AreFound, AreFoundUpTo}
+use Rattle.task_tree.specs.Subjects.{Finds, Calls, AreFound, AreFoundUpTo}
+use Rattle.packed_trace.specs.Named.{subject, object}
 
 pub finds_none : (tasks : List ℕ) (task : ℕ) (index : Option ℕ)
     → ((k : ℕ) → (index ≡ Some k) ↔ (slice_get tasks k ≡ Some task)) → index ≡ None

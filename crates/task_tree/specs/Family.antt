@@ -5,9 +5,8 @@ use Rattle.ompt_events.specs.declared.records.Record.{Record}
 use Rattle.ompt_events.specs.declared.cause.Cause.TheVariants.{CreatedTwice, Rootless}
 use Rattle.ompt_events.specs.Records.{made}
 use Rattle.ompt_events.specs.Places.{at}
-use Rattle.task_tree.specs.declared.packed.PackedEvent.{PackedEvent}
-use Rattle.task_tree.specs.Packed.{ArePacked}
-use Rattle.task_tree.specs.Subjects.{subject, object, AreFound}
+use Rattle.packed_trace.specs.Named.{subject, object}
+use Rattle.task_tree.specs.Subjects.{AreFound}
 use Rattle.ompt_events.specs.Causes.{IsFreeOf}
 use Rattle.task_tree.specs.declared.links.Link.{Link}
 use Rattle.task_tree.specs.declared.roots.Standing.{Standing}
@@ -20,12 +19,11 @@ use Rattle.task_tree.specs.Roots.{AreRoots}
 
 -- the view of a family: the tasks in the order in which they are made; by index of the task the place of
 -- the record that makes it, the row of its children, its link to its parent and its root; by place of the
--- record its packed event and the indices of the tasks that it names; and the hashers of a table of the
+-- record the indices of the tasks that it names; and the hashers of a table of the
 -- regions that begin
 pub record FamilyView : Type 0 where
   pub tasks : List ℕ
   pub places : List ℕ
-  pub events : List PackedEvent
   pub subjects : List (Option ℕ)
   pub objects : List (Option ℕ)
   pub rows : RowsView
@@ -43,7 +41,6 @@ AreAligned tasks places rows links roots =
 pub record IsFamilyOf (rs : List Record) (family : FamilyView) : Type 0 where
   pub noted : AreNoted made rs (length rs) family.tasks
   pub makers : AreMade rs (length rs) family.tasks family.places
-  pub events : ArePacked rs family.events
   pub subjects : AreFound subject rs (length rs) family.tasks family.subjects
   pub objects : AreFound object rs (length rs) family.tasks family.objects
   pub children : AreChildren rs family.tasks family.rows

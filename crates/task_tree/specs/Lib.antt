@@ -7,7 +7,6 @@
 -- `ompt_events` (Turns).
 pub mod Family
 pub mod Runs
-pub mod Packed
 pub mod Own
 pub mod Paths
 pub mod LinkSlots

@@ -1,17 +1,14 @@
 -- What is noted of the records while they are visited.
 use Rattle.std.specs.Prelude.{ℕ, ◌≡◌, ◌<◌, ◌≤◌, ◌++◌, ◌∷◌, [], List, length, Option, Some, None}
-use Rattle.std.specs.Prelude.{Contains, option_map, slice_get, min}
+use Rattle.std.specs.Prelude.{Contains, slice_get, min}
 use Rattle.std.specs.List.{filter_map, range_with_len}
 use Rattle.ompt_events.specs.declared.records.Record.{Record}
 use Rattle.ompt_events.specs.declared.records.Body.{Body}
-use Rattle.ompt_events.specs.Records.{made, forked}
+use Rattle.ompt_events.specs.Records.{made}
 use Rattle.ompt_events.specs.Places.{at}
+use Rattle.packed_trace.specs.Packed.{forked_region}
 use Rattle.index_tables.specs.Numbering.{AreApart, IsFirstAgain}
 use Rattle.task_tree.specs.declared.makers.Names.{Names}
-
--- the parallel region that begins
-abbrev pub forked_region : Body → Option ℕ
-forked_region body = option_map (λ (p : ℕ × ℕ). p.1) (forked body)
 
 -- the ids that the first n records name in this way, in file order, each as often as it is named
 abbrev pub ids_named : (Body → Option ℕ) → List Record → ℕ → List ℕ

@@ -3,6 +3,7 @@ use Rattle.std.specs.Prelude.{ℕ, ◌≡◌, ◌++◌, List, length, reverse, S
 use Rattle.std.specs.Global.{Vec}
 use Rattle.ompt_events.specs.declared.records.Record.{Record}
 use Rattle.ompt_events.specs.Tree.{HasPath}
+use Rattle.ompt_events.specs.Traces.{TraceView}
 use Rattle.ompt_events.specs.Turns.{in_own_order}
 use Rattle.task_tree.specs.Families.{FamiliesView, AreFamiliesOf, own_family}
 
@@ -26,12 +27,15 @@ pub record IsClimbed (rs : List Record) (tasks : List ℕ) (root : ℕ) (path : 
   pub reversed : numbers ≡ reverse passed
   pub all : length passed ≡ steps
 
--- the view of a tree: the families of its tasks, and by index of the task in its own order its path
+-- the view of a tree: the trace, the families of its tasks, and by index of the task in its own order its
+-- path
 pub record TreeView : Type 0 where
+  pub trace : TraceView
   pub families : FamiliesView
   pub paths : List (Vec ℕ)
 
 -- the tree is that of the records' tasks, by their own order
 pub record IsTreeOf (rs : List Record) (tree : TreeView) : Type 0 where
+  pub trace : tree.trace.records ≡ rs
   pub families : AreFamiliesOf rs tree.families
   pub paths : ArePaths (in_own_order rs) (own_family tree.families).tasks tree.paths

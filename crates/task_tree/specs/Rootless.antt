@@ -22,6 +22,11 @@ CreatesUnrooted tasks roots body =
     IsSomeAnd (created body) (λ task. (index : ℕ) → slice_get tasks index ≡ Some task
     → slice_get roots index ≡ Some None)
 
+-- a task is named, and its slot is empty
+abbrev pub IsMissing : Option ℕ → Option ℕ → Type 0
+IsMissing None slot = ⊥
+IsMissing (Some task) slot = slot ≡ None
+
 -- a region is named that was not noted as begun
 abbrev pub NamesNoRegion : List ℕ → Body → Type 0
 NamesNoRegion regions body = IsSomeAnd (region_named body) (λ region. Contains regions region → ⊥)

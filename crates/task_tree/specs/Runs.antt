@@ -1,6 +1,5 @@
 -- A run: the records of a trace and the family of its tasks. What its records say, by indices of tasks.
-use Rattle.std.specs.Prelude.{ℕ, ◌≡◌, Bool, List, Option, Some, None, false, option_map, slice_get}
-use Rattle.std.specs.Option.{option_map_or}
+use Rattle.std.specs.Prelude.{ℕ, ◌≡◌, List, Option, Some, None, slice_get}
 use Rattle.ompt_events.specs.declared.records.Record.{Record}
 use Rattle.ompt_events.specs.declared.records.Body.{Body}
 use Rattle.ompt_events.specs.declared.records.Part.{Part}
@@ -9,10 +8,8 @@ use Rattle.ompt_events.specs.declared.names.SyncKind.{SyncKind}
 use Rattle.ompt_events.specs.declared.names.Endpoint.{Endpoint}
 use Rattle.ompt_events.specs.declared.names.WaitKind.{WaitKind}
 use Rattle.ompt_events.specs.declared.deps.Dep.{Dep}
-use Rattle.ompt_events.specs.Flags as flag
-use Rattle.ompt_events.specs.Flags.{has_flag}
 use Rattle.ompt_events.specs.Records.{begun_root, creation, dependences, ended_root, finish, forked, region}
-use Rattle.ompt_events.specs.Records.{running, schedule, flags as says_flags}
+use Rattle.ompt_events.specs.Records.{running, schedule}
 use Rattle.ompt_events.specs.Places.{at}
 use Rattle.ompt_events.specs.Traces.{IsTrace, IsTraceOf}
 use Rattle.ompt_events.specs.Waits.{wait_kind}
@@ -37,10 +34,6 @@ pub record IsRun (run : RunView) : Type 0 where
 abbrev pub IsIndexOf : RunView → (Body → Option ℕ) → ℕ → Option ℕ → Type 0
 IsIndexOf run says i index = Calls run.family.tasks (at says run.records i) index
 
--- whether the task that the record makes is a taskwait with dependences: it has the flag `taskwait` (15.5)
-abbrev pub is_wait_made : List Record → ℕ → Bool
-is_wait_made rs i = option_map_or (λ bits. has_flag bits flag.taskwait) (at says_flags rs i) false
-
 -- the task at the one index creates the one at the other there (OpenMP 5.2, 19.5.2.7)
 pub record IsCreation (run : RunView) (i parent child : ℕ) : Type 0 where
   pub creator : ℕ
@@ -60,10 +53,6 @@ pub record IsRegionEvent (run : RunView) (i index : ℕ) (kind : SyncKind) (endp
   pub task : ℕ
   pub says : at region run.records i ≡ Some (task, kind, endpoint)
   pub indexed : slice_get run.family.tasks index ≡ Some task
-
--- the status of a task_schedule event
-abbrev pub schedule_status : Body → Option Status
-schedule_status body = option_map (λ (s : Status × ℕ × Option ℕ). s.0) (schedule body)
 
 -- a task_schedule event there has this status, and the tasks at these indices (19.5.2.10)
 pub record IsSchedule (run : RunView) (i : ℕ) (schedule_status : Status) (prior : ℕ) (next : Option ℕ) : Type

@@ -2,7 +2,7 @@
 ghost use Rattle.std.specs.Prelude.{◌≡◌, IfOk, replicate};
 ghost use Rattle.task_tree.specs.Chains.{AreChainsFrom};
 
-use ompt_events::Record;
+use packed_trace::PackedTrace;
 use std::alloc::{AllocError, Global};
 
 /// The chains of the records' places, one for each thread.
@@ -15,14 +15,15 @@ pub(crate) struct Chains {
 }
 
 /// Returns the chains of the records. Takes one pass from the last record to the first.
-pub(crate) fn find_chains(alloc: Global, records: &[Record]) -> Result<Chains, AllocError>
-    ensures { IfOk result (λ chains. AreChainsFrom records.now 0 chains.firsts.items chains.nexts.items) }
+pub(crate) fn find_chains(alloc: Global, trace: &PackedTrace) -> Result<Chains, AllocError>
+    ensures { IfOk result (λ chains. AreChainsFrom trace.now.records 0 chains.firsts.items chains.nexts.items) }
 {
-    let mut firsts = ends(alloc, 256, records.len())?;
-    let mut nexts = ends(alloc, records.len(), records.len())?;
-    for passed in 0..records.len() {
-        let at = records.len() - 1 - passed;
-        let thread = usize::from(records[at].thread);
+    let count = trace.len();
+    let mut firsts = ends(alloc, 256, count)?;
+    let mut nexts = ends(alloc, count, count)?;
+    for passed in 0..count {
+        let at = count - 1 - passed;
+        let thread = usize::from(trace.thread(at));
         nexts[at] = firsts[thread];
         firsts[thread] = at;
     }

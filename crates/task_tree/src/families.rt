@@ -12,7 +12,6 @@ ghost use Rattle.task_tree.specs.Runs.{IsRun};
 ghost use Rattle.task_tree.specs.OwnOrder.{AreAllPlaces};
 ghost use Rattle.task_tree.specs.Families.{AreFamiliesOf, IsOwnOf, own_family};
 
-use crate::copies::copy_of;
 use crate::family::Family;
 use crate::gaps::find_gap;
 use crate::own::Own;
@@ -20,7 +19,8 @@ use crate::own_order::{OwnOrder, arrange};
 use crate::rising::turns_rise;
 use crate::run::Run;
 use crate::turn_table::turns_of;
-use ompt_events::{Fault, Record, Trace};
+use ompt_events::Fault;
+use packed_trace::PackedTrace;
 use std::alloc::{AllocError, Global};
 use std::marker::Model;
 
@@ -50,7 +50,7 @@ impl Model for Families {
 /// The records of a trace in the tasks' own order, with the family of its tasks by that order.
 #[derive(Debug, Drop)]
 struct Arranged {
-    trace: Trace,
+    trace: PackedTrace,
     family: Family,
 }
 
@@ -69,22 +69,23 @@ impl Families {
     /// made twice, else with Rootless if a record names a task without a root or a region without a begin;
     /// and when out of memory. In version 2, copies the records into the tasks' own order, unless
     /// `turns_rise` holds in file order.
-    pub fn build(alloc: Global, trace: &Trace) -> Result<Families, Fault>
+    pub fn build(alloc: Global, trace: &PackedTrace) -> Result<Families, Fault>
         ensures families { IfOk result (AreFamiliesOf trace.now.records) }
         ensures fault { IfErr result (IsFault trace.now.records (CreatedTwice ∷ Rootless ∷ [])) }
     {
+        let count = trace.len();
         let file = Family::build(alloc, trace)?;
         if is_in_own_order(alloc, trace, &file)? {
             return Ok(Families {
                 file,
                 arranged: None,
-                order: OwnOrder::in_file(trace.records().len()),
+                order: OwnOrder::in_file(count),
                 gap: None,
             });
         }
-        let turns = turns_of(alloc, trace.records(), &file)?;
-        let gap = find_gap(alloc, trace.records(), &file, &turns)?;
-        let order = arrange(alloc, trace.records(), turns.as_slice())?;
+        let turns = turns_of(alloc, trace, &file)?;
+        let gap = find_gap(alloc, trace, &file, &turns)?;
+        let order = arrange(alloc, trace, turns.as_slice())?;
         let arranged = Some(Arranged::of(alloc, trace, &order)?);
         Ok(Families {
             file,
@@ -95,7 +96,7 @@ impl Families {
     }
 
     /// Returns the run of the trace. Requires that the families are those of the trace.
-    pub fn run<'a>(&'a self, trace: &'a Trace) -> Run<'a>
+    pub fn run<'a>(&'a self, trace: &'a PackedTrace) -> Run<'a>
         requires { AreFamiliesOf trace.now.records self.now }
         ensures records { result.records ≡ trace.now.records }
         ensures family { result.family ≡ self.now.file }
@@ -104,7 +105,7 @@ impl Families {
     }
 
     /// Returns the run of the trace in the tasks' own order. Requires the same.
-    pub fn own<'a>(&'a self, trace: &'a Trace) -> Own<'a>
+    pub fn own<'a>(&'a self, trace: &'a PackedTrace) -> Own<'a>
         requires { AreFamiliesOf trace.now.records self.now }
         ensures { IsOwnOf trace.now.records result }
     {
@@ -135,22 +136,21 @@ impl Families {
 
 /// Returns true only if file order is the tasks' own order and no record has a turn gap. Returns true for
 /// each trace of version 1.
-fn is_in_own_order(alloc: Global, trace: &Trace, family: &Family) -> Result<bool, AllocError>
+fn is_in_own_order(alloc: Global, trace: &PackedTrace, family: &Family) -> Result<bool, AllocError>
     requires { IsFamilyOf trace.now.records family.now }
     ensures rises { IfOk result (λ own. IsTrue own → TurnsRise trace.now.records) }
     ensures gapless { IfOk result (λ own. IsTrue own → IsFreeOf trace.now.records TurnGap) }
 {
-    let records = trace.records();
     if trace.version() == 1 {
         return Ok(true);
     }
-    turns_rise(alloc, records, family)
+    turns_rise(alloc, trace, family)
 }
 
 impl Arranged {
     /// Returns the records of a trace in the tasks' own order. Requires a trace that makes each task and each
     /// parallel region once, and names none without a root or a begin. Fails only when out of memory.
-    fn of(alloc: Global, trace: &Trace, order: &OwnOrder) -> Result<Arranged, Fault>
+    fn of(alloc: Global, trace: &PackedTrace, order: &OwnOrder) -> Result<Arranged, Fault>
         requires once { IsFreeOf trace.now.records CreatedTwice }
         requires rooted { IsFreeOf trace.now.records Rootless }
         requires order { order.now ≡ own_places trace.now.records }
@@ -158,8 +158,7 @@ impl Arranged {
         ensures is_run { IfOk result IsRun }
         ensures memory_alone { IfErr result (λ fault. fault ≡ Memory) }
     {
-        let records = arranged_records(alloc, trace.records(), order)?;
-        let trace = Trace::from_parts(trace.version(), records);
+        let trace = arranged_trace(alloc, trace, order)?;
         let family = Family::build(alloc, &trace)?;
         Ok(Arranged { trace, family })
     }
@@ -172,18 +171,20 @@ impl Arranged {
     }
 }
 
-/// Returns copies of the records, in this order.
-fn arranged_records(
+/// Returns copies of the records, in the tasks' own order.
+fn arranged_trace(
     alloc: Global,
-    records: &[Record],
+    trace: &PackedTrace,
     order: &OwnOrder,
-) -> Result<Vec<Record>, AllocError>
-    requires { AreAllPlaces order.now (length records.now) }
-    ensures { IfOk result (λ copies. copies.items ≡ filter_map (slice_get records.now) order.now) }
+) -> Result<PackedTrace, AllocError>
+    requires { order.now ≡ own_places trace.now.records }
+    ensures version { IfOk result (λ copies. copies.version ≡ trace.now.version) }
+    ensures records { IfOk result (λ copies. copies.records ≡ in_own_order trace.now.records) }
 {
-    let mut copies = Vec::with_capacity(alloc, records.len())?;
-    for number in 0..records.len() {
-        copies.push(copy_of(alloc, &records[order.place(number)])?)?;
+    let mut copies = PackedTrace::new(alloc);
+    copies.begin(trace.version());
+    for number in 0..trace.len() {
+        copies.push_from(alloc, trace, order.place(number))?;
     }
     Ok(copies)
 }

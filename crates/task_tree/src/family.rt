@@ -7,20 +7,20 @@ ghost use Rattle.ompt_events.specs.Records.{made};
 ghost use Rattle.ompt_events.specs.Places.{at as says_at};
 ghost use Rattle.ompt_events.specs.Tree.{IsRoot, IsExplicit, IsParent, IsChild, HasPath, children};
 ghost use Rattle.task_tree.specs.Family.{IsFamilyOf, HasRegionSeed, AreInFileOrder, IsLinkOf, IsStandingOf};
-ghost use Rattle.task_tree.specs.Packed.{packed};
-ghost use Rattle.task_tree.specs.Subjects.{subject, object, Calls};
+ghost use Rattle.packed_trace.specs.Named.{subject, object};
+ghost use Rattle.task_tree.specs.Subjects.{Calls};
 
 use crate::link_slot::LinkSlot;
 use crate::links::{Link, Linked};
 use crate::makers::{Made, find_made};
-use crate::packed::PackedEvent;
 use crate::rootless::find_rootless;
 use crate::roots::{Standing, find_roots};
 use crate::rows::find_rows;
 use crate::standing_slot::StandingSlot;
 use crate::subjects::{Lookup, find_subjects};
 use index_tables::{Numbering, Rows, Seeded, Slot};
-use ompt_events::{Cause, Fault, Record, Trace, exclude};
+use ompt_events::{Cause, Fault, Record, exclude};
+use packed_trace::PackedTrace;
 use std::alloc::Global;
 use std::marker::Model;
 
@@ -30,7 +30,6 @@ use std::marker::Model;
 pub struct Family {
     tasks: Numbering,
     places: Vec<u32>,
-    events: Vec<PackedEvent>,
     subjects: Vec<Slot>,
     objects: Vec<Slot>,
     rows: Rows,
@@ -47,7 +46,6 @@ impl Model for Family {
     ghost view = { λ family. record {
       tasks = family.tasks;
       places = family.places.items;
-      events = family.events.items;
       subjects = family.subjects.items;
       objects = family.objects.items;
       rows = family.rows;
@@ -65,33 +63,27 @@ impl Family {
     /// Returns the family of the trace's tasks. Fails with CreatedTwice if a task or a parallel region is
     /// made twice, else with Rootless if a record names a task without a root or a region without a begin;
     /// and when out of memory.
-    pub fn build(alloc: Global, trace: &Trace) -> Result<Family, Fault>
+    pub fn build(alloc: Global, trace: &PackedTrace) -> Result<Family, Fault>
         ensures family { IfOk result (IsFamilyOf trace.now.records) }
         ensures order { IfOk result (λ family. AreInFileOrder trace.now.records family.tasks) }
         ensures seeded { IfOk result (HasRegionSeed trace.now.records) }
         ensures fault { IfErr result (IsFault trace.now.records (CreatedTwice ∷ Rootless ∷ [])) }
     {
-        let records = trace.records();
         let Made {
             tasks,
             places,
             regions,
-        } = find_made(alloc, records)?;
-        let Lookup {
-            events,
-            named,
-            linked,
-        } = find_subjects(alloc, records, &tasks, &regions)?;
+        } = find_made(alloc, trace)?;
+        let Lookup { named, linked } = find_subjects(alloc, trace, &tasks, &regions)?;
         let Linked { counts, links } = linked;
         let rows = find_rows(alloc, tasks.as_slice(), counts.as_slice(), links.as_slice())?;
         drop(counts);
-        let roots = find_roots(alloc, records, &tasks, &places, &links, &rows)?;
-        let unrooted = find_rootless(records, &tasks, &named, &regions, roots.as_slice());
+        let roots = find_roots(alloc, trace, &tasks, &places, &links, &rows)?;
+        let unrooted = find_rootless(trace, &tasks, &named, &regions, roots.as_slice());
         exclude(Cause::Rootless, unrooted)?;
         Ok(Family {
             tasks,
             places,
-            events,
             subjects: named.subjects,
             objects: named.objects,
             rows,
@@ -134,15 +126,6 @@ impl Family {
             → says_at made records result ≡ slice_get self.now.tasks index }
     {
         self.places[index] as usize
-    }
-
-    /// Returns the packed event of the record at a place.
-    pub(crate) fn event(&self, at: usize) -> PackedEvent
-        requires { at < length self.now.events }
-        ensures { (records : List Record) → IsFamilyOf records self.now
-            → option_map packed (slice_get records at) ≡ Some result }
-    {
-        self.events[at]
     }
 
     /// Returns the index of the task that the record at a place is of: the root that begins or ends, the

@@ -10,25 +10,25 @@ ghost use Rattle.task_tree.specs.Forward.{AreStandingsKnown, StandsBelow, IsStoo
 use crate::link_slot::LinkSlot;
 use crate::roots::Standing;
 use crate::standing_slot::StandingSlot;
-use ompt_events::Record;
+use packed_trace::PackedTrace;
 use std::alloc::{AllocError, Global};
 
 /// Returns by index of the task its standing; none if a task is made before its parent, or has no root.
 pub(crate) fn find_forward(
     alloc: Global,
-    records: &[Record],
+    trace: &PackedTrace,
     tasks: &[u64],
     places: &[u32],
     links: &[LinkSlot],
 ) -> Result<Option<Vec<StandingSlot>>, AllocError>
-    requires places { AreMade records.now (length records.now) tasks.now places.now }
-    requires links { AreLinks records.now (length records.now) tasks.now links.now }
-    requires few { length records.now ≤ 2 ^ 22 }
-    ensures { IfOk result (λ found. IfSome found (λ roots. AreRoots records.now tasks.now roots.items)) }
+    requires places { AreMade trace.now.records (length trace.now.records) tasks.now places.now }
+    requires links { AreLinks trace.now.records (length trace.now.records) tasks.now links.now }
+    requires few { length trace.now.records ≤ 2 ^ 22 }
+    ensures { IfOk result (λ found. IfSome found (λ roots. AreRoots trace.now.records tasks.now roots.items)) }
 {
     let mut roots = Vec::with_capacity(alloc, tasks.len())?;
     for index in 0..tasks.len() {
-        let found = standing_at(records, tasks, places, links, roots.as_slice(), index);
+        let found = standing_at(trace, tasks, places, links, roots.as_slice(), index);
         let Some(standing) = found else {
             return Ok(None);
         };
@@ -39,7 +39,7 @@ pub(crate) fn find_forward(
 
 /// Returns the standing of the task at this index, if it is a root or its parent's standing is known.
 fn standing_at(
-    records: &[Record],
+    trace: &PackedTrace,
     tasks: &[u64],
     places: &[u32],
     links: &[LinkSlot],
@@ -47,16 +47,16 @@ fn standing_at(
     index: usize,
 ) -> Option<Standing>
     requires within { index < length tasks.now }
-    requires places { AreMade records.now (length records.now) tasks.now places.now }
-    requires links { AreLinks records.now (length records.now) tasks.now links.now }
-    requires few { length records.now ≤ 2 ^ 22 }
-    requires roots { AreStandingsKnown records.now index tasks.now roots.now }
+    requires places { AreMade trace.now.records (length trace.now.records) tasks.now places.now }
+    requires links { AreLinks trace.now.records (length trace.now.records) tasks.now links.now }
+    requires few { length trace.now.records ≤ 2 ^ 22 }
+    requires roots { AreStandingsKnown trace.now.records index tasks.now roots.now }
     ensures { IfSome result (λ standing. (task : ℕ) → slice_get tasks.now index ≡ Some task
-        → IsStood records.now index task standing) }
+        → IsStood trace.now.records index task standing) }
 {
     match links[index].get() {
         Some(link) => below(roots, link.parent as usize),
-        None => root_made(&records[places[index] as usize]),
+        None => root_made(trace, places[index] as usize),
     }
 }
 
@@ -73,10 +73,11 @@ fn below(roots: &[StandingSlot], parent: usize) -> Option<Standing>
 }
 
 /// Returns the standing of the root that the record begins, if it begins one.
-fn root_made(event: &Record) -> Option<Standing>
-    ensures { IfSome result (λ standing. (begun_root event.now.body ≡ Some standing.root)
+fn root_made(trace: &PackedTrace, at: usize) -> Option<Standing>
+    requires { at < length trace.now.records }
+    ensures { IfSome result (λ standing. (says_at begun_root trace.now.records at ≡ Some standing.root)
         × (standing.depth ≡ 0)) }
 {
-    let root = event.body.begun_root()?;
+    let root = trace.begun_root(at)?;
     Some(Standing { depth: 0, root })
 }

@@ -13,7 +13,7 @@ ghost use Rattle.ompt_events.specs.Faults.{FindsFirst};
 ghost use Rattle.task_tree.specs.TurnTable.{AreTurns};
 ghost use Rattle.task_tree.specs.GapSearch.{pair_cmp, kept_turn, AreFirst, AreRootsBegun, AreFirstBegins, IsTurnRaised, AreGreatestTurns, IsBegunBefore, IsFalling, BeginsRoot, LacksBefore, IsWrongStart};
 
-use ompt_events::Record;
+use packed_trace::PackedTrace;
 use std::alloc::{AllocError, Global};
 use std::collections::{BTreeMap, BTreeSet};
 
@@ -39,40 +39,39 @@ struct Start {
 /// not be a trace.
 pub(crate) fn search_gap(
     alloc: Global,
-    records: &[Record],
+    trace: &PackedTrace,
     turns: &[u32],
 ) -> Result<Option<usize>, AllocError>
-    requires { AreTurns records.now turns.now }
-    ensures { IfOk result (FindsFirst records.now TurnGap) }
+    requires { AreTurns trace.now.records turns.now }
+    ensures { IfOk result (FindsFirst trace.now.records TurnGap) }
 {
-    let begins = find_begins(alloc, records)?;
+    let begins = find_begins(alloc, trace)?;
     let mut greatest = BTreeMap::new(alloc);
-    for at in 0..records.len() {
-        let event = &records[at];
-        if has_gap(&begins, &greatest, event, at, turns[at]) {
+    for at in 0..trace.len() {
+        if has_gap(trace, &begins, &greatest, at, turns[at]) {
             return Ok(Some(at));
         }
-        raise_turn(&mut greatest, event)?;
+        raise_turn(&mut greatest, trace, at)?;
     }
     Ok(None)
 }
 
 /// Returns the places at which the turns of the records begin.
-fn find_begins(alloc: Global, records: &[Record]) -> Result<Begins, AllocError>
-    ensures { IfOk result (AreFirstBegins records.now) }
+fn find_begins(alloc: Global, trace: &PackedTrace) -> Result<Begins, AllocError>
+    ensures { IfOk result (AreFirstBegins trace.now.records) }
 {
-    let first = find_first(alloc, records)?;
-    let roots = find_roots(alloc, records)?;
+    let first = find_first(alloc, trace)?;
+    let roots = find_roots(alloc, trace)?;
     Ok(Begins { first, roots })
 }
 
 /// Returns by task and turn the place of the first record after which the task runs in the turn.
-fn find_first(alloc: Global, records: &[Record]) -> Result<BTreeMap<(u64, u32), usize>, AllocError>
-    ensures { IfOk result (AreFirst records.now (length records.now)) }
+fn find_first(alloc: Global, trace: &PackedTrace) -> Result<BTreeMap<(u64, u32), usize>, AllocError>
+    ensures { IfOk result (AreFirst trace.now.records (length trace.now.records)) }
 {
     let mut first = BTreeMap::new(alloc);
-    for at in 0..records.len() {
-        note_first(&mut first, records, at)?;
+    for at in 0..trace.len() {
+        note_first(&mut first, trace, at)?;
     }
     Ok(first)
 }
@@ -80,14 +79,14 @@ fn find_first(alloc: Global, records: &[Record]) -> Result<BTreeMap<(u64, u32), 
 /// Notes the record at a place, if a task runs after it in a turn in which it did not run before.
 fn note_first(
     first: &mut BTreeMap<(u64, u32), usize>,
-    records: &[Record],
+    trace: &PackedTrace,
     at: usize,
 ) -> Result<(), AllocError>
-    requires within { at < length records.now }
-    requires first { AreFirst records.now at first.old }
-    ensures { OnOk result (AreFirst records.now (at + 1) first.new) }
+    requires within { at < length trace.now.records }
+    requires first { AreFirst trace.now.records at first.old }
+    ensures { OnOk result (AreFirst trace.now.records (at + 1) first.new) }
 {
-    let Some(turn) = records[at].body.begun_turn() else {
+    let Some(turn) = trace.begun_turn(at) else {
         return Ok(());
     };
     if first_begin(first, turn).is_none() {
@@ -104,23 +103,23 @@ fn first_begin(first: &BTreeMap<(u64, u32), usize>, turn: (u64, u32)) -> Option<
 }
 
 /// Returns the initial and implicit tasks.
-fn find_roots(alloc: Global, records: &[Record]) -> Result<BTreeSet<u64>, AllocError>
-    ensures { IfOk result (AreRootsBegun records.now (length records.now)) }
+fn find_roots(alloc: Global, trace: &PackedTrace) -> Result<BTreeSet<u64>, AllocError>
+    ensures { IfOk result (AreRootsBegun trace.now.records (length trace.now.records)) }
 {
     let mut roots = BTreeSet::new(alloc);
-    for at in 0..records.len() {
-        note_root(&mut roots, records, at)?;
+    for at in 0..trace.len() {
+        note_root(&mut roots, trace, at)?;
     }
     Ok(roots)
 }
 
 /// Notes the root that begins at a place, if one does.
-fn note_root(roots: &mut BTreeSet<u64>, records: &[Record], at: usize) -> Result<(), AllocError>
-    requires within { at < length records.now }
-    requires roots { AreRootsBegun records.now at roots.old }
-    ensures { OnOk result (AreRootsBegun records.now (at + 1) roots.new) }
+fn note_root(roots: &mut BTreeSet<u64>, trace: &PackedTrace, at: usize) -> Result<(), AllocError>
+    requires within { at < length trace.now.records }
+    requires roots { AreRootsBegun trace.now.records at roots.old }
+    ensures { OnOk result (AreRootsBegun trace.now.records (at + 1) roots.new) }
 {
-    if let Some(task) = records[at].body.begun_root() {
+    if let Some(task) = trace.begun_root(at) {
         roots.insert(task)?;
     }
     Ok(())
@@ -136,43 +135,51 @@ fn kept_turn(kept: &BTreeMap<(u8, u64), u32>, thread: u8, task: u64) -> u32
     }
 }
 
-/// Keeps the turn that the record begins, if it is greater than the one that is kept.
-fn raise_turn(kept: &mut BTreeMap<(u8, u64), u32>, event: &Record) -> Result<(), AllocError>
-    ensures { OnOk result (IsTurnRaised kept.old kept.new event.now) }
+/// Keeps the turn that the record at a place begins, if it is greater than the one that is kept.
+fn raise_turn(
+    kept: &mut BTreeMap<(u8, u64), u32>,
+    trace: &PackedTrace,
+    at: usize,
+) -> Result<(), AllocError>
+    requires { at < length trace.now.records }
+    ensures { (r : Record) → slice_get trace.now.records at ≡ Some r
+        → OnOk result (IsTurnRaised kept.old kept.new r) }
 {
-    let Some((task, turn)) = event.body.begun_turn() else {
+    let Some((task, turn)) = trace.begun_turn(at) else {
         return Ok(());
     };
-    if kept_turn(kept, event.thread, task) < turn {
-        kept.insert((event.thread, task), turn)?;
+    let thread = trace.thread(at);
+    if kept_turn(kept, thread, task) < turn {
+        kept.insert((thread, task), turn)?;
     }
     Ok(())
 }
 
 /// Returns whether the record at a place, which is in this turn of its task, has a turn gap.
 fn has_gap(
+    trace: &PackedTrace,
     begins: &Begins,
     greatest: &BTreeMap<(u8, u64), u32>,
-    event: &Record,
     at: usize,
     turn: u32,
 ) -> bool
-    ensures { (records : List Record) → AreFirstBegins records begins.now → AreGreatestTurns records at greatest.now
-        → slice_get records at ≡ Some event.now → turn ≡ turn_at records at
-        → IsTrue result ↔ HasTurnGap records at }
+    requires { at < length trace.now.records }
+    ensures { AreFirstBegins trace.now.records begins.now
+        → AreGreatestTurns trace.now.records at greatest.now → turn ≡ turn_at trace.now.records at
+        → IsTrue result ↔ HasTurnGap trace.now.records at }
 {
-    let Some(told) = event.body.told_turns() else {
+    let Some(told) = trace.told_turns(at) else {
         return false;
     };
     if told.prior != turn {
         return true;
     }
-    let Some((task, next)) = event.body.begun_turn() else {
+    let Some((task, next)) = trace.begun_turn(at) else {
         return false;
     };
     let start = Start {
         at,
-        thread: event.thread,
+        thread: trace.thread(at),
         task,
         turn: next,
     };

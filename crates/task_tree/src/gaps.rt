@@ -17,60 +17,60 @@ use crate::gap_search::search_gap;
 use crate::rising::{Begin, start_at, tells_other};
 use crate::turn_rows::{TurnRows, find_rows, has_begun};
 use crate::turn_table::RecordTurns;
-use ompt_events::Record;
+use packed_trace::PackedTrace;
 use std::alloc::{AllocError, Global};
 
 /// Returns the place of the first record with a turn gap, given the turn of each record. Takes a few steps
 /// for each record if each gives the right turns. Requires of the records only that the family is theirs.
 pub fn find_gap(
     alloc: Global,
-    records: &[Record],
+    trace: &PackedTrace,
     family: &Family,
     turns: &RecordTurns,
 ) -> Result<Option<usize>, AllocError>
-    requires family { IsFamilyOf records.now family.now }
-    requires turns { AreTurns records.now turns.now.turns }
-    requires order { IsOrderTold records.now turns.now.in_order }
-    ensures { IfOk result (FindsFirst records.now TurnGap) }
+    requires family { IsFamilyOf trace.now.records family.now }
+    requires turns { AreTurns trace.now.records turns.now.turns }
+    requires order { IsOrderTold trace.now.records turns.now.in_order }
+    ensures { IfOk result (FindsFirst trace.now.records TurnGap) }
 {
-    if is_gapless(alloc, records, family, turns)? {
+    if is_gapless(alloc, trace, family, turns)? {
         return Ok(None);
     }
-    search_gap(alloc, records, turns.as_slice())
+    search_gap(alloc, trace, turns.as_slice())
 }
 
 /// Returns true only if no record has a turn gap. Returns false without one only if a task runs next at a
 /// record that gives no turns.
 fn is_gapless(
     alloc: Global,
-    records: &[Record],
+    trace: &PackedTrace,
     family: &Family,
     turns: &RecordTurns,
 ) -> Result<bool, AllocError>
-    requires family { IsFamilyOf records.now family.now }
-    requires turns { AreTurns records.now turns.now.turns }
-    requires order { IsOrderTold records.now turns.now.in_order }
-    ensures { IfOk result (λ free. IsTrue free → IsFreeOf records.now TurnGap) }
+    requires family { IsFamilyOf trace.now.records family.now }
+    requires turns { AreTurns trace.now.records turns.now.turns }
+    requires order { IsOrderTold trace.now.records turns.now.in_order }
+    ensures { IfOk result (λ free. IsTrue free → IsFreeOf trace.now.records TurnGap) }
 {
     if !turns.are_in_order() {
         return Ok(false);
     }
-    match find_rows(alloc, records, family)? {
-        Some(rows) => Ok(tell_rightly(records, family, &rows, turns.as_slice())),
+    match find_rows(alloc, trace, family)? {
+        Some(rows) => Ok(tell_rightly(trace, family, &rows, turns.as_slice())),
         None => Ok(false),
     }
 }
 
 /// Returns true only if each record gives the turn of its prior task, and a turn of the next one that may
 /// begin there.
-fn tell_rightly(records: &[Record], family: &Family, rows: &TurnRows, turns: &[u32]) -> bool
-    requires family { IsFamilyOf records.now family.now }
-    requires rows { AreTurnRows records.now family.now.tasks rows.now.offsets.items rows.now.begun.items }
-    requires turns { AreTurns records.now turns.now }
-    ensures { IsTrue result → (i : ℕ) → i < length records.now → TellsRightly records.now i }
+fn tell_rightly(trace: &PackedTrace, family: &Family, rows: &TurnRows, turns: &[u32]) -> bool
+    requires family { IsFamilyOf trace.now.records family.now }
+    requires rows { AreTurnRows trace.now.records family.now.tasks rows.now.offsets.items rows.now.begun.items }
+    requires turns { AreTurns trace.now.records turns.now }
+    ensures { IsTrue result → (i : ℕ) → i < length trace.now.records → TellsRightly trace.now.records i }
 {
-    for at in 0..records.len() {
-        if !tells_rightly(records, family, rows, turns[at], at) {
+    for at in 0..trace.len() {
+        if !tells_rightly(trace, family, rows, turns[at], at) {
             return false;
         }
     }
@@ -79,30 +79,36 @@ fn tell_rightly(records: &[Record], family: &Family, rows: &TurnRows, turns: &[u
 
 /// Returns true only if the record at the place, which is in this turn of its task, gives the turn of its
 /// prior task, and a turn of the next one that may begin there.
-fn tells_rightly(records: &[Record], family: &Family, rows: &TurnRows, turn: u32, at: usize) -> bool
-    requires within { at < length records.now }
-    requires family { IsFamilyOf records.now family.now }
-    requires rows { AreTurnRows records.now family.now.tasks rows.now.offsets.items rows.now.begun.items }
-    requires turn { turn ≡ turn_at records.now at }
-    ensures { IsTrue result → TellsRightly records.now at }
+fn tells_rightly(
+    trace: &PackedTrace,
+    family: &Family,
+    rows: &TurnRows,
+    turn: u32,
+    at: usize,
+) -> bool
+    requires within { at < length trace.now.records }
+    requires family { IsFamilyOf trace.now.records family.now }
+    requires rows { AreTurnRows trace.now.records family.now.tasks rows.now.offsets.items rows.now.begun.items }
+    requires turn { turn ≡ turn_at trace.now.records at }
+    ensures { IsTrue result → TellsRightly trace.now.records at }
 {
-    if tells_other(&records[at], turn) {
+    if tells_other(trace, at, turn) {
         return false;
     }
-    match start_at(records, family, at) {
-        Some(begin) => may_begin(records, family, rows, begin),
+    match start_at(trace, family, at) {
+        Some(begin) => may_begin(trace, family, rows, begin),
         None => true,
     }
 }
 
 /// Returns true only if the turn before begins too, and it is not turn 0 of a root: that begins where the
 /// root does.
-fn may_begin(records: &[Record], family: &Family, rows: &TurnRows, begin: Begin) -> bool
-    requires family { IsFamilyOf records.now family.now }
-    requires rows { AreTurnRows records.now family.now.tasks rows.now.offsets.items rows.now.begun.items }
+fn may_begin(trace: &PackedTrace, family: &Family, rows: &TurnRows, begin: Begin) -> bool
+    requires family { IsFamilyOf trace.now.records family.now }
+    requires rows { AreTurnRows trace.now.records family.now.tasks rows.now.offsets.items rows.now.begun.items }
     requires index { begin.index < length family.now.tasks }
     ensures { IsTrue result → (task : ℕ) → slice_get family.now.tasks begin.index ≡ Some task
-        → MayBeginThere records.now task begin.turn }
+        → MayBeginThere trace.now.records task begin.turn }
 {
     if begin.turn == 0 {
         return family.is_explicit_at(begin.index);

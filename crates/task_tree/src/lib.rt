@@ -1,11 +1,10 @@
 //! The tree of tasks: which task created which, in which order, and the root and the path of each.
 //!
-//! `Family` has parents, numbers, roots and children, and of each record what it says in eight bytes and the
-//! index of each task that it names, so that no later phase searches for a task again or fetches all
-//! records. `Run` is the records with their family, which all later phases take: it says by place what a
+//! `Family` has parents, numbers, roots and children, and of each record the index of each task that it names,
+//! so that no later phase searches for a task again. `Run` is the records with their family, which all later phases take: it says by place what a
 //! record is. `Own` is a run whose records are in the tasks' own order; `Families` have both, and `Tree` has
 //! the paths too. Read `run`, `own`, `family`, `families` and `tree` for what a caller sees, then the steps
-//! of a build: `makers`, `subjects` (after `links` and `packed`), `rows`, `roots` (after `forward`) and
+//! of a build: `makers`, `subjects` (after `links`), `rows`, `roots` (after `forward`) and
 //! `rootless`. They share the tables of `index_tables`; `link_slot` is a link or none, `standing_slot` the
 //! root and depth of a task or none, and `hints` guesses the index of a task.
 //!
@@ -19,7 +18,6 @@
 
 mod chains;
 mod climbing;
-mod copies;
 mod families;
 mod family;
 mod forward;
@@ -33,7 +31,6 @@ mod links;
 mod makers;
 mod own;
 mod own_order;
-mod packed;
 mod paths;
 mod rising;
 mod rootless;

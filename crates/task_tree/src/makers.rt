@@ -5,11 +5,13 @@ ghost use Rattle.ompt_events.specs.declared.fault.Fault.TheVariants.{Malformed};
 ghost use Rattle.ompt_events.specs.Records.{made};
 ghost use Rattle.ompt_events.specs.Causes.{IsFreeOf};
 ghost use Rattle.index_tables.specs.Numbering.{AreApart};
-ghost use Rattle.task_tree.specs.Makers.{AreNoted, AreMade, AreGathered, AddsName, IsPlaceAgain, begun_regions, forked_region, least_of};
+ghost use Rattle.task_tree.specs.Makers.{AreNoted, AreMade, AreGathered, AddsName, IsPlaceAgain, begun_regions, least_of};
 ghost use Rattle.ompt_events.specs.Faults.{IsFault};
+ghost use Rattle.packed_trace.specs.Packed.{forked_region};
 
 use index_tables::Numbering;
-use ompt_events::{Body, Cause, Fault, Record};
+use ompt_events::{Cause, Fault};
+use packed_trace::PackedTrace;
 use std::alloc::{AllocError, Global};
 
 /// The tasks that the records make and the parallel regions that they begin, each in file order, and by
@@ -67,18 +69,18 @@ impl Names {
 
 /// Returns what the records make. Fails with CreatedTwice at the first record that makes a task or a region
 /// again, or when out of memory.
-pub(crate) fn find_made(alloc: Global, records: &[Record]) -> Result<Made, Fault>
-    requires few { length records.now ≤ 2 ^ 22 }
-    ensures tasks { IfOk result (λ found. AreNoted made records.now (length records.now) found.tasks) }
-    ensures places { IfOk result (λ found. AreMade records.now
-        (length records.now) found.tasks found.places.items) }
-    ensures regions { IfOk result (λ found. AreNoted forked_region records.now
-        (length records.now) found.regions) }
-    ensures begun { IfOk result (λ found. found.regions ≡ begun_regions records.now) }
-    ensures free { IfOk result (λ _. IsFreeOf records.now CreatedTwice) }
-    ensures found { IfErr result (IsFault records.now (CreatedTwice ∷ [])) }
+pub(crate) fn find_made(alloc: Global, trace: &PackedTrace) -> Result<Made, Fault>
+    ensures few { IfOk result (λ _. length trace.now.records ≤ 2 ^ 22) }
+    ensures tasks { IfOk result (λ found. AreNoted made trace.now.records (length trace.now.records) found.tasks) }
+    ensures places { IfOk result (λ found. AreMade trace.now.records
+        (length trace.now.records) found.tasks found.places.items) }
+    ensures regions { IfOk result (λ found. AreNoted forked_region trace.now.records
+        (length trace.now.records) found.regions) }
+    ensures begun { IfOk result (λ found. found.regions ≡ begun_regions trace.now.records) }
+    ensures free { IfOk result (λ _. IsFreeOf trace.now.records CreatedTwice) }
+    ensures found { IfErr result (IsFault trace.now.records (CreatedTwice ∷ [])) }
 {
-    let Gathered { tasks, regions } = gather(alloc, records)?;
+    let Gathered { tasks, regions } = gather(alloc, trace)?;
     let tasks = match number(alloc, tasks)? {
         Ok(tasks) => tasks,
         Err(task) => {
@@ -97,18 +99,18 @@ pub(crate) fn find_made(alloc: Global, records: &[Record]) -> Result<Made, Fault
 }
 
 /// Returns the tasks and the regions that the records make, each as often as it is made.
-fn gather(alloc: Global, records: &[Record]) -> Result<Gathered, AllocError>
-    requires few { length records.now ≤ 2 ^ 22 }
-    ensures tasks { IfOk result (λ found. AreGathered made records.now
-        (length records.now) found.tasks.ids.items found.tasks.places.items) }
-    ensures regions { IfOk result (λ found. AreGathered forked_region records.now
-        (length records.now) found.regions.ids.items found.regions.places.items) }
+fn gather(alloc: Global, trace: &PackedTrace) -> Result<Gathered, AllocError>
+    ensures few { IfOk result (λ _. length trace.now.records ≤ 2 ^ 22) }
+    ensures tasks { IfOk result (λ found. AreGathered made trace.now.records
+        (length trace.now.records) found.tasks.ids.items found.tasks.places.items) }
+    ensures regions { IfOk result (λ found. AreGathered forked_region trace.now.records
+        (length trace.now.records) found.regions.ids.items found.regions.places.items) }
 {
     let mut tasks = Names::new(alloc);
     let mut regions = Names::new(alloc);
-    for (at, event) in records.iter().enumerate() {
-        tasks.add(event.body.made(), at)?;
-        regions.add(forked_region(&event.body), at)?;
+    for at in 0..trace.len() {
+        tasks.add(trace.made(at), at)?;
+        regions.add(trace.forked_region(at), at)?;
     }
     Ok(Gathered { tasks, regions })
 }
@@ -141,11 +143,4 @@ fn made_again(at: usize, other: Option<usize>) -> Fault
         at: first,
         cause: Cause::CreatedTwice,
     }
-}
-
-/// Returns the parallel region that begins.
-fn forked_region(body: &Body) -> Option<u64>
-    ensures { result ≡ forked_region body.now }
-{
-    body.forked().map(|(_, region)| region)
 }

@@ -5,7 +5,7 @@ ghost use Rattle.ompt_events.specs.Turns.{own_places};
 ghost use Rattle.task_tree.specs.TurnTable.{AreTurns};
 ghost use Rattle.task_tree.specs.OwnOrder.{AreInverse, AreApartBelow, AreOrderNumbers};
 
-use ompt_events::Record;
+use packed_trace::PackedTrace;
 use std::alloc::{AllocError, Global};
 use std::marker::Model;
 
@@ -94,10 +94,10 @@ impl OwnOrder {
 
 /// Returns the own order of the records, given the turn of each. Takes a sort and one pass. The records
 /// need not be a trace.
-pub fn arrange(alloc: Global, records: &[Record], turns: &[u32]) -> Result<OwnOrder, AllocError>
-    requires few { length records.now < 2 ^ 32 }
-    requires turns { AreTurns records.now turns.now }
-    ensures { IfOk result (λ order. order ≡ own_places records.now) }
+pub fn arrange(alloc: Global, trace: &PackedTrace, turns: &[u32]) -> Result<OwnOrder, AllocError>
+    requires few { length trace.now.records < 2 ^ 32 }
+    requires turns { AreTurns trace.now.records turns.now }
+    ensures { IfOk result (λ order. order ≡ own_places trace.now.records) }
 {
     let mut keys = keys_of(alloc, turns)?;
     keys.sort_unstable();

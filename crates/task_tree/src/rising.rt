@@ -1,6 +1,7 @@
 //! A check whether file order is the tasks' own order already: one cheap pass over the records.
-ghost use Rattle.std.specs.Prelude.{ℕ, ◌≡◌, ◌≢◌, ◌↔◌, ◌<◌, List, Some, None, true, false, IfOk, IsTrue, IsSomeAnd, MatchOption, length, replicate, slice_get};
+ghost use Rattle.std.specs.Prelude.{ℕ, ◌≡◌, ◌≢◌, ◌↔◌, ◌<◌, List, Some, None, true, false, IfOk, IsTrue, IsSomeAnd, MatchOption, is_some, length, replicate, slice_get};
 ghost use Rattle.ompt_events.specs.declared.records.Record.{Record};
+ghost use Rattle.ompt_events.specs.declared.records.Body.{Body};
 ghost use Rattle.ompt_events.specs.declared.cause.Cause.TheVariants.{TurnGap};
 ghost use Rattle.ompt_events.specs.Records.{running, begun_root, told_turns, begun_turn};
 ghost use Rattle.ompt_events.specs.Places.{at as says_at};
@@ -11,7 +12,7 @@ ghost use Rattle.task_tree.specs.Family.{IsFamilyOf};
 ghost use Rattle.task_tree.specs.Rising.{TurnsRise, AreTurnsInOrder, not_begun, turn_now, IsOnTurn, IsNext, AreLatestTurns, IsTurnThere, IsStartOf, IsTurnBegin, BeginsNone, MayBegin, IsStepOn};
 
 use crate::family::Family;
-use ompt_events::Record;
+use packed_trace::PackedTrace;
 use std::alloc::{AllocError, Global};
 
 /// What is known of a task: the turn that it began last, if it began one, and the thread on which it began
@@ -69,17 +70,17 @@ impl Latest {
 /// Then no task's turns fall. Returns true if no record gives a turn. Returns true too if in file order
 /// each task begins the turns 0, 1, 2 and so on, makes each record on the thread on which it began one
 /// last, and gives those turns.
-pub fn turns_rise(alloc: Global, records: &[Record], family: &Family) -> Result<bool, AllocError>
-    requires { IsFamilyOf records.now family.now }
+pub fn turns_rise(alloc: Global, trace: &PackedTrace, family: &Family) -> Result<bool, AllocError>
+    requires { IsFamilyOf trace.now.records family.now }
     ensures exact { IfOk result (λ rise. IsTrue rise
-        ↔ (AreTurnsInOrder records.now × IsFreeOf records.now TurnGap)) }
-    ensures rises { IfOk result (λ rise. rise ≡ true → TurnsRise records.now) }
-    ensures gapless { IfOk result (λ rise. rise ≡ true → IsFreeOf records.now TurnGap) }
-    ensures untold { IfOk result (λ rise. TellsNoTurns records.now → rise ≡ true) }
+        ↔ (AreTurnsInOrder trace.now.records × IsFreeOf trace.now.records TurnGap)) }
+    ensures rises { IfOk result (λ rise. rise ≡ true → TurnsRise trace.now.records) }
+    ensures gapless { IfOk result (λ rise. rise ≡ true → IsFreeOf trace.now.records TurnGap) }
+    ensures untold { IfOk result (λ rise. TellsNoTurns trace.now.records → rise ≡ true) }
 {
     let mut latest = none_begun(alloc, family.tasks().as_slice().len())?;
-    for at in 0..records.len() {
-        if !goes_on(records, family, &mut latest, at) {
+    for at in 0..trace.len() {
+        if !goes_on(trace, family, &mut latest, at) {
             return Ok(false);
         }
     }
@@ -95,65 +96,66 @@ fn none_begun(alloc: Global, tasks: usize) -> Result<Vec<Latest>, AllocError>
 
 /// Returns whether the record at a place has no gap and is in order, if those before it are; if so, notes
 /// it.
-fn goes_on(records: &[Record], family: &Family, latest: &mut Vec<Latest>, at: usize) -> bool
-    requires within { at < length records.now }
-    requires family { IsFamilyOf records.now family.now }
-    requires latest { AreLatestTurns records.now at family.now.tasks latest.old.items }
-    ensures on { result ≡ true → IsStepOn records.now at family.now.tasks latest.new.items }
-    ensures off { result ≡ false → AreTurnsInOrder records.now → IsFreeOf records.now TurnGap → ⊥ }
+fn goes_on(trace: &PackedTrace, family: &Family, latest: &mut Vec<Latest>, at: usize) -> bool
+    requires within { at < length trace.now.records }
+    requires family { IsFamilyOf trace.now.records family.now }
+    requires latest { AreLatestTurns trace.now.records at family.now.tasks latest.old.items }
+    ensures on { result ≡ true → IsStepOn trace.now.records at family.now.tasks latest.new.items }
+    ensures off { result ≡ false → AreTurnsInOrder trace.now.records → IsFreeOf trace.now.records TurnGap → ⊥ }
 {
-    let event = &records[at];
-    let Some(turn) = turn_there(records, family, latest.as_slice(), at) else {
+    let Some(turn) = turn_there(trace, family, latest.as_slice(), at) else {
         return false;
     };
-    if tells_other(event, turn) {
+    if tells_other(trace, at, turn) {
         return false;
     }
-    let Some(begin) = begin_at(records, family, at) else {
+    let Some(begin) = begin_at(trace, family, at) else {
         return true;
     };
-    if !may_begin(event, family, latest[begin.index], begin) {
+    if !may_begin(trace.tells_turns(at), family, latest[begin.index], begin) {
         return false;
     }
     latest[begin.index] = Latest {
         turn: Some(begin.turn),
-        thread: event.thread,
+        thread: trace.thread(at),
     };
     true
 }
 
 /// Returns the turn of the record at a place, if it is known.
-fn turn_there(records: &[Record], family: &Family, latest: &[Latest], at: usize) -> Option<u32>
-    requires within { at < length records.now }
-    requires family { IsFamilyOf records.now family.now }
-    requires latest { AreLatestTurns records.now at family.now.tasks latest.now }
-    ensures there { (turn : ℕ) → result ≡ Some turn → IsTurnThere records.now at turn }
-    ensures none { result ≡ None → AreTurnsInOrder records.now → IsFreeOf records.now TurnGap → ⊥ }
+fn turn_there(trace: &PackedTrace, family: &Family, latest: &[Latest], at: usize) -> Option<u32>
+    requires within { at < length trace.now.records }
+    requires family { IsFamilyOf trace.now.records family.now }
+    requires latest { AreLatestTurns trace.now.records at family.now.tasks latest.now }
+    ensures there { (turn : ℕ) → result ≡ Some turn → IsTurnThere trace.now.records at turn }
+    ensures none { result ≡ None → AreTurnsInOrder trace.now.records → IsFreeOf trace.now.records TurnGap → ⊥ }
 {
-    match running_at(records, family, at) {
-        Some(index) => latest[index].turn_on(records[at].thread),
+    match running_at(trace, family, at) {
+        Some(index) => latest[index].turn_on(trace.thread(at)),
         None => Some(0),
     }
 }
 
-/// Returns whether the record gives another turn of the prior task.
-pub(crate) fn tells_other(event: &Record, turn: u32) -> bool
-    ensures { IsTrue result ↔ IsSomeAnd (told_turns event.now.body) (λ told. told.prior ≢ turn) }
+/// Returns whether the record at a place gives another turn of the prior task.
+pub(crate) fn tells_other(trace: &PackedTrace, at: usize, turn: u32) -> bool
+    requires { at < length trace.now.records }
+    ensures { IsTrue result
+        ↔ IsSomeAnd (says_at told_turns trace.now.records at) (λ told. told.prior ≢ turn) }
 {
-    match event.body.told_turns() {
+    match trace.told_turns(at) {
         Some(told) => told.prior != turn,
         None => false,
     }
 }
 
-/// Returns whether a task of which this is known may begin the turn.
-fn may_begin(event: &Record, family: &Family, known: Latest, begin: Begin) -> bool
+/// Returns whether a task of which this is known may begin the turn, at a record that has turns or none.
+fn may_begin(told: bool, family: &Family, known: Latest, begin: Begin) -> bool
     requires { begin.index < length family.now.tasks }
-    ensures { (records : List Record) (task : ℕ) → IsFamilyOf records family.now
-        → slice_get family.now.tasks begin.index ≡ Some task
-        → IsTrue result ↔ MayBegin records task event.now.body known begin.turn }
+    ensures { (records : List Record) (body : Body) (task : ℕ) → IsFamilyOf records family.now
+        → told ≡ is_some (told_turns body) → slice_get family.now.tasks begin.index ≡ Some task
+        → IsTrue result ↔ MayBegin records task body known begin.turn }
 {
-    if event.body.told_turns().is_none() {
+    if !told {
         return known.turn.unwrap_or(0) <= begin.turn;
     }
     if !known.is_next(begin.turn) {
@@ -163,47 +165,47 @@ fn may_begin(event: &Record, family: &Family, known: Latest, begin: Begin) -> bo
 }
 
 /// Returns the index of the task that must be running at the record at a place, if there is one.
-pub(crate) fn running_at(records: &[Record], family: &Family, at: usize) -> Option<usize>
-    requires within { at < length records.now }
-    requires family { IsFamilyOf records.now family.now }
-    ensures { Calls family.now.tasks (says_at running records.now at) result }
+pub(crate) fn running_at(trace: &PackedTrace, family: &Family, at: usize) -> Option<usize>
+    requires within { at < length trace.now.records }
+    requires family { IsFamilyOf trace.now.records family.now }
+    ensures { Calls family.now.tasks (says_at running trace.now.records at) result }
 {
-    records[at].body.running()?;
+    trace.running(at)?;
     family.subject(at)
 }
 
 /// Returns the index of the initial or implicit task that begins at a place, if one does.
-fn root_at(records: &[Record], family: &Family, at: usize) -> Option<usize>
-    requires within { at < length records.now }
-    requires family { IsFamilyOf records.now family.now }
-    ensures { Calls family.now.tasks (says_at begun_root records.now at) result }
+fn root_at(trace: &PackedTrace, family: &Family, at: usize) -> Option<usize>
+    requires within { at < length trace.now.records }
+    requires family { IsFamilyOf trace.now.records family.now }
+    ensures { Calls family.now.tasks (says_at begun_root trace.now.records at) result }
 {
-    records[at].body.begun_root()?;
+    trace.begun_root(at)?;
     family.subject(at)
 }
 
 /// Returns the task that begins a turn at a place, if one does: a root that begins, or the task that runs
 /// next.
-fn begin_at(records: &[Record], family: &Family, at: usize) -> Option<Begin>
-    requires within { at < length records.now }
-    requires family { IsFamilyOf records.now family.now }
-    ensures { MatchOption result (BeginsNone records.now at)
-        (λ begin. IsTurnBegin records.now family.now.tasks at begin.index begin.turn) }
+fn begin_at(trace: &PackedTrace, family: &Family, at: usize) -> Option<Begin>
+    requires within { at < length trace.now.records }
+    requires family { IsFamilyOf trace.now.records family.now }
+    ensures { MatchOption result (BeginsNone trace.now.records at)
+        (λ begin. IsTurnBegin trace.now.records family.now.tasks at begin.index begin.turn) }
 {
-    match root_at(records, family, at) {
+    match root_at(trace, family, at) {
         Some(index) => Some(Begin { index, turn: 0 }),
-        None => start_at(records, family, at),
+        None => start_at(trace, family, at),
     }
 }
 
 /// Returns the task that runs next at a place, if one does, and the turn that it begins.
-pub(crate) fn start_at(records: &[Record], family: &Family, at: usize) -> Option<Begin>
-    requires within { at < length records.now }
-    requires family { IsFamilyOf records.now family.now }
-    ensures { MatchOption result (says_at begun_turn records.now at ≡ None)
-        (λ begin. IsStartOf records.now family.now.tasks at begin.index begin.turn) }
+pub(crate) fn start_at(trace: &PackedTrace, family: &Family, at: usize) -> Option<Begin>
+    requires within { at < length trace.now.records }
+    requires family { IsFamilyOf trace.now.records family.now }
+    ensures { MatchOption result (says_at begun_turn trace.now.records at ≡ None)
+        (λ begin. IsStartOf trace.now.records family.now.tasks at begin.index begin.turn) }
 {
-    let (_, turn) = records[at].body.begun_turn()?;
+    let (_, turn) = trace.begun_turn(at)?;
     let index = family.object(at)?;
     Some(Begin { index, turn })
 }

@@ -10,7 +10,7 @@ use crate::forward::find_forward;
 use crate::link_slot::LinkSlot;
 use crate::standing_slot::StandingSlot;
 use index_tables::{Numbering, Rows};
-use ompt_events::Record;
+use packed_trace::PackedTrace;
 use std::alloc::{AllocError, Global};
 
 /// The standing of a task: its root, and how many steps below it the task is.
@@ -31,40 +31,40 @@ pub(crate) struct Reached {
 /// each task is created later in the file than its parent.
 pub(crate) fn find_roots(
     alloc: Global,
-    records: &[Record],
+    trace: &PackedTrace,
     tasks: &Numbering,
     places: &[u32],
     links: &[LinkSlot],
     rows: &Rows,
 ) -> Result<Vec<StandingSlot>, AllocError>
-    requires noted { AreNoted made records.now (length records.now) tasks.now }
-    requires places { AreMade records.now (length records.now) tasks.now places.now }
-    requires links { AreLinks records.now (length records.now) tasks.now links.now }
-    requires rows { AreChildren records.now tasks.now rows.now }
-    requires few { length records.now ≤ 2 ^ 22 }
-    ensures { IfOk result (λ roots. AreRoots records.now tasks.now roots.items) }
+    requires noted { AreNoted made trace.now.records (length trace.now.records) tasks.now }
+    requires places { AreMade trace.now.records (length trace.now.records) tasks.now places.now }
+    requires links { AreLinks trace.now.records (length trace.now.records) tasks.now links.now }
+    requires rows { AreChildren trace.now.records tasks.now rows.now }
+    requires few { length trace.now.records ≤ 2 ^ 22 }
+    ensures { IfOk result (λ roots. AreRoots trace.now.records tasks.now roots.items) }
 {
-    match find_forward(alloc, records, tasks.as_slice(), places, links)? {
+    match find_forward(alloc, trace, tasks.as_slice(), places, links)? {
         Some(roots) => Ok(roots),
-        None => find_downward(alloc, records, tasks, rows),
+        None => find_downward(alloc, trace, tasks, rows),
     }
 }
 
 /// Returns the standings of the tasks as `find_roots` does, down from the roots.
 fn find_downward(
     alloc: Global,
-    records: &[Record],
+    trace: &PackedTrace,
     tasks: &Numbering,
     rows: &Rows,
 ) -> Result<Vec<StandingSlot>, AllocError>
-    requires noted { AreNoted made records.now (length records.now) tasks.now }
-    requires rows { AreChildren records.now tasks.now rows.now }
+    requires noted { AreNoted made trace.now.records (length trace.now.records) tasks.now }
+    requires rows { AreChildren trace.now.records tasks.now rows.now }
     requires few { length tasks.now ≤ 2 ^ 22 }
-    ensures { IfOk result (λ roots. AreRoots records.now tasks.now roots.items) }
+    ensures { IfOk result (λ roots. AreRoots trace.now.records tasks.now roots.items) }
 {
     let mut roots = no_roots(alloc, tasks.as_slice().len())?;
     let mut order = Vec::with_capacity(alloc, roots.len())?;
-    reach_roots(records, tasks, &mut roots, &mut order)?;
+    reach_roots(trace, tasks, &mut roots, &mut order)?;
     // Each task is reached once, a parent before its children.
     let mut next = 0;
     'reached: while next < order.len() {
@@ -88,18 +88,18 @@ fn no_roots(alloc: Global, tasks: usize) -> Result<Vec<StandingSlot>, AllocError
 
 /// Reaches the roots themselves.
 fn reach_roots(
-    records: &[Record],
+    trace: &PackedTrace,
     tasks: &Numbering,
     roots: &mut Vec<StandingSlot>,
     order: &mut Vec<Reached>,
 ) -> Result<(), AllocError>
     requires roots { roots.old.items ≡ replicate (length tasks.now) None }
     requires order { order.old.items ≡ [] }
-    ensures { OnOk result (IsSeeded records.now
-        (length records.now) tasks.now roots.new.items order.new.items) }
+    ensures { OnOk result (IsSeeded trace.now.records
+        (length trace.now.records) tasks.now roots.new.items order.new.items) }
 {
-    for event in records {
-        if let Some(root) = event.body.begun_root() {
+    for at in 0..trace.len() {
+        if let Some(root) = trace.begun_root(at) {
             let near = order.len();
             reach(tasks, root, near, Standing { depth: 0, root }, roots, order)?;
         }

@@ -1,31 +1,28 @@
 //! The records of a trace with the family of its tasks. All phases of an audit take them.
 ghost use Rattle.std.specs.Prelude.{ℕ, ◌≡◌, ◌↔◌, ◌<◌, All, Option, Some, None, IsTrue, MatchOption, false, is_some, length, option_copied, option_map, slice_get, if◌then◌else◌};
 ghost use Rattle.ompt_events.specs.declared.records.Body.{Body};
-ghost use Rattle.ompt_events.specs.Records.{begun_initial, begun_root, begun_turn, claim, created, created_with_deps, creation, dependences, discarded, ended_root, finish, forked, fulfilled, joined, made, region, running, schedule, started, told_turns, wait_completed};
+ghost use Rattle.ompt_events.specs.Records.{begun_initial, begun_root, begun_turn, claim, created, created_with_deps, creation, dependences, discarded, ended_root, ended_turn, finish, forked, fulfilled, joined, made, region, running, schedule, started, suspended_turn, told_turns, wait_completed};
+ghost use Rattle.ompt_events.specs.Flags as flag;
 ghost use Rattle.ompt_events.specs.Places.{at as says_at, thread_at, seen_at};
 ghost use Rattle.ompt_events.specs.Causes.{known_after};
 ghost use Rattle.ompt_events.specs.Tree.{IsExplicit, HasPath, children};
 ghost use Rattle.task_tree.specs.Family.{IsFamilyOf};
 ghost use Rattle.task_tree.specs.Lineage.{parent_index};
-ghost use Rattle.task_tree.specs.Packed.{act_of, packed};
+ghost use Rattle.packed_trace.specs.Packed.{act_of, forked_region, makes_with, packed, schedule_status};
 ghost use Rattle.task_tree.specs.Rising.{IsStartOf};
-ghost use Rattle.task_tree.specs.Runs.{schedule_status, IsRun, IsIndexOf, IsCreation, IsFinish, IsRegionEvent, IsSchedule, IsThreadEvent, IsNoThreadEvent, IsFork, IsNoWaitEvent, IsWaitEvent, AreDependences, is_wait_made};
-ghost use Rattle.task_tree.specs.Subjects.{subject, object};
+ghost use Rattle.task_tree.specs.Runs.{IsRun, IsIndexOf, IsCreation, IsFinish, IsRegionEvent, IsSchedule, IsThreadEvent, IsNoThreadEvent, IsFork, IsNoWaitEvent, IsWaitEvent, AreDependences};
+ghost use Rattle.packed_trace.specs.Named.{subject, object};
 
 use crate::family::Family;
-use crate::packed::{Act, PackedEvent};
-use bitflags::Flags;
-use ompt_events::{
-    Claim, ClaimPath, Dep, Endpoint, Membership, Part, Record, Status, SyncKind, TaskFlags, Trace,
-    WaitKind,
-};
+use ompt_events::{Claim, ClaimPath, Dep, Endpoint, Membership, Part, Status, SyncKind, WaitKind};
+use packed_trace::{Act, PackedEvent, PackedTrace};
 use std::marker::Model;
 
 /// The records of a trace and the family of its tasks. Calls take the place of a record, from 0, and return
 /// indices of tasks, their places in the order in which the records make them.
 #[derive(Debug, Drop)]
 pub struct Run<'a> {
-    records: &'a [Record],
+    trace: &'a PackedTrace,
     family: &'a Family,
 }
 
@@ -34,9 +31,9 @@ impl<'a> Model for Run<'a> {
 
     ghost Value = { RunView };
 
-    ghost view = { λ run. record { records = run.records.now; family = run.family.now } };
+    ghost view = { λ run. record { records = run.trace.now.records; family = run.family.now } };
 
-    ghost invariant = { λ run. IsRun (record { records = run.records.now; family = run.family.now }) };
+    ghost invariant = { λ run. IsRun (record { records = run.trace.now.records; family = run.family.now }) };
 }
 
 /// A creation, by the indices of its tasks.
@@ -106,15 +103,14 @@ pub struct WaitEvent {
 impl<'a> Run<'a> {
     /// Returns the run of the records of a trace. Requires that the family is that of its tasks. Takes no
     /// memory.
-    pub fn of(trace: &'a Trace, family: &'a Family) -> Run<'a>
+    pub fn of(trace: &'a PackedTrace, family: &'a Family) -> Run<'a>
         requires { IsFamilyOf trace.now.records family.now }
         ensures records { result.records ≡ trace.now.records }
         ensures family { result.family ≡ family.now }
     {
-        Run {
-            records: trace.records(),
-            family,
-        }
+        // Makes it known that these are the records of a trace. It compiles to nothing.
+        let _count = trace.len();
+        Run { trace, family }
     }
 
     /// Returns a second view of the same run. Takes no memory.
@@ -122,17 +118,9 @@ impl<'a> Run<'a> {
         ensures { result ≡ self.now }
     {
         Run {
-            records: self.records,
+            trace: self.trace,
             family: self.family,
         }
-    }
-
-    /// Returns the records of the run, in its order.
-    pub fn records(&self) -> &'a [Record]
-        ensures value { result.now ≡ self.now.records }
-        ensures is_run { IsRun self.now }
-    {
-        self.records
     }
 
     /// Returns the family of the tasks.
@@ -148,17 +136,14 @@ impl<'a> Run<'a> {
         ensures value { result ≡ length self.now.records }
         ensures is_run { IsRun self.now }
     {
-        self.records.len()
+        self.trace.len()
     }
 
     /// Returns whether parallel regions may lie inside others, which is so in all records or in none.
     pub fn nests(&self) -> bool
         ensures { All (λ r. r.nests ≡ result) self.now.records }
     {
-        match self.records.first() {
-            Some(event) => event.nests,
-            None => false,
-        }
+        self.trace.nests()
     }
 
     /// Returns how many tasks there are.
@@ -172,15 +157,6 @@ impl<'a> Run<'a> {
 
 // What a record says.
 impl<'a> Run<'a> {
-    /// Returns the record at a place.
-    pub fn record(&self, at: usize) -> &'a Record
-        requires { at < length self.now.records }
-        ensures { slice_get self.now.records at ≡ Some result.now }
-    {
-        let records = self.records;
-        &records[at]
-    }
-
     /// Returns the thread that made the record.
     pub fn thread(&self, at: usize) -> u8
         requires { at < length self.now.records }
@@ -252,18 +228,20 @@ impl<'a> Run<'a> {
         self.act(at).makes()
     }
 
-    /// Returns whether the record makes a taskwait with dependences (15.5): it has the flag `taskwait`.
+    /// Returns whether the record makes a taskwait with dependences (15.5): a task with the flag `taskwait`.
     pub fn makes_wait(&self, at: usize) -> bool
         requires { at < length self.now.records }
-        ensures { result ≡ is_wait_made self.now.records at }
+        ensures { result ≡ makes_with flag.taskwait self.now.records at }
     {
-        match self.act(at).creates_wait() {
-            Some(wait) => wait,
-            None => match self.record(at).body.flags() {
-                Some(flags) => flags.contains(TaskFlags::TASKWAIT),
-                None => false,
-            },
-        }
+        self.act(at).makes_wait()
+    }
+
+    /// Returns whether the record makes a target task (13.8): one with the flag `target`.
+    pub fn makes_target(&self, at: usize) -> bool
+        requires { at < length self.now.records }
+        ensures { result ≡ makes_with flag.target self.now.records at }
+    {
+        self.act(at).makes_target()
     }
 
     /// Returns the task whose event is fulfilled there, early or late (12.5.2).
@@ -373,7 +351,7 @@ impl<'a> Run<'a> {
         requires { at < length self.now.records }
         ensures { result ≡ is_some (says_at told_turns self.now.records at) }
     {
-        self.act(at).tells_turns()
+        self.trace.tells_turns(at)
     }
 
     /// Returns the task that runs from the record on, if one is scheduled, and the turn that it begins: turn
@@ -387,8 +365,33 @@ impl<'a> Run<'a> {
         if !self.tells_turns(at) {
             return Some((index, 0));
         }
-        let (_, turn) = self.record(at).body.begun_turn()?;
+        let (_, turn) = self.trace.begun_turn(at)?;
         Some((index, turn))
+    }
+
+    /// Returns the turn that the task which is scheduled begins there: turn 0 if the record has no turns, and
+    /// none if no task is scheduled.
+    pub fn next_turn(&self, at: usize) -> Option<u32>
+        requires { at < length self.now.records }
+        ensures { result ≡ option_map (λ b. b.1) (says_at begun_turn self.now.records at) }
+    {
+        self.trace.begun_turn(at).map(|(_, turn)| turn)
+    }
+
+    /// Returns the turn that the task which stops running ends there, whether or not it runs again.
+    pub fn ended_turn(&self, at: usize) -> Option<u32>
+        requires { at < length self.now.records }
+        ensures { result ≡ option_map (λ b. b.1) (says_at ended_turn self.now.records at) }
+    {
+        self.trace.ended_turn(at).map(|(_, turn)| turn)
+    }
+
+    /// Returns the turn that the task which is suspended ends there.
+    pub fn suspended_turn(&self, at: usize) -> Option<u32>
+        requires { at < length self.now.records }
+        ensures { result ≡ option_map (λ b. b.1) (says_at suspended_turn self.now.records at) }
+    {
+        self.trace.suspended_turn(at).map(|(_, turn)| turn)
     }
 
     /// Returns what the record says of the tasks that its thread runs (12.9), if it says anything of them.
@@ -419,6 +422,14 @@ impl<'a> Run<'a> {
             (IsFork self.now at) }
     {
         self.subject_if(self.act(at).forks(), at)
+    }
+
+    /// Returns the parallel region that begins there.
+    pub fn forked_region(&self, at: usize) -> Option<u64>
+        requires { at < length self.now.records }
+        ensures { result ≡ says_at forked_region self.now.records at }
+    {
+        self.trace.forked_region(at)
     }
 
     /// Returns the begin or end of a region that waits for tasks (15.3, 15.4 and 15.5), if the record is
@@ -468,11 +479,7 @@ impl<'a> Run<'a> {
         requires { at < length self.now.records }
         ensures { result ≡ says_at joined self.now.records at }
     {
-        if self.act(at).joins() {
-            self.record(at).body.joined()
-        } else {
-            None
-        }
+        self.trace.joined(at)
     }
 
     /// Returns the claim of the record that finishes a task, if it has one.
@@ -480,7 +487,17 @@ impl<'a> Run<'a> {
         requires { at < length self.now.records }
         ensures { option_copied result ≡ says_at claim self.now.records at }
     {
-        self.record(at).body.claim()
+        let trace = self.trace;
+        trace.claim(at)
+    }
+
+    /// Returns what `claim` does. Looks first at the claim with this index among all claims.
+    pub fn claim_near(&self, at: usize, near: usize) -> Option<&'a Claim>
+        requires { at < length self.now.records }
+        ensures { option_copied result ≡ says_at claim self.now.records at }
+    {
+        let trace = self.trace;
+        trace.claim_near(at, near)
     }
 
     /// Returns the task that is created there with dependences, which follow.
@@ -500,7 +517,8 @@ impl<'a> Run<'a> {
         if !self.act(at).depends() {
             return None;
         }
-        let (_, items) = self.record(at).body.dependences()?;
+        let trace = self.trace;
+        let items = trace.listed_deps(at)?;
         let task = self.subject_of(at)?;
         Some((task, items))
     }
@@ -512,7 +530,7 @@ impl Run<'_> {
         requires { at < length self.now.records }
         ensures { option_map packed (slice_get self.now.records at) ≡ Some result }
     {
-        self.family.event(at)
+        self.trace.event(at)
     }
 
     /// Returns what the record at a place says, without what it names.
@@ -520,7 +538,7 @@ impl Run<'_> {
         requires { at < length self.now.records }
         ensures { (body : Body) → says_at Some self.now.records at ≡ Some body → act_of body ≡ result }
     {
-        self.event(at).act
+        self.trace.act(at)
     }
 
     /// Returns what `subject` of the family does. A run has an entry for each record, so none is missed.

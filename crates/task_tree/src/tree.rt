@@ -12,6 +12,7 @@ use crate::families::Families;
 use crate::family::Family;
 use crate::paths::find_paths;
 use ompt_events::{Fault, Trace};
+use packed_trace::PackedTrace;
 use std::alloc::Global;
 use std::marker::Model;
 
@@ -24,6 +25,7 @@ pub type TreeFault = Fault;
 /// a chain of tasks. `Families` have all but the paths.
 #[derive(Debug, Drop)]
 pub struct Tree {
+    trace: PackedTrace,
     families: Families,
     /// By index of the task in the family of its own order.
     paths: Vec<Vec<u32>>,
@@ -36,7 +38,11 @@ impl Model for Tree {
 
     ghost Value = { TreeView };
 
-    ghost view = { λ tree. record { families = tree.families; paths = tree.paths.items } };
+    ghost view = { λ tree. record {
+      trace = tree.trace;
+      families = tree.families;
+      paths = tree.paths.items;
+    } };
 
     ghost invariant = { λ tree. length tree.paths.items ≡ length (own_family tree.families).tasks };
 }
@@ -49,9 +55,21 @@ impl Tree {
         ensures tree { IfOk result (IsTreeOf trace.now.records) }
         ensures fault { IfErr result (IsFault trace.now.records (CreatedTwice ∷ Rootless ∷ [])) }
     {
-        let families = Families::build(alloc, trace)?;
+        let trace = PackedTrace::of(alloc, trace)?;
+        let families = Families::build(alloc, &trace)?;
         let paths = find_paths(alloc, families.own_family())?;
-        Ok(Tree { families, paths })
+        Ok(Tree {
+            trace,
+            families,
+            paths,
+        })
+    }
+
+    /// Returns the records of the trace in columns.
+    pub fn trace(&self) -> &PackedTrace
+        ensures { result.now ≡ self.now.trace }
+    {
+        &self.trace
     }
 
     /// Returns the tree without its paths: the families of the tasks, by file order and by the tasks' own

@@ -11,7 +11,7 @@ ghost use Rattle.task_tree.specs.TurnRows.{AreOffsetsRising, AreOffsetsWithin, I
 
 use crate::family::Family;
 use crate::rising::{Begin, start_at};
-use ompt_events::Record;
+use packed_trace::PackedTrace;
 use std::alloc::{AllocError, Global};
 
 /// The rows of all tasks.
@@ -26,17 +26,17 @@ pub(crate) struct TurnRows {
 /// Returns the turns that begin, none if one has no slot or begins twice.
 pub(crate) fn find_rows(
     alloc: Global,
-    records: &[Record],
+    trace: &PackedTrace,
     family: &Family,
 ) -> Result<Option<TurnRows>, AllocError>
-    requires { IsFamilyOf records.now family.now }
+    requires { IsFamilyOf trace.now.records family.now }
     ensures { IfOk result (λ found. IfSome found (λ rows.
-        AreTurnRows records.now family.now.tasks rows.offsets.items rows.begun.items)) }
+        AreTurnRows trace.now.records family.now.tasks rows.offsets.items rows.begun.items)) }
 {
-    let counts = count_starts(alloc, records, family)?;
+    let counts = count_starts(alloc, trace, family)?;
     let offsets = find_offsets(alloc, counts.as_slice())?;
     let mut begun = none_begun(alloc, offsets[counts.len()])?;
-    if begin_once(records, family, offsets.as_slice(), begun.as_mut_slice()) {
+    if begin_once(trace, family, offsets.as_slice(), begun.as_mut_slice()) {
         Ok(Some(TurnRows { offsets, begun }))
     } else {
         Ok(None)
@@ -46,30 +46,32 @@ pub(crate) fn find_rows(
 /// Returns by index of the task how many records say that it runs next.
 fn count_starts(
     alloc: Global,
-    records: &[Record],
+    trace: &PackedTrace,
     family: &Family,
 ) -> Result<Vec<usize>, AllocError>
-    requires { IsFamilyOf records.now family.now }
+    requires { IsFamilyOf trace.now.records family.now }
     ensures all { IfOk result (λ counts. length counts.items ≡ length family.now.tasks) }
-    ensures few { IfOk result (λ counts. sum counts.items ≤ length records.now) }
+    ensures few { IfOk result (λ counts. sum counts.items ≤ length trace.now.records) }
+    ensures short { IfOk result (λ _. length trace.now.records ≤ 2 ^ 22) }
 {
     let mut counts = no_counts(alloc, family.tasks().as_slice().len())?;
-    for at in 0..records.len() {
-        count_start(records, family, at, &mut counts);
+    for at in 0..trace.len() {
+        count_start(trace, family, at, &mut counts);
     }
     Ok(counts)
 }
 
 /// Counts the task that runs next at a place, if one does.
-fn count_start(records: &[Record], family: &Family, at: usize, counts: &mut Vec<usize>)
-    requires within { at < length records.now }
-    requires family { IsFamilyOf records.now family.now }
+fn count_start(trace: &PackedTrace, family: &Family, at: usize, counts: &mut Vec<usize>)
+    requires within { at < length trace.now.records }
+    requires short { length trace.now.records ≤ 2 ^ 22 }
+    requires family { IsFamilyOf trace.now.records family.now }
     requires all { length counts.old.items ≡ length family.now.tasks }
     requires few { sum counts.old.items ≤ at }
     ensures all { length counts.new.items ≡ length family.now.tasks }
     ensures few { sum counts.new.items ≤ at + 1 }
 {
-    let Some(begin) = start_at(records, family, at) else {
+    let Some(begin) = start_at(trace, family, at) else {
         return;
     };
     counts[begin.index] += 1;
@@ -107,16 +109,16 @@ fn none_begun(alloc: Global, slots: usize) -> Result<Vec<bool>, AllocError>
 
 /// Marks the turns that begin, until one begins twice or has no slot. Returns true only if there is no such
 /// turn.
-fn begin_once(records: &[Record], family: &Family, offsets: &[usize], begun: &mut [bool]) -> bool
-    requires family { IsFamilyOf records.now family.now }
+fn begin_once(trace: &PackedTrace, family: &Family, offsets: &[usize], begun: &mut [bool]) -> bool
+    requires family { IsFamilyOf trace.now.records family.now }
     requires all { length offsets.now ≡ length family.now.tasks + 1 }
     requires rising { AreOffsetsRising offsets.now }
     requires slots { AreOffsetsWithin offsets.now (length begun.old) }
-    requires fresh { AreMarkedUpTo records.now 0 family.now.tasks offsets.now begun.old }
-    ensures { IsTrue result → AreTurnRows records.now family.now.tasks offsets.now begun.new }
+    requires fresh { AreMarkedUpTo trace.now.records 0 family.now.tasks offsets.now begun.old }
+    ensures { IsTrue result → AreTurnRows trace.now.records family.now.tasks offsets.now begun.new }
 {
-    for at in 0..records.len() {
-        if !begins_anew(records, family, offsets, begun, at) {
+    for at in 0..trace.len() {
+        if !begins_anew(trace, family, offsets, begun, at) {
             return false;
         }
     }
@@ -126,23 +128,23 @@ fn begin_once(records: &[Record], family: &Family, offsets: &[usize], begun: &mu
 /// Marks the turn that begins at a place, if one does. Returns true only if it has a slot and did not begin
 /// before.
 fn begins_anew(
-    records: &[Record],
+    trace: &PackedTrace,
     family: &Family,
     offsets: &[usize],
     begun: &mut [bool],
     at: usize,
 ) -> bool
-    requires within { at < length records.now }
-    requires family { IsFamilyOf records.now family.now }
+    requires within { at < length trace.now.records }
+    requires family { IsFamilyOf trace.now.records family.now }
     requires all { length offsets.now ≡ length family.now.tasks + 1 }
     requires rising { AreOffsetsRising offsets.now }
     requires slots { AreOffsetsWithin offsets.now (length begun.old) }
-    requires before { AreMarkedUpTo records.now at family.now.tasks offsets.now begun.old }
+    requires before { AreMarkedUpTo trace.now.records at family.now.tasks offsets.now begun.old }
     ensures marked { IsTrue result
-        → AreMarkedUpTo records.now (at + 1) family.now.tasks offsets.now begun.new }
-    ensures anew { IsTrue result → BeginsAnew records.now at }
+        → AreMarkedUpTo trace.now.records (at + 1) family.now.tasks offsets.now begun.new }
+    ensures anew { IsTrue result → BeginsAnew trace.now.records at }
 {
-    let Some(begin) = start_at(records, family, at) else {
+    let Some(begin) = start_at(trace, family, at) else {
         return true;
     };
     let Some(slot) = slot_of(offsets, begin) else {

@@ -13,7 +13,7 @@ ghost use Rattle.task_tree.specs.TurnTable.{AreTurns, IsOrderTold, no_mark, turn
 use crate::chains::{Chains, find_chains};
 use crate::family::Family;
 use crate::rising::{running_at, start_at};
-use ompt_events::Record;
+use packed_trace::PackedTrace;
 use std::alloc::{AllocError, Global};
 use std::marker::Model;
 
@@ -84,15 +84,15 @@ struct Walk {
 /// theirs.
 pub fn turns_of(
     alloc: Global,
-    records: &[Record],
+    trace: &PackedTrace,
     family: &Family,
 ) -> Result<RecordTurns, AllocError>
-    requires { IsFamilyOf records.now family.now }
-    ensures turns { IfOk result (λ found. AreTurns records.now found.turns) }
-    ensures order { IfOk result (λ found. IsOrderTold records.now found.in_order) }
+    requires { IsFamilyOf trace.now.records family.now }
+    ensures turns { IfOk result (λ found. AreTurns trace.now.records found.turns) }
+    ensures order { IfOk result (λ found. IsOrderTold trace.now.records found.in_order) }
 {
-    let chains = find_chains(alloc, records)?;
-    let turns = no_turns(alloc, records.len())?;
+    let chains = find_chains(alloc, trace)?;
+    let turns = no_turns(alloc, trace.len())?;
     let marks = no_marks(alloc, family.tasks().as_slice().len())?;
     let mut walk = Walk {
         turns,
@@ -100,7 +100,7 @@ pub fn turns_of(
         in_order: true,
     };
     for thread in 0..256 {
-        walk_thread(records, family, &chains, thread, &mut walk);
+        walk_thread(trace, family, &chains, thread, &mut walk);
     }
     Ok(RecordTurns {
         turns: walk.turns,
@@ -123,33 +123,40 @@ fn no_marks(alloc: Global, tasks: usize) -> Result<Vec<Mark>, AllocError>
 }
 
 /// Visits the records of a thread. Requires that those of the earlier threads are visited.
-fn walk_thread(records: &[Record], family: &Family, chains: &Chains, thread: usize, walk: &mut Walk)
-    requires family { IsFamilyOf records.now family.now }
-    requires chains { AreChainsFrom records.now 0 chains.now.firsts.items chains.now.nexts.items }
+fn walk_thread(
+    trace: &PackedTrace,
+    family: &Family,
+    chains: &Chains,
+    thread: usize,
+    walk: &mut Walk,
+)
+    requires family { IsFamilyOf trace.now.records family.now }
+    requires chains { AreChainsFrom trace.now.records 0 chains.now.firsts.items chains.now.nexts.items }
     requires thread { thread < 256 }
-    requires before { IsTableAt records.now family.now.tasks thread 0 walk.old }
-    ensures { IsTableAt records.now family.now.tasks (thread + 1) 0 walk.new }
+    requires before { IsTableAt trace.now.records family.now.tasks thread 0 walk.old }
+    ensures { IsTableAt trace.now.records family.now.tasks (thread + 1) 0 walk.new }
 {
+    let count = trace.len();
     let mut at = chains.firsts[thread];
-    'chain: while at < records.len() {
-        visit(records, family, at, walk);
+    'chain: while at < count {
+        visit(trace, family, at, walk);
         at = chains.nexts[at];
     }
 }
 
 /// Visits the record at a place. Requires that the earlier ones of its thread are visited.
-fn visit(records: &[Record], family: &Family, at: usize, walk: &mut Walk)
-    requires within { at < length records.now }
-    requires family { IsFamilyOf records.now family.now }
-    requires before { IsReadAt records.now family.now.tasks at walk.old }
-    ensures { (thread : ℕ) → thread_at records.now at ≡ Some thread
-        → IsTableAt records.now family.now.tasks thread (at + 1) walk.new }
+fn visit(trace: &PackedTrace, family: &Family, at: usize, walk: &mut Walk)
+    requires within { at < length trace.now.records }
+    requires family { IsFamilyOf trace.now.records family.now }
+    requires before { IsReadAt trace.now.records family.now.tasks at walk.old }
+    ensures { (thread : ℕ) → thread_at trace.now.records at ≡ Some thread
+        → IsTableAt trace.now.records family.now.tasks thread (at + 1) walk.new }
 {
-    walk.turns[at] = turn_before(records, family, walk.marks.as_slice(), at);
-    let Some(begin) = start_at(records, family, at) else {
+    walk.turns[at] = turn_before(trace, family, walk.marks.as_slice(), at);
+    let Some(begin) = start_at(trace, family, at) else {
         return;
     };
-    let thread = records[at].thread;
+    let thread = trace.thread(at);
     let last = walk.marks[begin.index].turn_on(thread);
     walk.in_order = stays_in_order(walk.in_order, last, begin.turn);
     walk.marks[begin.index] = Mark {
@@ -159,15 +166,15 @@ fn visit(records: &[Record], family: &Family, at: usize, walk: &mut Walk)
 }
 
 /// Returns the turn of the record at a place.
-fn turn_before(records: &[Record], family: &Family, marks: &[Mark], at: usize) -> u32
-    requires within { at < length records.now }
-    requires family { IsFamilyOf records.now family.now }
+fn turn_before(trace: &PackedTrace, family: &Family, marks: &[Mark], at: usize) -> u32
+    requires within { at < length trace.now.records }
+    requires family { IsFamilyOf trace.now.records family.now }
     requires all { length marks.now ≡ length family.now.tasks }
-    ensures { (thread : ℕ) → thread_at records.now at ≡ Some thread
-        → AreTurnMarks records.now family.now.tasks thread at marks.now → result ≡ turn_at records.now at }
+    ensures { (thread : ℕ) → thread_at trace.now.records at ≡ Some thread
+        → AreTurnMarks trace.now.records family.now.tasks thread at marks.now → result ≡ turn_at trace.now.records at }
 {
-    match running_at(records, family, at) {
-        Some(index) => marks[index].turn_on(records[at].thread),
+    match running_at(trace, family, at) {
+        Some(index) => marks[index].turn_on(trace.thread(at)),
         None => 0,
     }
 }

@@ -19,7 +19,7 @@ use Rattle.ompt_events.specs.Regions.{IsRegion, ended, at_once, is_barrier, barr
 use Rattle.ompt_events.specs.Regions.{barrier_begins, IsBarrierBegin}
 use Rattle.ompt_events.proofs.RecordLemmas.{at_through}
 use Rattle.ompt_events.proofs.RegionLemmas.{own_begin}
-use Rattle.task_tree.specs.Subjects.{subject}
+use Rattle.packed_trace.specs.Named.{subject}
 use Rattle.task_tree.proofs.NamedLemmas.{region_subject}
 
 -- a region that is a barrier begins where its begin stands

@@ -30,7 +30,7 @@ use Rattle.ompt_events.proofs.RecordLemmas.{at_through, member_made, initial_mad
 use Rattle.ompt_events.proofs.RecordLemmas.{initial_begun}
 use Rattle.task_tree.specs.Makers.{AreNoted}
 use Rattle.index_tables.specs.Numbering.{AreApart}
-use Rattle.task_tree.specs.Subjects.{subject}
+use Rattle.packed_trace.specs.Named.{subject}
 use Rattle.task_tree.proofs.ChainLemmas.{replicate_get}
 use Rattle.task_tree.proofs.LinkLemmas.{get_set_same, get_set_other}
 use Rattle.task_tree.proofs.NamedLemmas.{joined_subject, begun_initial_subject}

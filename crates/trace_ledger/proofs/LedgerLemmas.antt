@@ -70,25 +70,20 @@ made_by rs makers index i r trace are is here =
     }
 
 -- the table names a record of the trace
-pub maker_below : (rs list : List Record) (makers : List (Option ℕ)) (n index i : ℕ) (slot : Option ℕ)
-    → list ≡ rs → AreEntryRecords rs (length rs) makers → n ≡ length makers → index < n
-    → slot ≡ get_or makers index slot → slot ≡ Some i → i < length list
-maker_below rs list makers n index i slot whole are long within read is =
-    let below = (are.makes index i (slice_get_read makers n index slot long within read ∙ ap Some is)).0 in
-    let same = ap length whole in
-    omega (arith, below, same)
+pub maker_below : (rs : List Record) (makers : List (Option ℕ)) (n index i : ℕ) (slot : Option ℕ)
+    → AreEntryRecords rs (length rs) makers → n ≡ length makers → index < n
+    → slot ≡ get_or makers index slot → slot ≡ Some i → i < length rs
+maker_below rs makers n index i slot are long within read is =
+    (are.makes index i (slice_get_read makers n index slot long within read ∙ ap Some is)).0
 
 -- and that record makes the entry
-pub maker_makes : (rs list : List Record) (makers : List (Option ℕ)) (n index i : ℕ) (slot : Option ℕ)
-    (r : Record)
-    → IsTrace rs
-    → list ≡ rs → AreEntryRecords rs (length rs) makers → n ≡ length makers
-    → index < n → slot ≡ get_or makers index slot → slot ≡ Some i
-    → r ≡ get_or list i r → MakesEntry rs i index r
-maker_makes rs list makers n index i slot r trace whole are long within read is here =
-    let inside = maker_below rs list makers n index i slot whole are long within read is in
+pub maker_makes : (rs : List Record) (makers : List (Option ℕ)) (n index i : ℕ) (slot : Option ℕ) (r : Record)
+    → IsTrace rs → AreEntryRecords rs (length rs) makers → n ≡ length makers
+    → index < n → slot ≡ get_or makers index slot → slot ≡ Some i → slice_get rs i ≡ Some r
+    → MakesEntry rs i index r
+maker_makes rs makers n index i slot r trace are long within read is here =
     made_by rs makers index i r trace are (slice_get_read makers n index slot long within read ∙ ap Some is)
-    (ap (λ l. slice_get l i) (sym whole) ∙ slice_get_read list (length list) i r refl inside here)
+    here
 
 -- ---- why it may be entered
 

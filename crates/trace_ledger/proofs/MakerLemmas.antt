@@ -1,10 +1,13 @@
 -- How the table of the records that make entries grows, and that it is full at the end.
-use Rattle.std.proofs.Common.{◌≡◌, ◌∙◌, ℕ, zero, suc, ◌<◌, ◌+◌, false, List, [], ◌∷◌, length, get_or, take}
+use Rattle.std.proofs.Common.{◌≡◌, ◌∙◌, ℕ, zero, suc, ◌<◌, ◌+◌, Bool, true, false, List, [], ◌∷◌, length}
+use Rattle.std.proofs.Common.{get_or, take}
 use Rattle.std.proofs.Common.{Option, Some, None, refl, sym, ap, subst, arith, inl, inr}
-use Rattle.std.specs.Prelude.{is_some, slice_get, replicate}
+use Rattle.std.specs.Int.{from_bool}
+use Rattle.std.specs.Prelude.{count_by, is_some, slice_get, replicate}
 use Rattle.std.proofs.Math.ListN.{set}
 use Rattle.std.proofs.lemmas.Bool.{cases_eq, cases_lt}
 use Rattle.std.proofs.lemmas.Option.{none-some, same_Some, slice_get_within, slice_get-get_or}
+use Rattle.std.proofs.lemmas.Option.{get_or_from_slice_get}
 use Rattle.std.proofs.lemmas.List.{length-set, length-replicate, take_all}
 use Rattle.std.proofs.lemmas.List.Sums.{count_by_more_yes, count_by_more_no}
 use Rattle.ompt_events.specs.declared.records.Record.{Record}
@@ -141,3 +144,21 @@ all_made rs makers index are apart ahead is =
     ap entries_in (take_all (length rs) rs (omega arith)) in
     let long = are.entries in
     none_free makers index (omega (arith, all, count, long)) is
+
+-- with one record more, its entry is counted too
+pub one_counted : (rs : List Record) (i : ℕ) (r : Record) (finishes : Bool) (one count : ℕ)
+    → slice_get rs i ≡ Some r → finishes ≡ is_some (finish r.body) → one ≡ from_bool finishes
+    → count ≡ count_by (λ (q : Record). is_some (finish q.body)) (take i rs) → (more : ℕ) → more ≡ count + one
+    → more ≡ count_by (λ (q : Record). is_some (finish q.body)) (take (i + 1) rs)
+one_counted rs i r true one count stands is so counted more added =
+    let grown =
+    count_by_more_yes (λ (q : Record). is_some (finish q.body)) rs i r (slice_get_within rs i r stands)
+    (ap (λ (q : Record). is_some (finish q.body)) (get_or_from_slice_get rs i r r stands) ∙ sym is) in
+    let one_is : one ≡ 1 = so in
+    omega (arith, grown, one_is, counted, added)
+one_counted rs i r false one count stands is so counted more added =
+    let same =
+    count_by_more_no (λ (q : Record). is_some (finish q.body)) rs i r (slice_get_within rs i r stands)
+    (ap (λ (q : Record). is_some (finish q.body)) (get_or_from_slice_get rs i r r stands) ∙ sym is) in
+    let none_is : one ≡ 0 = so in
+    omega (arith, same, none_is, counted, added)

@@ -1,27 +1,28 @@
 //! What a finishing record brings back.
-ghost use Rattle.std.specs.Prelude.{◌≡◌, IfOk};
+ghost use Rattle.std.specs.Prelude.{◌≡◌, ◌<◌, IfOk, length, option_and_then, slice_get};
 ghost use Rattle.trace_ledger.specs.Entries.{entry_of};
 
 use credit_ledger::Entry;
-use ompt_events::{Record, finish};
 use std::alloc::{AllocError, Global};
+use task_tree::Run;
 
-/// Returns the entry that the record makes, by its claim, or `None` if the record finishes no task. Fails
-/// only when out of memory.
-pub(crate) fn entry_of(alloc: Global, event: &Record) -> Result<Option<Entry>, AllocError>
-    ensures { IfOk result (λ entry. entry ≡ entry_of event.now) }
+/// Returns the entry that the record at a place makes, by its claim, or `None` if the record finishes no task.
+/// Fails only when out of memory.
+pub(crate) fn entry_at(alloc: Global, run: &Run, at: usize) -> Result<Option<Entry>, AllocError>
+    requires { at < length run.now.records }
+    ensures { IfOk result (λ entry. entry ≡ option_and_then entry_of (slice_get run.now.records at)) }
 {
-    let Some((task, part)) = finish(event) else {
+    let Some(finished) = run.finishing(at) else {
         return Ok(None);
     };
-    let Some(claim) = event.body.claim() else {
+    let Some(claim) = run.claim(at) else {
         return Ok(None);
     };
     Ok(Some(Entry {
-        thread: event.thread,
-        part,
+        thread: run.thread(at),
+        part: finished.part,
         kept: claim.kept,
-        task,
+        task: run.task(finished.task),
         root: claim.root,
         path: claim.path.to_path(alloc)?,
     }))

@@ -1,5 +1,6 @@
 //! The ledger that the finishing records of a trace make.
-ghost use Rattle.std.specs.Prelude.{◌≡◌, ◌++◌, ◌∷◌, [], Some, IfOk, OnOk, IsOkUnless};
+ghost use Rattle.std.specs.Prelude.{◌≡◌, ◌<◌, ◌++◌, ◌∷◌, [], Some, IfOk, OnOk, IsOkUnless, length, option_and_then, slice_get};
+ghost use Rattle.ompt_events.specs.declared.records.Record.{Record};
 ghost use Rattle.ompt_events.specs.Traces.{IsSound};
 ghost use Rattle.credit_ledger.specs.declared.entry.Entry.{Entry};
 ghost use Rattle.credit_ledger.specs.declared.fault.LedgerFault.TheVariants.{Memory};
@@ -7,10 +8,9 @@ ghost use Rattle.credit_ledger.specs.declared.view.Call.TheVariants.{Enter};
 ghost use Rattle.credit_ledger.specs.Histories.{IsPossible};
 ghost use Rattle.trace_ledger.specs.Entries.{entry_of, IsLedgerOf, HasRightEntries};
 
-use crate::entries::entry_of;
+use crate::entries::entry_at;
 use crate::makers::find_makers;
 use credit_ledger::{Ledger, LedgerFault};
-use ompt_events::Record;
 use std::alloc::Global;
 use task_tree::Run;
 
@@ -26,26 +26,26 @@ pub fn ledger_of(alloc: Global, run: &Run) -> Result<Ledger, LedgerFault>
     let Ok(makers) = find_makers(alloc, run) else {
         return Err(LedgerFault::Memory);
     };
-    let records = run.records();
     let mut ledger = Ledger::new(alloc);
     for index in 0..makers.len() {
         if let Some(at) = makers[index] {
-            enter(alloc, &records[at as usize], &mut ledger)?;
+            enter(alloc, run, at as usize, &mut ledger)?;
         }
     }
     Ok(ledger)
 }
 
-/// Enters what the record brings back, if it finishes a task. Requires a sound body. Fails with the
+/// Enters what the record at a place brings back, if it finishes a task. Requires a sound body. Fails with the
 /// ledger's fault; if the entry is possible, only with `Memory`.
-fn enter(alloc: Global, event: &Record, ledger: &mut Ledger) -> Result<(), LedgerFault>
-    requires { IsSound event.now.body }
-    ensures entered { (entry : Entry) → entry_of event.now ≡ Some entry
+fn enter(alloc: Global, run: &Run, at: usize, ledger: &mut Ledger) -> Result<(), LedgerFault>
+    requires within { at < length run.now.records }
+    requires sound { (r : Record) → slice_get run.now.records at ≡ Some r → IsSound r.body }
+    ensures entered { (entry : Entry) → option_and_then entry_of (slice_get run.now.records at) ≡ Some entry
         → OnOk result (ledger.new ≡ ledger.old ++ entry ∷ []) }
-    ensures memory { (entry : Entry) → entry_of event.now ≡ Some entry → IsPossible ledger.old (Enter entry)
-        → IsOkUnless result Memory }
+    ensures memory { (entry : Entry) → option_and_then entry_of (slice_get run.now.records at) ≡ Some entry
+        → IsPossible ledger.old (Enter entry) → IsOkUnless result Memory }
 {
-    let Ok(made) = entry_of(alloc, event) else {
+    let Ok(made) = entry_at(alloc, run, at) else {
         return Err(LedgerFault::Memory);
     };
     let Some(entry) = made else {

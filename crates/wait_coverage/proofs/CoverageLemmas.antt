@@ -19,7 +19,7 @@ use Rattle.ompt_events.specs.Tree.{HasPath}
 use Rattle.ompt_events.specs.Regions.{ended, at_once}
 use Rattle.ompt_events.proofs.RecordLemmas.{at_through}
 use Rattle.ompt_events.proofs.RegionLemmas.{own_begin}
-use Rattle.task_tree.specs.Subjects.{subject}
+use Rattle.packed_trace.specs.Named.{subject}
 use Rattle.task_tree.specs.Family.{FamilyView, IsFamilyOf}
 use Rattle.task_tree.proofs.NamedLemmas.{region_subject}
 use Rattle.task_tree.proofs.PathLemmas.{root_known}

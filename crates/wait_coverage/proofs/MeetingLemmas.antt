@@ -16,7 +16,7 @@ use Rattle.ompt_events.specs.Regions.{IsRegion, barrier_begun, IsBarrierBegin}
 use Rattle.ompt_events.specs.Teams.{IsTeammate}
 use Rattle.ompt_events.proofs.PlaceLemmas.{at_within}
 use Rattle.index_tables.specs.Numbering.{AreApart}
-use Rattle.task_tree.specs.Subjects.{subject}
+use Rattle.packed_trace.specs.Named.{subject}
 use Rattle.task_tree.proofs.LinkLemmas.{get_set_same, get_set_other}
 use Rattle.task_tree.proofs.LookupLemmas.{subject_calls}
 use Rattle.task_tree.proofs.SubjectLemmas.{call_index}

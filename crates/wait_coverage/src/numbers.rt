@@ -1,5 +1,6 @@
 //! How many children a task had created before each of its records.
 ghost use Rattle.std.specs.Prelude.{◌≡◌, ◌<◌, ◌+◌, IfOk, length, replicate};
+ghost use Rattle.task_tree.specs.Runs.{IsRun};
 ghost use Rattle.wait_coverage.specs.Numbers.{AreCreationCounts, AreNumbers, IsNumberAt};
 
 use std::alloc::{AllocError, Global};
@@ -39,10 +40,10 @@ fn number_at(run: &Run, counts: &[u32], at: usize) -> u32
 /// Counts the child that a record creates.
 fn count_child(run: &Run, counts: &mut Vec<u32>, at: usize)
     requires within { at < length run.now.records }
+    requires is_run { IsRun run.now }
     requires counts { AreCreationCounts run.now.records at run.now.family.tasks counts.old.items }
     ensures { AreCreationCounts run.now.records (at + 1) run.now.family.tasks counts.new.items }
 {
-    let _records = run.records();
     if let Some(made) = run.creation(at) {
         counts[made.parent] += 1;
     }

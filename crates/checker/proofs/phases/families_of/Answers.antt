@@ -11,4 +11,4 @@ returns-in_err-exclude-clause-least c =
     rw (p.1, p.2)
     (least_more rs [] (SeqGap ∷ []) (beyond SeqGap) c.in_err-exclude.field-0.0 refl (none_clear rs)
     (fault_shown rs (SeqGap ∷ []) c.in_err-exclude.field-0.0 refl
-    (c.in_err-exclude.ensures.fault rs c.gap.ensures)))
+    (c.in_err-exclude.ensures.fault rs c.gap_in.ensures)))

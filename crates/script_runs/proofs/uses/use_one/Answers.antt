@@ -1,6 +1,6 @@
 use Rattle.std.proofs.Common.{◌≡◌, ◌∙◌, ℕ, List, Option, sym, ap, subst, ◌+◌}
 use Rattle.std.specs.Prelude.{option_map}
-use Rattle.task_tree.specs.Subjects.{subject, object}
+use Rattle.packed_trace.specs.Named.{subject, object}
 use Rattle.script_runs.specs.Parts.{IsFound, AreLastUses, noted}
 use Rattle.script_runs.specs.declared.uses.Use.{Use}
 use Rattle.script_runs.proofs.UseLemmas.{told_of, last_next}

@@ -4,4 +4,5 @@ use Rattle.task_tree.proofs.chains.find_chains.Given as goal
 
 -- the chains of the records that are passed
 abbrev pub invariant-loop-passed : goal.invariant-loop-passed
-invariant-loop-passed l = AreChainsFrom l.records (length l.records - l.passed) l.firsts.items l.nexts.items
+invariant-loop-passed l = AreChainsFrom l.trace.records (length l.trace.records - l.passed) l.firsts.items
+    l.nexts.items

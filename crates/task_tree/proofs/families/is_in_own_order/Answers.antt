@@ -9,9 +9,9 @@ use Rattle.task_tree.proofs.families.is_in_own_order.Goals as goal
 untold : (c : goal.Then-version-eq1) → TellsNoTurns c.args.trace.now.records
 untold c =
     let P : ℕ → Type 0 = λ version. IsTraceOf version c.args.trace.now.records in
-    let trace = rw c.records-records.ensures.value at c.records-records.ensures.is_trace in
+    let trace = c.version.ensures.is_trace in
     first_version_tells_none c.args.trace.now.records
-    (subst P (sym c.version.ensures ∙ c.if-version-eq1.true) trace)
+    (subst P (sym c.version.ensures.value ∙ c.if-version-eq1.true) trace)
 
 pub returns-then-version-eq1-clause-rises : goal.returns-then-version-eq1-clause-rises
 returns-then-version-eq1-clause-rises c = λ _. untold_rise c.args.trace.now.records (untold c)
@@ -20,4 +20,4 @@ pub returns-then-version-eq1-clause-gapless : goal.returns-then-version-eq1-clau
 returns-then-version-eq1-clause-gapless c = λ _. free_of_gaps c.args.trace.now.records (untold c)
 
 pub returns-clause-rises : goal.returns-clause-rises
-returns-clause-rises c = rw c.records-records.ensures.value at c.turns_rise.ensures.rises
+returns-clause-rises c = c.turns_rise.ensures.rises

@@ -8,12 +8,12 @@ pub below-requires : goal.below-requires
 below-requires c =
     λ above known.
     let low =
-    above_shallow c.args.records.now c.args.index c.in-Some.link.parent c.args.tasks.now
+    above_shallow c.args.trace.now.records c.args.index c.in-Some.link.parent c.args.tasks.now
     c.args.roots.now above c.requires.roots (omega (arith, c.requires.within)) known in
     omega (arith, low, c.requires.within, c.requires.places.few, c.requires.few)
 
-pub bounds-records-places : goal.bounds-records-places
-bounds-records-places c =
+pub root_made-requires : goal.root_made-requires
+root_made-requires c =
     let maker =
     c.requires.places.each c.args.index (get_or c.args.tasks.now c.args.index 0)
     (slice_get-get_or c.args.tasks.now c.args.index 0 c.requires.within) in
@@ -29,7 +29,7 @@ pub returns-in-Some : goal.returns-in-Some
 returns-in-Some c =
     let within : c.args.index < length c.args.links.now =
     omega (arith, c.requires.within, c.requires.links.all) in
-    below_stood c.args.records.now c.args.index c.in-Some.link c.args.tasks.now c.args.links.now
+    below_stood c.args.trace.now.records c.args.index c.in-Some.link c.args.tasks.now c.args.links.now
     c.args.roots.now c.below.result c.requires.links c.requires.roots
     (slice_get_read c.args.links.now (length c.args.links.now) c.args.index c.index-links-index.result
     refl within c.index-links-index.is
@@ -47,13 +47,10 @@ returns-in-None c =
     (slice_get-get_or c.args.places.now c.args.index 0
     (slice_get_within c.args.places.now c.args.index maker.0 maker.1))
     ∙ maker.1) in
-    let within : slice_index c.args.places.now c.args.index < length c.args.records.now =
+    let within : slice_index c.args.places.now c.args.index < length c.args.trace.now.records =
     omega (arith, read, maker.2) in
-    made_stood c.args.records.now c.args.index (slice_index c.args.places.now c.args.index)
-    c.index-records-places.result c.args.tasks.now c.args.places.now c.root_made.result c.requires.places
+    made_stood c.args.trace.now.records c.args.index (slice_index c.args.places.now c.args.index)
+    c.args.tasks.now c.args.places.now c.root_made.result c.requires.places
     (slice_get-get_or c.args.places.now c.args.index 0
     (slice_get_within c.args.places.now c.args.index maker.0 maker.1))
-    (slice_get_read c.args.records.now (length c.args.records.now)
-    (slice_index c.args.places.now c.args.index) c.index-records-places.result refl within
-    c.index-records-places.is)
     c.root_made.ensures

@@ -3,4 +3,4 @@ use Rattle.task_tree.proofs.gap_search.find_roots.Given as goal
 
 -- the roots that begin by the records so far
 abbrev pub invariant-loop-at : goal.invariant-loop-at
-invariant-loop-at l = AreRootsBegun l.records l.at l.roots
+invariant-loop-at l = AreRootsBegun l.trace.records l.at l.roots

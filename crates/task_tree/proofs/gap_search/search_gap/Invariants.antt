@@ -6,6 +6,6 @@ use Rattle.task_tree.proofs.gap_search.search_gap.Given as goal
 -- no record so far has a gap, and the greatest turns by them are known
 abbrev pub invariant-loop-at : goal.invariant-loop-at
 invariant-loop-at l = record {
-  greatest : AreGreatestTurns l.records l.at l.greatest;
-  free : (k : ℕ) → k < l.at → HasTurnGap l.records k → ⊥;
+  greatest : AreGreatestTurns l.trace.records l.at l.greatest;
+  free : (k : ℕ) → k < l.at → HasTurnGap l.trace.records k → ⊥;
 }

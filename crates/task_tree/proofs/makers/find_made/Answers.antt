@@ -2,14 +2,15 @@ use Rattle.std.specs.Result.{result_err}
 use Rattle.ompt_events.specs.declared.cause.Cause.TheVariants.{CreatedTwice}
 use Rattle.ompt_events.specs.Records.{made}
 use Rattle.ompt_events.proofs.FaultLemmas.{malformed_alone}
-use Rattle.task_tree.specs.Makers.{forked_region, least_of}
+use Rattle.task_tree.specs.Makers.{least_of}
+use Rattle.packed_trace.specs.Packed.{forked_region}
 use Rattle.task_tree.proofs.MakerLemmas.{gathered_noted, gathered_made, never_again, never_twice}
 use Rattle.task_tree.proofs.MakerLemmas.{task_again, region_again}
 use Rattle.task_tree.proofs.makers.find_made.Goals as goal
 
 pub returns-in-Err-clause-found : goal.returns-in-Err-clause-found
 returns-in-Err-clause-found c =
-    let rs = c.args.records.now in
+    let rs = c.args.trace.now.records in
     let tasks = c.in_ok-tasks.field-0.tasks in
     let regions = c.in_ok-tasks.field-0.regions in
     let again = rw c.in-Err.is at c.in_ok-tasks-2.ensures.again in
@@ -23,20 +24,21 @@ pub returns-in-Ok-2-clause-tasks : goal.returns-in-Ok-2-clause-tasks
 returns-in-Ok-2-clause-tasks c =
     let names = c.in_ok-tasks.field-0.tasks in
     rw (rw c.in-Ok.is at c.in_ok-tasks-2.ensures.ids)
-    (gathered_noted made c.args.records.now names.ids.items names.places.items c.in_ok-tasks.ensures.tasks)
+    (gathered_noted made c.args.trace.now.records names.ids.items names.places.items
+    c.in_ok-tasks.ensures.tasks)
 
 pub returns-in-Ok-2-clause-places : goal.returns-in-Ok-2-clause-places
 returns-in-Ok-2-clause-places c =
     let names = c.in_ok-tasks.field-0.tasks in
     rw (rw c.in-Ok.is at c.in_ok-tasks-2.ensures.ids, rw c.in-Ok.is at c.in_ok-tasks-2.ensures.places)
-    (gathered_made c.args.records.now names.ids.items names.places.items c.in_ok-tasks.ensures.tasks
+    (gathered_made c.args.trace.now.records names.ids.items names.places.items c.in_ok-tasks.ensures.tasks
     (rw c.in-Ok.is at c.in_ok-tasks-2.ensures.apart))
 
 pub returns-in-Ok-2-clause-regions : goal.returns-in-Ok-2-clause-regions
 returns-in-Ok-2-clause-regions c =
     let names = c.in_ok-tasks.field-0.regions in
     rw (rw c.in-Ok-2.is at c.in_ok-regions.ensures.ids)
-    (gathered_noted forked_region c.args.records.now names.ids.items names.places.items
+    (gathered_noted forked_region c.args.trace.now.records names.ids.items names.places.items
     c.in_ok-tasks.ensures.regions)
 
 pub returns-in-Ok-2-clause-begun : goal.returns-in-Ok-2-clause-begun
@@ -47,15 +49,15 @@ pub returns-in-Ok-2-clause-free : goal.returns-in-Ok-2-clause-free
 returns-in-Ok-2-clause-free c =
     let tasks = c.in_ok-tasks.field-0.tasks in
     let regions = c.in_ok-tasks.field-0.regions in
-    never_twice c.args.records.now
-    (never_again made c.args.records.now tasks.ids.items tasks.places.items c.in_ok-tasks.ensures.tasks
+    never_twice c.args.trace.now.records
+    (never_again made c.args.trace.now.records tasks.ids.items tasks.places.items c.in_ok-tasks.ensures.tasks
     (rw c.in-Ok.is at c.in_ok-tasks-2.ensures.apart))
-    (never_again forked_region c.args.records.now regions.ids.items regions.places.items
+    (never_again forked_region c.args.trace.now.records regions.ids.items regions.places.items
     c.in_ok-tasks.ensures.regions (rw c.in-Ok-2.is at c.in_ok-regions.ensures.apart))
 
 pub returns-in-Err-2-clause-found : goal.returns-in-Err-2-clause-found
 returns-in-Err-2-clause-found c =
-    let rs = c.args.records.now in
+    let rs = c.args.trace.now.records in
     let tasks = c.in_ok-tasks.field-0.tasks in
     let regions = c.in_ok-tasks.field-0.regions in
     let apart = rw c.in-Ok.is at c.in_ok-tasks-2.ensures.apart in

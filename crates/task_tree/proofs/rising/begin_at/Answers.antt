@@ -8,14 +8,14 @@ use Rattle.task_tree.proofs.rising.begin_at.Goals as goal
 pub returns-in-Some : goal.returns-in-Some
 returns-in-Some c =
     let own =
-    call_task c.args.family.now.tasks (at begun_root c.args.records.now c.args.at) c.root_at.result
+    call_task c.args.family.now.tasks (at begun_root c.args.trace.now.records c.args.at) c.root_at.result
     c.in-Some.index c.root_at.ensures c.in-Some.is in
     record { task = own.0; begins = is_root own.1; indexed = own.2 }
 
 pub returns-in-None : goal.returns-in-None
 returns-in-None c =
     let tasks = c.args.family.now.tasks in
-    begin_found c.args.records.now tasks c.args.at c.start_at.result
-    (call_none tasks (at begun_root c.args.records.now c.args.at) c.root_at.result c.root_at.ensures
+    begin_found c.args.trace.now.records tasks c.args.at c.start_at.result
+    (call_none tasks (at begun_root c.args.trace.now.records c.args.at) c.root_at.result c.root_at.ensures
     c.in-None.is)
     c.start_at.ensures

@@ -11,7 +11,7 @@ row-requires c =
     slice_get_read c.reached.order.items (length c.reached.order.items) c.reached.next
     c.index-task.result.now refl within c.index-task.ensures in
     let own =
-    task_reached c.args.records.now c.args.tasks.now c.reached.roots.items c.reached.order.items
+    task_reached c.args.trace.now.records c.args.tasks.now c.reached.roots.items c.reached.order.items
     c.reached.next c.index-task.result.now c.reached.invariant.reach.reach here in
     let inside = slice_get_within c.args.tasks.now c.index-task.result.now.index own.0 own.1 in
     omega (arith, inside, c.requires.rows.all)
@@ -28,7 +28,7 @@ reached-smaller c =
 
 pub reached-preserved : goal.reached-preserved
 reached-preserved c =
-    let rs = c.args.records.now in
+    let rs = c.args.trace.now.records in
     let order = c.reached.order.items in
     let entry = c.index-task.result.now in
     let within : c.reached.next < length order = search rules in
@@ -52,5 +52,6 @@ reached-preserved c =
 pub returns : goal.returns
 returns c =
     let all : length c.reached.order.items ≤ c.reached.next = search rules in
-    roots_found c.args.records.now c.args.tasks.now c.reached.roots.items c.reached.order.items c.reached.next
+    roots_found c.args.trace.now.records c.args.tasks.now c.reached.roots.items c.reached.order.items
+    c.reached.next
     c.requires.noted c.reached.invariant.reach c.reached.invariant.closed all

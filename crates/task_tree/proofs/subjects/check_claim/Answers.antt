@@ -1,5 +1,4 @@
-use Rattle.std.proofs.Common.{◌∙◌, ap, Some}
-use Rattle.ompt_events.specs.declared.records.Claim.{Claim}
+use Rattle.std.proofs.Common.{sym}
 use Rattle.ompt_events.proofs.ListLemmas.{get_contains}
 use Rattle.task_tree.proofs.subjects.check_claim.Goals as goal
 
@@ -7,8 +6,7 @@ pub returns-in-Some-index_near : goal.returns-in-Some-index_near
 returns-in-Some-index_near c =
     λ yes. (
       yes,
-      rw c.in-Some.is
-          (get_contains c.args.tasks.now c.in-Some.claim.root c.in-Some-index_near.index
-          ((c.index_near.ensures c.in-Some-index_near.index).0 c.in-Some-index_near.is
-          ∙ ap (λ (claim : Claim). Some claim.root) c.get.ensures)),
+      rw (sym c.claim_near.ensures, c.in-Some.is)
+          (get_contains c.args.tasks.now c.in-Some.claim.now.root c.in-Some-index_near.index
+          ((c.index_near.ensures c.in-Some-index_near.index).0 c.in-Some-index_near.is)),
     )

@@ -1,16 +1,15 @@
-use Rattle.std.proofs.Common.{◌≡◌, ◌∙◌, ◌+◌, [], ◌∷◌, ◌++◌, length, sym, ap, arith}
-use Rattle.std.specs.Prelude.{IsTrue, take}
-use Rattle.task_tree.specs.Packed.{ArePacked}
+use Rattle.std.proofs.Common.{◌≡◌, ◌∙◌, ◌<◌, ◌+◌, length, sym, arith}
+use Rattle.std.specs.Prelude.{IsTrue}
 use Rattle.std.proofs.lemmas.Option.{slice_get_within}
 use Rattle.ompt_events.specs.Records.{creation}
 use Rattle.ompt_events.specs.Places.{at}
-use Rattle.ompt_events.proofs.PlaceLemmas.{at_read, read_get, none_from_test}
+use Rattle.ompt_events.proofs.ListLemmas.{get_within}
+use Rattle.ompt_events.proofs.PlaceLemmas.{at_get, none_from_test}
 use Rattle.task_tree.specs.Rootless.{AllNameKnown}
-use Rattle.task_tree.proofs.RootlessLemmas.{known_start, known_more}
-use Rattle.task_tree.specs.Subjects.{subject, object}
+use Rattle.task_tree.proofs.RootlessLemmas.{known_start, known_more, named_known}
+use Rattle.packed_trace.specs.Named.{subject, object}
 use Rattle.task_tree.proofs.SubjectLemmas.{up_to_start, up_to_more, up_to_end, created_names, finds_slot}
 use Rattle.task_tree.proofs.SubjectLemmas.{slot_holds, some_there}
-use Rattle.task_tree.proofs.PackedLemmas.{packed_start, packed_more, packed_end}
 use Rattle.task_tree.proofs.LinkLemmas.{counts_start, links_start, counts_other, links_other, counts_linked}
 use Rattle.task_tree.proofs.LinkLemmas.{links_linked, count_small}
 use Rattle.task_tree.proofs.subjects.find_subjects.Goals as goal
@@ -18,19 +17,18 @@ use Rattle.task_tree.proofs.subjects.find_subjects.Goals.{then-is_some, else-is_
 
 pub loop-at-init : goal.loop-at-init
 loop-at-init c = record {
-  events = packed_start c.args.records.now _ c.in_ok-events.ensures.items;
   subjects =
-      up_to_start subject c.args.records.now c.args.tasks.now c.in_ok-subjects.subjects.items
-      c.in_ok-subjects.ensures;
+      up_to_start subject c.args.trace.now.records c.args.tasks.now c.in_ok-subjects.subjects.items
+      (rw c.len-count.ensures.value at c.in_ok-subjects.ensures);
   objects =
-      up_to_start object c.args.records.now c.args.tasks.now c.in_ok-objects.objects.items
-      c.in_ok-objects.ensures;
-  known = λ yes. known_start c.args.records.now c.args.tasks.now c.args.regions.now;
+      up_to_start object c.args.trace.now.records c.args.tasks.now c.in_ok-objects.objects.items
+      (rw c.len-count.ensures.value at c.in_ok-objects.ensures);
+  known = λ yes. known_start c.args.trace.now.records c.args.tasks.now c.args.regions.now;
   counts =
-      counts_start c.args.records.now c.args.tasks.now c.in_ok-counts.counts.items
+      counts_start c.args.trace.now.records c.args.tasks.now c.in_ok-counts.counts.items
       (rw (c.as_slice.ensures) at c.in_ok-counts.ensures);
   links =
-      links_start c.args.records.now c.args.tasks.now c.in_ok-links.links.items
+      links_start c.args.trace.now.records c.args.tasks.now c.in_ok-links.links.items
       (rw (c.as_slice-2.ensures) at c.in_ok-links.ensures);
 }
 
@@ -57,52 +55,43 @@ link_child-requires-clause-room c =
     slot_holds c.args.tasks.now _ c.look_up-found.result.subject _ c.look_up-found.ensures.subject
     (λ task up is.
     let small =
-    count_small c.args.records.now c.loop-at.at c.args.tasks.now c.loop-at.counts.items task up
+    count_small c.args.trace.now.records c.loop-at.at c.args.tasks.now c.loop-at.counts.items task up
     c.loop-at.invariant.counts is in
-    omega (arith, small, c.loop-at-test.true, c.requires.few))
+    omega (arith, small, c.loop-at-test.true, c.len-count.ensures.value, c.requires.few))
 
 pub loop-at-preserved : goal.loop-at-preserved
 loop-at-preserved c =
-    let rs = c.args.records.now in
+    let rs = c.args.trace.now.records in
     let i = c.loop-at.at in
     let tasks = c.args.tasks.now in
-    let event = c.index-records-at.result in
-    let events : ArePacked (take (i + 1) rs) c.push.new.self.items =
-    packed_more rs i c.loop-at.events.items c.push.new.self.items event c.loop-at-test.true
-    c.index-records-at.is c.loop-at.invariant.events
-    (c.in_ok-push.ensures.items ∙ ap (λ e. c.loop-at.events.items ++ e ∷ []) c.of.ensures) in
-    let of : at subject rs i ≡ subject event.body =
-    at_read subject rs i event c.loop-at-test.true c.index-records-at.is in
-    let names : at object rs i ≡ object event.body =
-    at_read object rs i event c.loop-at-test.true c.index-records-at.is in
-    let says : at creation rs i ≡ c.creation.result =
-    at_read creation rs i event c.loop-at-test.true c.index-records-at.is ∙ sym c.creation.ensures in
+    let within : i < length rs = omega (arith, c.loop-at-test.true, c.len-count.ensures.value) in
+    let (r, stands) = get_within rs i within in
+    let says : at creation rs i ≡ c.creation.result = sym c.creation.ensures in
     let found = c.look_up-found.result in
     let subjects =
-    up_to_more subject rs i tasks c.loop-at.subjects.items found.subject c.loop-at-test.true
-    c.loop-at.invariant.subjects (rw of c.look_up-found.ensures.subject) in
+    up_to_more subject rs i tasks c.loop-at.subjects.items found.subject within
+    c.loop-at.invariant.subjects c.look_up-found.ensures.subject in
     let objects =
-    up_to_more object rs i tasks c.loop-at.objects.items found.object c.loop-at-test.true
-    c.loop-at.invariant.objects (rw names c.look_up-found.ensures.object) in
+    up_to_more object rs i tasks c.loop-at.objects.items found.object within
+    c.loop-at.invariant.objects c.look_up-found.ensures.object in
     let known : IsTrue c.look_up-found.new.known → AllNameKnown rs (i + 1) tasks c.args.regions.now = λ yes.
     let both = c.look_up-found.ensures.known yes in
-    known_more rs i tasks c.args.regions.now event (c.loop-at.invariant.known both.0)
-    (read_get rs i event c.loop-at-test.true c.index-records-at.is) both.1 in
+    known_more rs i tasks c.args.regions.now r (c.loop-at.invariant.known both.0) stands
+    (named_known rs tasks c.args.regions.now i r stands both.1) in
     elim c.if-is_some.branch [
       | then-is_some w ↦
           let made = some_there c.creation.result (sym c.is_some.ensures ∙ w.if-is_some.true) in
           let parent = made.0.0 in
           let child = made.0.1 in
           let creates = says ∙ made.1 in
-          let both = created_names event.body parent child (sym c.creation.ensures ∙ made.1) in
+          let both = created_names r.body parent child (sym (at_get creation rs i r stands) ∙ creates) in
           let linked =
           w.link_child.ensures tasks parent child
           (finds_slot tasks _ found.subject parent c.requires.apart c.look_up-found.ensures.subject
-          both.0)
+          (at_get subject rs i r stands ∙ both.0))
           (finds_slot tasks _ found.object child c.requires.apart c.look_up-found.ensures.object
-          both.1) in
+          (at_get object rs i r stands ∙ both.1)) in
           rw (w.counts-is, w.links-is) (record {
-            events = events;
             subjects = subjects;
             objects = objects;
             known = known;
@@ -118,7 +107,6 @@ loop-at-preserved c =
       | else-is_some w ↦
           let none = says ∙ none_from_test c.creation.result (sym c.is_some.ensures ∙ w.if-is_some.false) in
           rw (w.counts-is, w.links-is) (record {
-            events = events;
             subjects = subjects;
             objects = objects;
             known = known;
@@ -127,40 +115,34 @@ loop-at-preserved c =
           })
     ]
 
-pub returns-clause-events : goal.returns-clause-events
-returns-clause-events c =
-    let all : c.loop-at.at ≡ length c.args.records.now =
-    omega (arith, c.loop-at-test.false, c.loop-at.auto.at-end) in
-    packed_end c.args.records.now c.loop-at.at c.loop-at.events.items all c.loop-at.invariant.events
-
 pub returns-clause-subjects : goal.returns-clause-subjects
 returns-clause-subjects c =
-    let all : c.loop-at.at ≡ length c.args.records.now =
-    omega (arith, c.loop-at-test.false, c.loop-at.auto.at-end) in
-    up_to_end subject c.args.records.now c.loop-at.at c.args.tasks.now c.loop-at.subjects.items all
+    let all : c.loop-at.at ≡ length c.args.trace.now.records =
+    omega (arith, c.loop-at-test.false, c.loop-at.auto.at-end, c.len-count.ensures.value) in
+    up_to_end subject c.args.trace.now.records c.loop-at.at c.args.tasks.now c.loop-at.subjects.items all
     c.loop-at.invariant.subjects
 
 pub returns-clause-objects : goal.returns-clause-objects
 returns-clause-objects c =
-    let all : c.loop-at.at ≡ length c.args.records.now =
-    omega (arith, c.loop-at-test.false, c.loop-at.auto.at-end) in
-    up_to_end object c.args.records.now c.loop-at.at c.args.tasks.now c.loop-at.objects.items all
+    let all : c.loop-at.at ≡ length c.args.trace.now.records =
+    omega (arith, c.loop-at-test.false, c.loop-at.auto.at-end, c.len-count.ensures.value) in
+    up_to_end object c.args.trace.now.records c.loop-at.at c.args.tasks.now c.loop-at.objects.items all
     c.loop-at.invariant.objects
 
 pub returns-clause-known : goal.returns-clause-known
 returns-clause-known c = λ yes.
-    let all : c.loop-at.at ≡ length c.args.records.now =
-    omega (arith, c.loop-at-test.false, c.loop-at.auto.at-end) in
+    let all : c.loop-at.at ≡ length c.args.trace.now.records =
+    omega (arith, c.loop-at-test.false, c.loop-at.auto.at-end, c.len-count.ensures.value) in
     rw all at (c.loop-at.invariant.known yes)
 
 pub returns-clause-counts : goal.returns-clause-counts
 returns-clause-counts c =
-    let all : c.loop-at.at ≡ length c.args.records.now =
-    omega (arith, c.loop-at-test.false, c.loop-at.auto.at-end) in
+    let all : c.loop-at.at ≡ length c.args.trace.now.records =
+    omega (arith, c.loop-at-test.false, c.loop-at.auto.at-end, c.len-count.ensures.value) in
     rw all at c.loop-at.invariant.counts
 
 pub returns-clause-links : goal.returns-clause-links
 returns-clause-links c =
-    let all : c.loop-at.at ≡ length c.args.records.now =
-    omega (arith, c.loop-at-test.false, c.loop-at.auto.at-end) in
+    let all : c.loop-at.at ≡ length c.args.trace.now.records =
+    omega (arith, c.loop-at-test.false, c.loop-at.auto.at-end, c.len-count.ensures.value) in
     rw all at c.loop-at.invariant.links

@@ -21,7 +21,8 @@ returns-clause-marked c holds =
     let start = c.in-Some.ensures in
     let slot = c.in-Some-slot_of.slot in
     let is = c.slot_of.ensures slot c.in-Some-slot_of.is in
-    marked_more c.args.records.now c.args.at begin.index start.task begin.turn slot c.args.family.now.tasks
+    marked_more c.args.trace.now.records c.args.at begin.index start.task begin.turn slot
+    c.args.family.now.tasks
     c.args.offsets.now c.args.begun.now c.requires.family.makers.apart c.requires.rising
     (slot_within c.args.offsets.now (length c.args.begun.now) begin.index begin.turn slot c.requires.slots
     is)
@@ -33,7 +34,8 @@ returns-clause-anew c holds =
     let start = c.in-Some.ensures in
     let slot = c.in-Some-slot_of.slot in
     let is = c.slot_of.ensures slot c.in-Some-slot_of.is in
-    anew_here c.args.records.now c.args.at begin.index start.task begin.turn slot c.args.family.now.tasks
+    anew_here c.args.trace.now.records c.args.at begin.index start.task begin.turn slot
+    c.args.family.now.tasks
     c.args.offsets.now c.args.begun.now c.requires.before start.starts start.indexed is
     (slice_get-get_or c.args.begun.now slot false
     (slot_within c.args.offsets.now (length c.args.begun.now) begin.index begin.turn slot

@@ -12,4 +12,5 @@ overflow_add-index_mut c =
     (omega (arith, inside, c.requires.all)) c.index_mut.ensures.value in
     let few = c.requires.few in
     let within = c.requires.within in
+    let short = c.requires.short in
     search rules

@@ -5,7 +5,7 @@ use Rattle.task_tree.proofs.turn_table.turns_of.Goals as goal
 
 pub returns-clause-turns : goal.returns-clause-turns
 returns-clause-turns c =
-    let rs = c.args.records.now in
+    let rs = c.args.trace.now.records in
     let tasks = c.args.family.now.tasks in
     let walk = c.loop-thread.walk in
     let chains = c.in_ok-chains.ensures in
@@ -15,7 +15,7 @@ returns-clause-turns c =
 
 pub returns-clause-order : goal.returns-clause-order
 returns-clause-order c =
-    let rs = c.args.records.now in
+    let rs = c.args.trace.now.records in
     let tasks = c.args.family.now.tasks in
     let walk = c.loop-thread.walk in
     let chains = c.in_ok-chains.ensures in

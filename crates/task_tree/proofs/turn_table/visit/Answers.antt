@@ -1,9 +1,9 @@
-use Rattle.std.proofs.Common.{◌≡◌, ◌∙◌, ◌<◌, ◌+◌, Some, get_or, set, length, refl, sym, ap, arith, rules}
+use Rattle.std.proofs.Common.{ℕ, ◌≡◌, ◌∙◌, ◌<◌, ◌+◌, Some, set, length, refl, sym, ap, arith, rules}
 use Rattle.std.proofs.Common.{subst}
 use Rattle.std.proofs.lemmas.Option.{slice_get_within, slice_get_read, get_or_from_slice_get, same_Some}
 use Rattle.std.specs.Prelude.{slice_get}
-use Rattle.ompt_events.specs.declared.records.Record.{Record}
-use Rattle.ompt_events.proofs.PlaceLemmas.{thread_read, thread_index}
+use Rattle.ompt_events.proofs.ListLemmas.{get_within}
+use Rattle.ompt_events.proofs.PlaceLemmas.{thread_get}
 use Rattle.task_tree.specs.TurnTable.{turn_on, AreTurnMarks, IsTableAt}
 use Rattle.std.specs.Vec.{with_item}
 use Rattle.task_tree.specs.declared.turn_table.Walk.{Walk}
@@ -12,7 +12,7 @@ use Rattle.task_tree.proofs.turn_table.visit.Goals as goal
 
 pub returns-in_default : goal.returns-in_default
 returns-in_default c thread by_thread =
-    let rs = c.args.records.now in
+    let rs = c.args.trace.now.records in
     let tasks = c.args.family.now.tasks in
     let i = c.args.at in
     let q = c.args.walk.now in
@@ -35,10 +35,8 @@ returns-in_default c thread by_thread =
 
 pub index-requires : goal.index-requires
 index-requires c =
-    let rs = c.args.records.now in
-    let r = get_or rs c.args.at c.index-records-at.result in
-    let walk =
-    c.requires.before r.thread (thread_index rs c.args.at c.index-records-at.result c.requires.within) in
+    let rs = c.args.trace.now.records in
+    let walk = c.requires.before c.thread-thread.result c.thread-thread.ensures in
     let start = c.in-Some.ensures in
     let inside = slice_get_within c.args.family.now.tasks c.in-Some.begin.index start.task start.indexed in
     let all = walk.marks.all in
@@ -47,10 +45,8 @@ index-requires c =
 
 pub index_mut-requires-2 : goal.index_mut-requires-2
 index_mut-requires-2 c =
-    let rs = c.args.records.now in
-    let r = get_or rs c.args.at c.index-records-at.result in
-    let walk =
-    c.requires.before r.thread (thread_index rs c.args.at c.index-records-at.result c.requires.within) in
+    let rs = c.args.trace.now.records in
+    let walk = c.requires.before c.thread-thread.result c.thread-thread.ensures in
     let start = c.in-Some.ensures in
     let inside = slice_get_within c.args.family.now.tasks c.in-Some.begin.index start.task start.indexed in
     let all = walk.marks.all in
@@ -59,17 +55,20 @@ index_mut-requires-2 c =
 
 pub returns : goal.returns
 returns c thread by_thread =
-    let rs = c.args.records.now in
+    let rs = c.args.trace.now.records in
     let tasks = c.args.family.now.tasks in
     let i = c.args.at in
-    let r = c.index-records-at.result in
+    let there = get_within rs i c.requires.within in
+    let r = there.0 in
+    let stands = there.1 in
     let q = c.args.walk.now in
     let start = c.in-Some.ensures in
     let index = c.in-Some.begin.index in
     let next = c.in-Some.begin.turn in
-    let read = c.index-records-at.is in
-    let same : thread ≡ r.thread =
-    same_Some thread r.thread (sym by_thread ∙ thread_read rs i r c.requires.within read) in
+    let read = sym (get_or_from_slice_get rs i r r stands) in
+    let own : c.thread-thread.result ≡ r.thread =
+    same_Some c.thread-thread.result r.thread (sym c.thread-thread.ensures ∙ thread_get rs i r stands) in
+    let same : thread ≡ r.thread = same_Some thread r.thread (sym by_thread ∙ thread_get rs i r stands) in
     let before = c.requires.before r.thread (by_thread ∙ ap Some same) in
     let inside = slice_get_within tasks index start.task start.indexed in
     let all = before.marks.all in
@@ -79,7 +78,7 @@ returns c thread by_thread =
     c.index.ensures in
     let new : Walk = record {
       turns = with_item q.turns i c.turn_before.result;
-      marks = with_item q.marks index (record { turn = next; thread = (get_or rs i r).thread });
+      marks = with_item q.marks index (record { turn = next; thread = c.thread-thread.result });
       in_order = c.stays_in_order-walk.result;
     } in
     let marks =
@@ -89,10 +88,9 @@ returns c thread by_thread =
     subst (λ t. IsTableAt rs tasks t (i + 1) new) (sym same) (walk_put rs tasks i c.turn_before.result index
     start.task next r mark q new c.requires.within read before turn c.requires.family.makers.apart
     start.starts start.indexed marked refl
-    (ap (λ (s : Record). set q.marks.items index (record { turn = next; thread = s.thread })) (sym read))
+    (ap (λ (t : ℕ). set q.marks.items index (record { turn = next; thread = t })) own)
     (λ holds.
     let both = c.stays_in_order-walk.ensures.0 holds in
     let last = c.turn_on-last.ensures in
-    let thread_is : turn_on mark (get_or rs i r).thread ≡ turn_on mark r.thread =
-    ap (λ (s : Record). turn_on mark s.thread) (sym read) in
+    let thread_is : turn_on mark c.thread-thread.result ≡ turn_on mark r.thread = ap (turn_on mark) own in
     let low = both.1 in (both.0, omega (arith, low, last, thread_is))))

@@ -21,8 +21,8 @@ loop-at-preserved c =
           (sym c.is_finishing.ensures ∙ w.if-is_finishing.false) c.loop-at.invariant)
     ]
 
-pub returns : goal.returns
-returns c =
+pub returns-clause-records : goal.returns-clause-records
+returns-clause-records c =
     let rs = c.args.run.now.records in
     let last : c.loop-at.at ≡ length rs = omega (
       arith,

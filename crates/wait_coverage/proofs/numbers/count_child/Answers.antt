@@ -19,7 +19,7 @@ overflow_add-index_mut c =
     let count =
     c.requires.counts.each parent made.creator c.index_mut.result.now made.creator_indexed stands in
     let few = children_few run.records made.creator c.args.at in
-    let many = c.records-records.ensures.is_run.trace.few_records in
+    let many = c.requires.is_run.trace.few_records in
     let inside = c.requires.within in
     let small : c.index_mut.result.now < 2 ^ 22 = omega (arith, count, few, many, inside) in
     search rules
@@ -35,7 +35,7 @@ returns-in-Some c =
     read_at c.args.counts.now.items parent c.index_mut.result.now (omega (arith, within, all))
     c.index_mut.ensures.value in
     counts_more run.records c.args.at parent made.creator made.task c.index_mut.result.now run.family.tasks
-    c.args.counts.now.items c.records-records.ensures.is_run.family.makers.apart c.requires.counts
+    c.args.counts.now.items c.requires.is_run.family.makers.apart c.requires.counts
     made.creator_indexed stands made.says
 
 pub returns-in_default : goal.returns-in_default

@@ -3,5 +3,5 @@ use Rattle.checker.proofs.suspensions.Suspensions.of.Goals as goal
 
 pub returns-then-not-tells_turns : goal.returns-then-not-tells_turns
 returns-then-not-tells_turns c = none_told c.args.run.now.records c.args.run.now.family.tasks _ c.requires
-    (rw c.records.ensures.value at c.tells_turns.ensures c.if-not-tells_turns.true) c.new.ensures.items
+    (c.tells_turns.ensures c.if-not-tells_turns.true) c.new.ensures.items
     c.new-then-not-tells_turns.ensures.items

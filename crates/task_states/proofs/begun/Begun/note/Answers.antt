@@ -1,7 +1,6 @@
-use Rattle.std.proofs.Common.{◌≡◌, ◌∙◌, ℕ, ap, sym}
+use Rattle.std.proofs.Common.{◌≡◌, ◌∙◌, sym}
 use Rattle.std.proofs.lemmas.Option.{same_Some}
-use Rattle.ompt_events.proofs.PlaceLemmas.{at_get}
-use Rattle.ompt_events.specs.Records.{forked}
+use Rattle.task_tree.proofs.MakerLemmas.{region_at}
 use Rattle.task_states.proofs.MisnestingLemmas.{begun_same, begun_more}
 use Rattle.task_states.proofs.begun.Begun.note.Goals as goal
 
@@ -13,11 +12,10 @@ pub returns : goal.returns
 returns c =
     let run = c.args.run.now in
     let forks = c.in-Some.ensures in
-    let same : forks.parallel ≡ c.in-Some-forked.parallel =
-    ap (λ (p : ℕ × ℕ). p.1)
-    (same_Some (forks.task, forks.parallel) (c.in-Some-forked.field-0-0, c.in-Some-forked.parallel)
-    (sym forks.says ∙ at_get forked run.records c.args.at c.record.result.now c.record.ensures
-    ∙ sym c.forked.ensures ∙ c.in-Some-forked.is)) in
-    begun_more run c.args.at c.in-Some.task c.thread.result c.in-Some-forked.parallel c.args.self.now _
+    let same : forks.parallel ≡ c.in-Some-forked_region.parallel =
+    same_Some forks.parallel c.in-Some-forked_region.parallel
+    (sym (region_at run.records c.args.at forks.task forks.parallel forks.says)
+    ∙ sym c.forked_region.ensures ∙ c.in-Some-forked_region.is) in
+    begun_more run c.args.at c.in-Some.task c.thread.result c.in-Some-forked_region.parallel c.args.self.now _
     c.requires.is_run forks same c.thread.ensures c.in_ok-insert.ensures.updates c.insert.ensures.hasher
     c.add.ensures c.requires.begun

@@ -10,29 +10,29 @@ use Rattle.task_tree.proofs.family.Family.build.Goals as goal
 pub find_rows-requires-clause-counted : goal.find_rows-requires-clause-counted
 find_rows-requires-clause-counted c =
     rw (c.as_slice-2.ensures.value, c.as_slice-3.ensures.value)
-    (links_counted c.records-records.result.now c.in_ok-tasks.field-0.tasks _ _ c.in_ok-events.ensures.counts
-    c.in_ok-events.ensures.links)
+    (links_counted c.args.trace.now.records c.in_ok-tasks.field-0.tasks _ _ c.in_ok-named.ensures.counts
+    c.in_ok-named.ensures.links)
 
 pub find_rows-requires-clause-single : goal.find_rows-requires-clause-single
 find_rows-requires-clause-single c =
     rw c.as_slice-3.ensures.value
-    (links_single c.records-records.result.now c.in_ok-tasks.field-0.tasks _
-    c.in_ok-tasks.ensures.places.apart c.in_ok-events.ensures.links)
+    (links_single c.args.trace.now.records c.in_ok-tasks.field-0.tasks _
+    c.in_ok-tasks.ensures.places.apart c.in_ok-named.ensures.links)
 
 pub find_roots-requires-clause-rows : goal.find_roots-requires-clause-rows
 find_roots-requires-clause-rows c =
-    rows_children c.records-records.result.now c.in_ok-tasks.field-0.tasks _ _ c.in_ok-rows.rows
+    rows_children c.args.trace.now.records c.in_ok-tasks.field-0.tasks _ _ c.in_ok-rows.rows
     c.in_ok-tasks.ensures.tasks c.in_ok-tasks.ensures.places.apart c.in_ok-tasks.ensures.free
-    c.in_ok-events.ensures.counts c.in_ok-events.ensures.links c.in_ok-rows.ensures.within
+    c.in_ok-named.ensures.counts c.in_ok-named.ensures.links c.in_ok-rows.ensures.within
     (rw c.as_slice-2.ensures.value at c.in_ok-rows.ensures.offsets)
     (rw (c.as_slice.ensures, c.as_slice-3.ensures.value) at c.in_ok-rows.ensures.filled)
 
 pub returns-clause-family : goal.returns-clause-family
 returns-clause-family c =
-    let children : AreChildren c.records-records.result.now c.in_ok-tasks.field-0.tasks c.in_ok-rows.rows =
-    rows_children c.records-records.result.now c.in_ok-tasks.field-0.tasks _ _ c.in_ok-rows.rows
+    let children : AreChildren c.args.trace.now.records c.in_ok-tasks.field-0.tasks c.in_ok-rows.rows =
+    rows_children c.args.trace.now.records c.in_ok-tasks.field-0.tasks _ _ c.in_ok-rows.rows
     c.in_ok-tasks.ensures.tasks c.in_ok-tasks.ensures.places.apart c.in_ok-tasks.ensures.free
-    c.in_ok-events.ensures.counts c.in_ok-events.ensures.links c.in_ok-rows.ensures.within
+    c.in_ok-named.ensures.counts c.in_ok-named.ensures.links c.in_ok-rows.ensures.within
     (rw c.as_slice-2.ensures.value at c.in_ok-rows.ensures.offsets)
     (rw (c.as_slice.ensures, c.as_slice-3.ensures.value) at c.in_ok-rows.ensures.filled) in
     search rules
@@ -44,12 +44,12 @@ returns-in_err-exclude-clause-fault c =
     let rs = c.args.trace.now.records in
     rw (p.1, p.2)
     (fault_next rs CreatedTwice (Rootless ∷ []) c.in_err-exclude.field-0.0
-    (rw c.records-records.ensures.value at c.in_ok-tasks.ensures.free)
+    c.in_ok-tasks.ensures.free
     (c.in_err-exclude.ensures.fault rs
-    (rw c.records-records.ensures.value at c.find_rootless-unrooted.ensures)))
+    c.find_rootless-unrooted.ensures))
 
 pub returns-clause-order : goal.returns-clause-order
 returns-clause-order c =
     in_file_order c.args.trace.now.records c.in_ok-tasks.field-0.tasks c.in_ok-tasks.field-0.places.items
-    (rw c.records-records.ensures.value at c.in_ok-tasks.ensures.places)
-    (rw c.records-records.ensures.value at c.in_ok-tasks.ensures.free)
+    c.in_ok-tasks.ensures.places
+    c.in_ok-tasks.ensures.free

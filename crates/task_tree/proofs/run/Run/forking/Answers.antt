@@ -8,4 +8,4 @@ pub returns : goal.returns
 returns c =
     fork_there c.args.self.now c.args.at c.subject_if.result c.requires
     (c.subject_if.ensures (λ body. option_map (λ (f : ℕ × ℕ). f.0) (forked body))
-    (λ body is. c.forks.ensures body (c.act.ensures body is)))
+    (λ body is. c.forks.ensures.forked body (c.act.ensures body is)))

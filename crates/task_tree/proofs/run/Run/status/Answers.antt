@@ -1,5 +1,5 @@
 use Rattle.std.proofs.Common.{sym}
-use Rattle.task_tree.specs.Runs.{schedule_status}
+use Rattle.packed_trace.specs.Packed.{schedule_status}
 use Rattle.task_tree.proofs.PackedLemmas.{said_there}
 use Rattle.task_tree.proofs.run.Run.status.Goals as goal
 

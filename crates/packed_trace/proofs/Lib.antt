@@ -1,0 +1,3 @@
+pub mod SparseLemmas
+pub mod ColumnLemmas
+pub mod TraceLemmas
