@@ -3,6 +3,7 @@ use Rattle.std.proofs.Common.{◌≡◌, ◌≢◌, ℕ, ◌+◌, ◌<◌, ◌�
 use Rattle.std.proofs.Common.{Option, Some, None, Result, Ok, Err, arith, refl, sym, ap, ◌∙◌, subst, inl, inr}
 use Rattle.std.proofs.Common.{append-nil, append_assoc, length-append}
 use Rattle.std.specs.Prelude.{OnOk}
+use Rattle.std.specs.Global.{Vec}
 use Rattle.std.specs.Result.{result_err}
 use Rattle.std.specs.Io.KnownBytes.{Keeps, IsAtEnd, prepend_known}
 use Rattle.ompt_events.specs.Traces.{TraceView}
@@ -16,6 +17,7 @@ use Rattle.certificate.specs.Formats.{line_feeds}
 use Rattle.certificate.specs.Files.{no_trace, traces}
 use Rattle.certificate.specs.Pieces.{IsWholeLines, AreJudged}
 use Rattle.certificate.specs.Windows.{LineFeedAt}
+use Rattle.certificate.specs.Blocks.{BlockView}
 use Rattle.certificate.specs.ReadingOn.{IsBetweenLines, IsToldAfter, IsReadToEnd, ReadsAhead}
 use Rattle.certificate.specs.Ahead.{Waits, IsToldNext, IsAfterStep, SameSource, SameLines, ArePiecesAdded}
 use Rattle.certificate.specs.Ahead.{IsRefilled, WorkedBeside, HasMet, MeetsMore}
@@ -24,11 +26,6 @@ use Rattle.certificate.proofs.PieceLemmas.{no_memory}
 use Rattle.certificate.proofs.ReadingLemmas.{line_feeds-append, line_feeds-one, line_feeds-unbroken}
 use Rattle.certificate.proofs.ReadingLemmas.{IsBetween-keeps, IsBetween-start}
 use Rattle.certificate.proofs.FileLemmas.{unbroken-all}
-
--- what holds in any case holds where a step ends well
-pub on_ok : {P : Type 0} (r : Result (Unit {0}) ReadCause) → P → OnOk r P
-on_ok (Ok u) is = is
-on_ok (Err cause) is = tt
 
 -- ---- bytes
 
@@ -59,12 +56,14 @@ Keeps-front front w w' (Some l) (Some l') keeps =
 
 -- ---- what waits after the pieces were added, and the block was filled
 
-pub record Next (known left : Option (List ℕ)) (room : ℕ) (front : List ℕ) (new : Ahead) : Type 0 where
+pub record Next {L : Type 0} (known left : Option (List ℕ)) (room : ℕ) (front : List ℕ) (new : Ahead L) :
+    Type 0 where
   pub between : IsBetweenLines known new.line new.kept (front ++ new.block.waiting) left
   pub few : length (front ++ new.block.waiting) ≤ room
   pub end : new.filled ≡ Ok false → IsAtEnd left
 
-next_between : (known left left' : Option (List ℕ)) (room : ℕ) (front : List ℕ) (old middle new : Ahead)
+next_between : {L : Type 0} (known left left' : Option (List ℕ)) (room : ℕ) (front : List ℕ)
+    (old middle new : Ahead L)
     (u : Unit {0})
     → ArePiecesAdded (Ok u) old middle → SameSource old middle → IsRefilled middle new left left'
     → Waits known left room front old
@@ -80,7 +79,8 @@ next_between known left left' room front old middle new u added same re waits =
     (front ++ new.block.waiting) left left'
     (Keeps-front front old.block.waiting new.block.waiting left left' keeps) there)
 
-next_few : (known left left' : Option (List ℕ)) (room limit : ℕ) (front : List ℕ) (old middle new : Ahead)
+next_few : {L : Type 0} (known left left' : Option (List ℕ)) (room limit : ℕ) (front : List ℕ)
+    (old middle new : Ahead L)
     (asks : Bool)
     → asks ≡ old.asks → length front ≤ limit → old.block.limit ≡ limit → limit + limit ≤ room
     → SameSource old middle → IsRefilled middle new left left' → Waits known left room front old
@@ -100,7 +100,8 @@ next_few known left left' room limit front old middle new false is few same_limi
       ap (λ b. length b.waiting) same.block,
     )
 
-next_end : (known left left' : Option (List ℕ)) (room : ℕ) (front : List ℕ) (old middle new : Ahead)
+next_end : {L : Type 0} (known left left' : Option (List ℕ)) (room : ℕ) (front : List ℕ)
+    (old middle new : Ahead L)
     (asks : Bool)
     → asks ≡ old.asks → SameSource old middle → IsRefilled middle new left left'
     → Waits known left room front old → new.filled ≡ Ok false → IsAtEnd left'
@@ -110,7 +111,8 @@ next_end known left left' room front old middle new false is same re waits end =
     let none = re.unasked (same.asks ∙ sym is) in
     rw none.1 (waits.end (sym same.filled ∙ sym none.0.filled ∙ end))
 
-pub next_waits : (known left left' : Option (List ℕ)) (room limit : ℕ) (front : List ℕ) (old new : Ahead)
+pub next_waits : {L : Type 0} (known left left' : Option (List ℕ)) (room limit : ℕ) (front : List ℕ)
+    (old new : Ahead L)
     (u : Unit {0})
     → length front ≤ limit → old.block.limit ≡ limit → limit + limit ≤ room
     → WorkedBeside (Ok u) old new left left' → Waits known left room front old
@@ -126,20 +128,21 @@ next_waits known left left' room limit front old new u few same_limit all worked
 -- ---- what is told
 
 -- memory ran out for what waits
-pub waits_memory : (known left : Option (List ℕ)) (room : ℕ) (front : List ℕ) (ahead : Ahead)
+pub waits_memory : {L : Type 0} (known left : Option (List ℕ)) (room : ℕ) (front : List ℕ) (ahead : Ahead L)
     → Waits known left room front ahead → IsToldNext Memory known left room ahead
 waits_memory known left room front ahead waits =
     no_memory known ahead.line room ahead.kept (waits.bytes ++ (front ++ ahead.block.waiting)) left waits.few
     waits.between
 
-pub next_memory : (known left : Option (List ℕ)) (room : ℕ) (front : List ℕ) (new : Ahead)
+pub next_memory : {L : Type 0} (known left : Option (List ℕ)) (room : ℕ) (front : List ℕ) (new : Ahead L)
     → Next known left room front new → IsToldNext Memory known left room new
 next_memory known left room front new next =
     no_memory known new.line room new.kept (front ++ new.block.waiting) left next.few next.between
 
 -- ---- what waits after the bytes after the whole lines were moved
 
-pub waits_parted : (known left : Option (List ℕ)) (room : ℕ) (front front' : List ℕ) (old new : Ahead)
+pub waits_parted : {L : Type 0} (known left : Option (List ℕ)) (room : ℕ) (front front' : List ℕ)
+    (old new : Ahead L)
     → old.block.waiting ≡ [] → front ≡ front' ++ new.block.waiting → SameLines old new
     → new.filled ≡ old.filled → Waits known left room front old → Waits known left room front' new
 waits_parted known left room front front' old new none parts same filled waits =
@@ -155,11 +158,12 @@ waits_parted known left room front front' old new none parts same filled waits =
 
 -- ---- the first lines, before any piece
 
-pub record First (known left : Option (List ℕ)) (room : ℕ) (front : List ℕ) (ahead : Ahead) : Type 0 where
+pub record First {L : Type 0} (known left : Option (List ℕ)) (room : ℕ) (front : List ℕ) (ahead : Ahead L)
+    : Type 0 where
   pub between : IsBetweenLines known ahead.line ahead.kept (front ++ ahead.block.waiting) left
   pub few : length (front ++ ahead.block.waiting) ≤ room
 
-pub waits_first : (known left : Option (List ℕ)) (room : ℕ) (front : List ℕ) (ahead : Ahead)
+pub waits_first : {L : Type 0} (known left : Option (List ℕ)) (room : ℕ) (front : List ℕ) (ahead : Ahead L)
     → ahead.pieces.items ≡ [] → Waits known left room front ahead → First known left room front ahead
 waits_first known left room front ahead none waits =
     let empty : waits.bytes ≡ [] =
@@ -168,14 +172,15 @@ waits_first known left room front ahead none waits =
 
 -- ---- the source
 
-pub HasMet-same : (old new : Ahead) (t a b a' b' : ℕ) → new.turns ≡ old.turns → new.filled ≡ old.filled
+pub HasMet-same : {L : Type 0} (old new : Ahead L) (t a b a' b' : ℕ) → new.turns ≡ old.turns → new.filled ≡
+    old.filled
     → HasMet old t a b a' b' → HasMet new t a b a' b'
 HasMet-same old new t a b a' b' turns filled met = record {
   taken = rw (turns, filled) met.taken;
   broken = rw filled met.broken;
 }
 
-pub HasMet-more : (old new : Ahead) (a a' b b' : ℕ) → old.filled ≡ Ok true
+pub HasMet-more : {L : Type 0} (old new : Ahead L) (a a' b b' : ℕ) → old.filled ≡ Ok true
     → TakesTurns (result_err new.filled) old.turns new.turns a a' → b' ≡ breaks_told (result_err new.filled) b
     → MeetsMore old new a a' b b'
 HasMet-more old new a a' b b' more taken broken t first_a first_b met =
@@ -191,15 +196,16 @@ HasMet-more old new a a' b b' more taken broken t first_a first_b met =
 
 -- ---- the end
 
-pub ended_step : (known left : Option (List ℕ)) (room n : ℕ) (kept : TraceView) (front : List ℕ)
-    (ahead : Ahead) (r : Result (Unit {0}) ReadCause)
+pub ended_step : {L : Type 0} (known left : Option (List ℕ)) (room n : ℕ) (kept : TraceView) (front : List ℕ)
+    (ahead : Ahead L) (r : Result (Unit {0}) ReadCause)
     → ahead.line ≡ n → n ≡ 1 → OnOk r (n ≢ 1) → IsReadToEnd r known n kept room left
     → IsAfterStep r known left room front ahead
 ended_step known left room n kept front ahead (Ok u) line first later ended = absurd (later first)
 ended_step known left room n kept front ahead (Err cause) line first later ended = rw line ended
 
 -- the last pieces were added
-pub added_last : (known left : Option (List ℕ)) (room : ℕ) (front : List ℕ) (old new : Ahead) (u : Unit {0})
+pub added_last : {L : Type 0} (known left : Option (List ℕ)) (room : ℕ) (front : List ℕ)
+    (old new : Ahead L) (u : Unit {0})
     → old.block.waiting ≡ [] → ArePiecesAdded (Ok u) old new → Waits known left room front old
     → IsBetweenLines known new.line new.kept front left
 added_last known left room front old new u none added waits =
@@ -209,7 +215,7 @@ added_last known left room front old new u none added waits =
     (added.between waits.bytes (front ++ old.block.waiting) known left room waits.judged waits.few
     waits.between)
 
-pub front_few : (known left : Option (List ℕ)) (room : ℕ) (front : List ℕ) (old : Ahead)
+pub front_few : {L : Type 0} (known left : Option (List ℕ)) (room : ℕ) (front : List ℕ) (old : Ahead L)
     → Waits known left room front old → length front ≤ room
 front_few known left room front old waits =
     omega (
@@ -219,7 +225,7 @@ front_few known left room front old waits =
       length-append front old.block.waiting,
     )
 
-pub added_fault : (known left : Option (List ℕ)) (room : ℕ) (front : List ℕ) (old new : Ahead)
+pub added_fault : {L : Type 0} (known left : Option (List ℕ)) (room : ℕ) (front : List ℕ) (old new : Ahead L)
     (cause : ReadCause)
     → ArePiecesAdded (Err cause) old new → Waits known left room front old
     → IsToldNext cause known left room new
@@ -229,7 +235,8 @@ added_fault known left room front old new cause added waits =
 
 -- ---- the start
 
-pub start_waits : (known left : Option (List ℕ)) (room : ℕ) (front : List ℕ) (ahead : Ahead) → ahead.line ≡ 1
+pub start_waits : {L : Type 0} (known left : Option (List ℕ)) (room : ℕ) (front : List ℕ) (ahead : Ahead L)
+    → ahead.line ≡ 1
     → ahead.kept ≡ no_trace → ahead.pieces.items ≡ [] → ahead.block.waiting ≡ []
     → Keeps (prepend_known [] known) (prepend_known front left) → length front ≤ room
     → (ahead.filled ≡ Ok false → IsAtEnd left) → Waits known left room front ahead
@@ -249,7 +256,8 @@ start_waits known left room front ahead line kept pieces none keeps few end =
 -- ---- after a round
 
 -- what was judged comes next, and what was filled is in front
-pub turned_waits : (known left : Option (List ℕ)) (room : ℕ) (front : List ℕ) (new last : Ahead)
+pub turned_waits : {L : Type 0} (known left : Option (List ℕ)) (room : ℕ) (front : List ℕ)
+    (new last : Ahead L)
     → Next known left room front new → AreJudged new.kept.version last.pieces.items front
     → last.line ≡ new.line → last.kept ≡ new.kept → last.block.waiting ≡ [] → last.filled ≡ new.filled
     → Waits known left room new.block.waiting last
@@ -265,12 +273,13 @@ turned_waits known left room front new last next judged line kept none filled =
     }
 
 -- the version of what is kept is the same
-pub worked_version : (left left' : Option (List ℕ)) (old new : Ahead) (u : Unit {0})
+pub worked_version : {L : Type 0} (left left' : Option (List ℕ)) (old new : Ahead L) (u : Unit {0})
     → WorkedBeside (Ok u) old new left left' → new.kept.version ≡ old.kept.version
 worked_version left left' old new u worked =
     ap (λ (t : TraceView). t.version) worked.3.lines.kept ∙ worked.1.version
 
-pub added_fault_known : (known left left' : Option (List ℕ)) (room : ℕ) (front : List ℕ) (old new : Ahead)
+pub added_fault_known : {L : Type 0} (known left left' : Option (List ℕ)) (room : ℕ) (front : List ℕ)
+    (old new : Ahead L)
     (cause : ReadCause)
     → WorkedBeside (Err cause) old new left left' → Waits known left room front old
     → IsToldNext cause known left' room new
@@ -278,7 +287,8 @@ added_fault_known known left left' room front old new cause worked waits =
     rw worked.2 (added_fault known left room front old new cause worked.0 waits)
 
 -- what the source did, at the end of a reading
-pub reads_ahead : (told : Option ReadCause) (ahead : Ahead) (a b a' b' : ℕ) → HasMet ahead 0 a b a' b'
+pub reads_ahead : {L : Type 0} (told : Option ReadCause) (ahead : Ahead L) (a b a' b' : ℕ) → HasMet ahead 0
+    a b a' b'
     → IsToldAfter (result_err ahead.filled) told → (turns : ℕ) × ReadsAhead told 0 turns a a' b b'
 reads_ahead told ahead a b a' b' met after = (
   ahead.turns,
@@ -289,3 +299,29 @@ reads_ahead told ahead a b a' b' met after = (
     told_after = after;
   },
 )
+
+-- ---- parts of a state that are set
+
+-- the source has given this answer, after so many turns
+abbrev pub with_answer : {L : Type 0} → Ahead L → ℕ → Result Bool ReadCause → Ahead L
+with_answer old turns answer = record {
+  line = old.line;
+  kept = old.kept;
+  pieces = old.pieces;
+  block = old.block;
+  turns = turns;
+  filled = answer;
+  asks = old.asks;
+}
+
+-- these pieces come next, and this block is filled next
+abbrev pub with_pieces : {L : Type 0} → Ahead L → Vec Piece → BlockView → Ahead L
+with_pieces old pieces block = record {
+  line = old.line;
+  kept = old.kept;
+  pieces = pieces;
+  block = block;
+  turns = old.turns;
+  filled = old.filled;
+  asks = old.asks;
+}

@@ -13,7 +13,6 @@ mod TraceLemmas
 mod ScriptFileLemmas
 mod WritingLemmas
 mod KeptLemmas
-mod ArrivingLemmas
 mod LawLemmas
 mod TaskTurnLemmas
 mod UpgradeLemmas

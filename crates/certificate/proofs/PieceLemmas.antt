@@ -1,15 +1,13 @@
 -- What follows of pieces, line by line.
 use Rattle.std.proofs.Common.{◌≡◌, ◌≢◌, ℕ, ◌+◌, ◌-◌, ◌<◌, ◌≤◌, ◌==◌, suc, List, [], ◌∷◌, ◌++◌, length, take}
-use Rattle.std.proofs.Common.{drop, get_or, Option, Some, None, Result, Ok, Err, true, false, cond, arith}
+use Rattle.std.proofs.Common.{drop, get_or, Option, Some, None, Result, Ok, Err, true, false, arith}
 use Rattle.std.proofs.Common.{refl, sym, ap, ◌∙◌, subst, append_assoc, append-nil, length-append, length-take}
 use Rattle.std.proofs.Common.{eq-eqb, add-one}
-use Rattle.std.specs.Prelude.{IfSome, All, is_some, slice_range}
+use Rattle.std.specs.Prelude.{IfSome, All, slice_range}
 use Rattle.std.proofs.lemmas.List.{take-append-drop, drop-drop, drop_all}
-use Rattle.std.proofs.lemmas.List.Sums.{sum_by_push}
 use Rattle.std.proofs.lemmas.List.Elements.{All-cons}
 use Rattle.ompt_events.specs.declared.records.Record.{Record}
-use Rattle.ompt_events.specs.Records.{made}
-use Rattle.ompt_events.specs.Traces.{TraceView, FitsIn, tasks_in}
+use Rattle.ompt_events.specs.Traces.{TraceView, FitsIn}
 use Rattle.lines.specs.declared.cause.ReadCause.{ReadCause}
 use Rattle.lines.specs.declared.cause.ReadCause.TheVariants.{Device, Memory, Header, LineTooLong}
 use Rattle.lines.specs.declared.cause.ReadCause.TheVariants.{NotJson, Field, Limit, Unended}
@@ -322,10 +320,6 @@ pub BeginsWithRecords-more : (version : ℕ) (text : List ℕ) (start len : ℕ)
 BeginsWithRecords-more version text start len rs r read begins =
     BeginsWithRecords-append version rs (r ∷ []) text (drop start text) (drop (start + len) text) read
     (drop len (drop start text), begins, drop-drop len start text)
-
-pub tasks_more : (rs : List Record) (r : Record)
-    → tasks_in (rs ++ r ∷ []) ≡ tasks_in rs + cond (is_some (made r.body)) 1 0
-tasks_more rs r = sum_by_push (λ (x : Record). cond (is_some (made x.body)) 1 0) rs r
 
 -- ---- all pieces
 

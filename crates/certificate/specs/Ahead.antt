@@ -5,7 +5,6 @@ use Rattle.std.specs.Result.{result_err}
 use Rattle.std.specs.Io.KnownBytes.{Keeps, IsAtEnd, prepend_known}
 use Rattle.ompt_events.specs.Limits.{max_records}
 use Rattle.lines.specs.declared.cause.ReadCause.{ReadCause}
-use Rattle.lines.specs.declared.cause.ReadCause.TheVariants.{Memory}
 use Rattle.certificate.specs.declared.ahead.Ahead.{Ahead}
 use Rattle.certificate.specs.declared.pieces.Piece.{Piece}
 use Rattle.certificate.specs.Limits.{max_turns, newest_version}
@@ -20,7 +19,7 @@ use Rattle.certificate.specs.ReadingOn.{IsBetweenLines, IsToldWithin, IsJudgedUp
 use Rattle.certificate.specs.ReadingOn.{IsLineFault}
 
 -- nothing was read, and the block has room for this many bytes
-pub record IsFirst (room : ℕ) (ahead : Ahead) : Type 0 where
+pub record IsFirst {L : Type 0} (room : ℕ) (ahead : Ahead L) : Type 0 where
   pub line : ahead.line ≡ 1
   pub kept : ahead.kept ≡ no_trace
   pub pieces : ahead.pieces.items ≡ []
@@ -41,7 +40,7 @@ pub record AreJudgedOf (version : ℕ) (pieces : List Piece) (bytes : List ℕ) 
   pub some : 0 < length pieces → 0 < line_feeds bytes
 
 -- the header was taken, and one record is kept for each line after it that was added
-pub record IsInHand (ahead : Ahead) : Type 0 where
+pub record IsInHand {L : Type 0} (ahead : Ahead L) : Type 0 where
   pub low : 2 ≤ ahead.line
   pub high : ahead.line ≤ max_records + 2
   pub counted : IsLineCounted ahead.line ahead.kept
@@ -50,12 +49,12 @@ pub record IsInHand (ahead : Ahead) : Type 0 where
   pub met : IfErr ahead.filled IsFillFault
 
 -- where the source is read again, it may give more and has turns left
-abbrev pub CanAsk : Ahead → Type 0
+abbrev pub CanAsk : {L : Type 0} → Ahead L → Type 0
 CanAsk ahead = ahead.asks ≡ true → (ahead.filled ≡ Ok true) × (ahead.turns ≤ max_turns)
 
 -- between two rounds: whole lines are in front, and no line feed follows them. Where the source may give
 -- more and is not read again, the line there is too long
-pub record IsRoundReady (front : BlockView) (ahead : Ahead) : Type 0 where
+pub record IsRoundReady {L : Type 0} (front : BlockView) (ahead : Ahead L) : Type 0 where
   pub in_hand : IsInHand ahead
   pub can_ask : CanAsk ahead
   pub whole : IsWholeLines front.waiting
@@ -65,7 +64,8 @@ pub record IsRoundReady (front : BlockView) (ahead : Ahead) : Type 0 where
   pub rests : ahead.asks ≡ false → ahead.filled ≡ Ok true → max_line < length ahead.block.waiting
 
 -- what is left: the pieces that were judged, these bytes, and those of the block after them
-pub record Waits (known left : Option (List ℕ)) (room : ℕ) (front : List ℕ) (ahead : Ahead) : Type 0 where
+pub record Waits {L : Type 0} (known left : Option (List ℕ)) (room : ℕ) (front : List ℕ) (ahead : Ahead L)
+    : Type 0 where
   pub bytes : List ℕ
   pub judged : AreJudged ahead.kept.version ahead.pieces.items bytes
   pub between : IsBetweenLines known ahead.line ahead.kept (bytes ++ (front ++ ahead.block.waiting)) left
@@ -73,23 +73,21 @@ pub record Waits (known left : Option (List ℕ)) (room : ℕ) (front : List ℕ
   pub end : ahead.filled ≡ Ok false → IsAtEnd left
 
 -- the line that comes next has this fault
-abbrev pub IsToldNext : ReadCause → Option (List ℕ) → Option (List ℕ) → ℕ → Ahead → Type 0
+abbrev pub IsToldNext : {L : Type 0} → ReadCause → Option (List ℕ) → Option (List ℕ) → ℕ → Ahead L → Type 0
 IsToldNext cause known left room ahead = IfSome known (λ bytes. IsToldWithin room cause ahead.line bytes left)
 
 -- after a step: that waits which did, or the line that comes next has a fault
-abbrev pub IsAfterStep : Result (Unit {0}) ReadCause → Option (List ℕ) → Option (List ℕ) → ℕ → List ℕ → Ahead
-    → Type 0
+abbrev pub IsAfterStep : {L : Type 0} → Result (Unit {0}) ReadCause → Option (List ℕ) → Option (List ℕ) → ℕ
+    → List ℕ → Ahead L → Type 0
 IsAfterStep (Ok _) known left room front ahead = Waits known left room front ahead
 IsAfterStep (Err cause) known left room front ahead = IsToldNext cause known left room ahead
 
--- after a round: more may come; all is read, and memory may still run out for what it is; or the line that
--- comes next has a fault
-abbrev pub IsAfterRound : Result Bool ReadCause → Option (List ℕ) → Option (List ℕ) → ℕ → List ℕ → Ahead
-    → Type 0
+-- after a round: more may come, all is read, or the line that comes next has a fault
+abbrev pub IsAfterRound : {L : Type 0} → Result Bool ReadCause → Option (List ℕ) → Option (List ℕ) → ℕ
+    → List ℕ → Ahead L → Type 0
 IsAfterRound (Ok true) known left room front ahead = Waits known left room front ahead
 IsAfterRound (Ok false) known left room front ahead =
     IfSome known (λ bytes. said (traces newest_version) bytes ≡ Ok ahead.kept)
-    × IsToldNext Memory known left room ahead
 IsAfterRound (Err cause) known left room front ahead = IsToldNext cause known left room ahead
 
 -- how many rounds may still come. The first two add no line
@@ -99,27 +97,28 @@ rounds_behind true (piece ∷ pieces) front = 1
 rounds_behind true [] (b ∷ front) = 2
 rounds_behind true [] [] = 3
 
-abbrev pub rounds_left : List ℕ → Ahead → ℕ
+abbrev pub rounds_left : {L : Type 0} → List ℕ → Ahead L → ℕ
 rounds_left front ahead =
     4 * (max_records + 3 - ahead.line) + rounds_behind ahead.asks ahead.pieces.items front
 
 -- ---- the steps of a round
 
 -- the turns, the answers of the source, and what waits of it are the same
-pub record SameSource (old new : Ahead) : Type 0 where
+pub record SameSource {L : Type 0} (old new : Ahead L) : Type 0 where
   pub block : new.block ≡ old.block
   pub turns : new.turns ≡ old.turns
   pub filled : new.filled ≡ old.filled
   pub asks : new.asks ≡ old.asks
 
 -- the lines that were added, and the pieces that were judged are the same
-pub record SameLines (old new : Ahead) : Type 0 where
+pub record SameLines {L : Type 0} (old new : Ahead L) : Type 0 where
   pub line : new.line ≡ old.line
   pub kept : new.kept ≡ old.kept
   pub pieces : new.pieces ≡ old.pieces
 
 -- the pieces were added, up to the first fault
-pub record ArePiecesAdded (result : Result (Unit {0}) ReadCause) (old new : Ahead) : Type 0 where
+pub record ArePiecesAdded {L : Type 0} (result : Result (Unit {0}) ReadCause) (old new : Ahead L)
+    : Type 0 where
   pub between : (bytes more : List ℕ) (known left : Option (List ℕ)) (room : ℕ)
       → AreJudged old.kept.version old.pieces.items bytes → length (bytes ++ more) ≤ room
       → IsBetweenLines known old.line old.kept (bytes ++ more) left
@@ -133,7 +132,7 @@ pub record ArePiecesAdded (result : Result (Unit {0}) ReadCause) (old new : Ahea
   pub fault : IfErr result IsLineFault
 
 -- the block was filled, where the source is read again
-pub record IsRefilled (old new : Ahead) (left left' : Option (List ℕ)) : Type 0 where
+pub record IsRefilled {L : Type 0} (old new : Ahead L) (left left' : Option (List ℕ)) : Type 0 where
   pub lines : SameLines old new
   pub asks : new.asks ≡ old.asks
   pub keeps : Keeps (prepend_known old.block.waiting left) (prepend_known new.block.waiting left')
@@ -147,26 +146,27 @@ pub record IsRefilled (old new : Ahead) (left left' : Option (List ℕ)) : Type 
 
 -- what the calling thread did while lines were judged: the pieces before them were added, and then the
 -- block was filled
-abbrev pub WorkedBeside : Result (Unit {0}) ReadCause → Ahead → Ahead → Option (List ℕ) → Option (List ℕ)
-    → Type 0
-WorkedBeside (Ok u) old new left left' =
-    (middle : Ahead) × ArePiecesAdded (Ok u) old middle × SameSource old middle
+abbrev pub WorkedBeside : {L : Type 0} → Result (Unit {0}) ReadCause → Ahead L → Ahead L → Option (List ℕ)
+    → Option (List ℕ) → Type 0
+WorkedBeside {L} (Ok u) old new left left' =
+    (middle : Ahead L) × ArePiecesAdded (Ok u) old middle × SameSource old middle
     × IsRefilled middle new left left'
 WorkedBeside (Err cause) old new left left' =
     ArePiecesAdded (Err cause) old new × SameSource old new × (left' ≡ left)
 
 -- what was met at the source, since it was asked first
-pub record HasMet (ahead : Ahead) (turns agains breaks agains' breaks' : ℕ) : Type 0 where
+pub record HasMet {L : Type 0} (ahead : Ahead L) (turns agains breaks agains' breaks' : ℕ) : Type 0 where
   pub taken : TakesTurns (result_err ahead.filled) turns ahead.turns agains agains'
   pub broken : breaks' ≡ breaks_told (result_err ahead.filled) breaks
 
-abbrev pub MeetsMore : Ahead → Ahead → ℕ → ℕ → ℕ → ℕ → Type 0
+abbrev pub MeetsMore : {L : Type 0} → Ahead L → Ahead L → ℕ → ℕ → ℕ → ℕ → Type 0
 MeetsMore old new agains agains' breaks breaks' =
     (turns first_agains first_breaks : ℕ) → HasMet old turns first_agains first_breaks agains breaks
     → HasMet new turns first_agains first_breaks agains' breaks'
 
 -- what was in front was judged, and the block that was filled is in front
-pub record AreBlocksTurned (front : BlockView) (old : Ahead) (front' : BlockView) (new : Ahead) : Type 0 where
+pub record AreBlocksTurned {L : Type 0} (front : BlockView) (old : Ahead L) (front' : BlockView)
+    (new : Ahead L) : Type 0 where
   pub in_hand : IsInHand new
   pub waiting : new.block.waiting ≡ []
   pub limit : (front'.limit ≡ front.limit) × (new.block.limit ≡ front.limit)

@@ -25,17 +25,6 @@ IsFillFault TurnsSpent = Unit {0}
 IsFillFault Memory = Unit {0}
 IsFillFault _ = ⊥
 
--- the block was filled from a source that had these bytes left, and then those: it is full, the source has
--- ended, or this is why no more bytes are taken
-pub record IsFilled (result : Result Bool ReadCause) (old new : BlockView) (left left' : Option (List ℕ))
-    : Type 0 where
-  pub keeps : Keeps (prepend_known old.waiting left) (prepend_known new.waiting left')
-  pub few : length new.waiting ≤ new.limit
-  pub limit : new.limit ≡ old.limit
-  pub full : result ≡ Ok true → length new.waiting ≡ new.limit
-  pub end : result ≡ Ok false → IsAtEnd left'
-  pub met : IfErr result IsFillFault
-
 -- this many bytes are those of whole lines, and no line feed follows
 pub record AreWholeLines (count : ℕ) (bytes : List ℕ) : Type 0 where
   pub within : count ≤ length bytes

@@ -6,10 +6,11 @@ use Rattle.lines.specs.declared.cause.ReadCause.{ReadCause}
 use Rattle.lines.specs.declared.cause.ReadCause.TheVariants.{Memory, Limit}
 use Rattle.certificate.specs.Files.{has_room}
 
--- a trace of this version, with the number of tasks that it makes
-pub record IsTraceKept (version : ℕ) (rs : List Record) (tasks : ℕ) : Type 0 where
-  pub trace : IsTraceOf version rs
-  pub counted : tasks ≡ tasks_in rs
+-- a trace, with the number of its records, and of the tasks that it makes
+pub record IsTraceKept (trace : TraceView) (count tasks : ℕ) : Type 0 where
+  pub is_trace : IsTraceOf trace.version trace.records
+  pub all : count ≡ length trace.records
+  pub counted : tasks ≡ tasks_in trace.records
 
 -- there is room for each of these records, after those before it
 abbrev pub HaveRoom : List Record → List Record → Type 0

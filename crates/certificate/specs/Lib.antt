@@ -9,7 +9,6 @@ pub mod Formats
 pub mod Files
 pub mod TraceTexts
 pub mod Keeping
-pub mod Arriving
 pub mod ScriptFiles
 pub mod Reading
 pub mod Pieces

@@ -1,11 +1,9 @@
 -- What a piece of a file stands for: whole lines after the header, judged without counts of what is
 -- before them.
-use Rattle.std.specs.Prelude.{ℕ, ◌≡◌, ◌≢◌, ◌≤◌, ◌<◌, ◌+◌, ◌⊎◌, false, ◌==◌, List, [], ◌∷◌, ◌++◌, length, drop}
-use Rattle.std.specs.Prelude.{Option, Some, None, Result, Ok, Err, All, is_some, if◌then◌else◌}
+use Rattle.std.specs.Prelude.{ℕ, ◌≡◌, ◌≢◌, ◌≤◌, ◌<◌, ◌⊎◌, false, ◌==◌, List, [], ◌∷◌, ◌++◌, length, drop}
+use Rattle.std.specs.Prelude.{Option, Some, None, Result, Ok, Err}
 use Rattle.std.specs.List.{AllByRecursion}
 use Rattle.ompt_events.specs.declared.records.Record.{Record}
-use Rattle.ompt_events.specs.Records.{made}
-use Rattle.ompt_events.specs.Traces.{IsInRange, tasks_in}
 use Rattle.lines.specs.declared.cause.ReadCause.{ReadCause}
 use Rattle.lines.specs.declared.cause.ReadCause.TheVariants.{LineTooLong, Memory}
 use Rattle.certificate.specs.declared.pieces.Piece.{Piece}
@@ -68,20 +66,15 @@ AreRecordsOf version bytes rs (Some cause) =
 -- a piece that was judged
 pub record IsPieceJudged (version : ℕ) (bytes : List ℕ) (piece : Piece) : Type 0 where
   pub read : AreRecordsOf version bytes piece.records.items piece.fault
-  pub counted : piece.tasks ≡ tasks_in piece.records.items
-  pub in_range : All IsInRange piece.records.items
 
 -- the piece with one record more
 pub record WithRecord (r : Record) (old new : Piece) : Type 0 where
-  pub in_range : IsInRange r
   pub records : new.records.items ≡ old.records.items ++ r ∷ []
-  pub tasks : new.tasks ≡ old.tasks + (if is_some (made r.body) then 1 else 0)
   pub fault : new.fault ≡ old.fault
 
 -- the same records in both
 pub record SamePiece (old new : Piece) : Type 0 where
   pub records : new.records.items ≡ old.records.items
-  pub tasks : new.tasks ≡ old.tasks
   pub fault : new.fault ≡ old.fault
 
 -- after the text of a line was judged: its record was added, or this is why it gives none

@@ -5,20 +5,18 @@ ghost use Rattle.std.specs.Result.{result_err};
 ghost use Rattle.certificate.specs.Formats.{line_feeds};
 ghost use Rattle.certificate.specs.Pieces.{IsWholeLines, IsPieceJudged, AreJudged};
 ghost use Rattle.certificate.specs.Windows.{LineFeedAt};
-ghost use Rattle.certificate.specs.Blocks.{IsFillFault, IsFilled};
-ghost use Rattle.certificate.specs.Counts.{TakesTurns, breaks_told};
+ghost use Rattle.certificate.specs.Blocks.{IsFillFault};
 ghost use Rattle.certificate.specs.ReadingOn.{IsBetweenLines, IsJudgedUpTo, IsLineCounted, IsLineFault};
 ghost use Rattle.certificate.specs.Ahead.{IsFirst, IsInHand, CanAsk, ArePiecesAdded, IsRefilled, WorkedBeside, MeetsMore, SameSource, SameLines};
 
-use crate::arriving::Arriving;
 use crate::blocks::{Block, fill};
-use crate::device::{MAX_TURNS, Source};
+use crate::device::Source;
+use crate::kept::{Kept, RecordList};
 use crate::pieces::Piece;
 use crate::reading::LAST_LINE;
 use lines::{MAX_LINE, ReadCause};
 use std::alloc::{AllocError, Global};
 use std::mem::replace;
-use std::thread::{Threads, join_mut};
 
 /// How many workers judge lines, and the size of a worker's blocks.
 #[derive(Drop)]
@@ -31,11 +29,11 @@ pub(crate) struct Hands {
 
 /// What the calling thread works on while others judge lines.
 #[derive(Drop)]
-pub(crate) struct Ahead {
+pub(crate) struct Ahead<L: RecordList> {
     /// The number of the line that comes next.
     pub(crate) line: u32,
     /// What the lines before it stand for.
-    pub(crate) kept: Arriving,
+    pub(crate) kept: Kept<L>,
     /// The pieces of the lines from there on that were judged.
     pub(crate) pieces: Vec<Piece>,
     /// The bytes after those that are judged now.
@@ -48,14 +46,14 @@ pub(crate) struct Ahead {
     pub(crate) asks: bool,
 }
 
-impl Ahead {
-    /// Returns the state before anything was read. The block has room for at most this many bytes.
-    pub(crate) fn new(alloc: Global, limit: usize) -> Result<Ahead, AllocError>
+impl<L: RecordList> Ahead<L> {
+    /// Returns the state before anything was read, with a list for the records. The block has room for at most this many bytes.
+    pub(crate) fn new(alloc: Global, list: L, limit: usize) -> Result<Ahead<L>, AllocError>
         ensures { IfOk result (IsFirst limit) }
     {
         Ok(Ahead {
             line: 1,
-            kept: Arriving::new(alloc),
+            kept: Kept::new(list),
             pieces: Vec::new(alloc),
             block: Block::new(alloc, limit)?,
             turns: 0,
@@ -90,13 +88,11 @@ impl Ahead {
         Ok(())
     }
 
-    /// Does what is done while lines are judged: adds the pieces before them, and then moves their records
-    /// behind the others and fills the block, if the source is read again. With three workers or more the
-    /// records are moved in a thread of its own.
-    pub(crate) fn work_beside<R: Threads, S: Source>(
+    /// Does what is done while lines are judged: adds the pieces before them, and then fills the block, if the
+    /// source is read again.
+    pub(crate) fn work_beside<S: Source>(
         &mut self,
-        rt: &R,
-        hands: &Hands,
+        alloc: Global,
         source: &mut S,
     ) -> Result<(), ReadCause>
         requires in_hand { IsInHand self.old }
@@ -106,12 +102,8 @@ impl Ahead {
         ensures met { MeetsMore self.old self.new (S.agains source.old) (S.agains source.new)
             (S.breaks source.old) (S.breaks source.new) }
     {
-        self.add_pieces(hands.alloc)?;
-        if hands.workers > 2 {
-            self.refill_beside(rt, source);
-        } else {
-            self.refill_behind(source);
-        }
+        self.add_pieces(alloc)?;
+        self.refill(source);
         Ok(())
     }
 
@@ -138,67 +130,6 @@ impl Ahead {
         }
         self.filled = fill(&mut self.block, source, &mut self.turns);
     }
-
-    /// Moves the records that wait behind the others, and then fills the block, if the source is read again.
-    fn refill_behind<S: Source>(&mut self, source: &mut S)
-        requires can_ask { CanAsk self.old }
-        requires met { IfErr self.old.filled IsFillFault }
-        ensures refilled { IsRefilled self.old self.new (S.remaining source.old) (S.remaining source.new) }
-        ensures met { MeetsMore self.old self.new (S.agains source.old) (S.agains source.new)
-            (S.breaks source.old) (S.breaks source.new) }
-    {
-        self.kept.settle();
-        self.refill(source);
-    }
-
-    /// Does both at the same time.
-    fn refill_beside<R: Threads, S: Source>(&mut self, rt: &R, source: &mut S)
-        requires can_ask { CanAsk self.old }
-        requires met { IfErr self.old.filled IsFillFault }
-        ensures refilled { IsRefilled self.old self.new (S.remaining source.old) (S.remaining source.new) }
-        ensures met { MeetsMore self.old self.new (S.agains source.old) (S.agains source.new)
-            (S.breaks source.old) (S.breaks source.new) }
-    {
-        if !self.asks {
-            self.kept.settle();
-            return;
-        }
-        self.filled = fill_beside(rt, &mut self.kept, &mut self.block, source, &mut self.turns);
-    }
-}
-
-/// Fills the block as [`fill`] does, while the records that wait are moved behind the others in a thread of its
-/// own.
-fn fill_beside<R: Threads, S: Source>(
-    rt: &R,
-    kept: &mut Arriving,
-    block: &mut Block,
-    source: &mut S,
-    turns: &mut u32,
-) -> Result<bool, ReadCause>
-    requires { turns.old ≤ MAX_TURNS }
-    ensures kept { kept.new ≡ kept.old }
-    ensures filled { IsFilled result block.old block.new (S.remaining source.old) (S.remaining source.new) }
-    ensures turns { TakesTurns (result_err result) turns.old turns.new (S.agains source.old)
-        (S.agains source.new) }
-    ensures breaks { S.breaks source.new ≡ breaks_told (result_err result) (S.breaks source.old) }
-{
-    let (_, filled) = join_mut(
-        rt,
-        &mut ||
-            ensures { kept.exit.now ≡ kept.entry.now }
-        { kept.settle() },
-        &mut || -> Result<bool, ReadCause>
-            requires { turns.now ≤ MAX_TURNS }
-            ensures filled { IsFilled result block.entry.now block.exit.now
-                (S.remaining source.entry.now) (S.remaining source.exit.now) }
-            ensures turns { TakesTurns (result_err result) turns.entry.now turns.exit.now
-                (S.agains source.entry.now) (S.agains source.exit.now) }
-            ensures breaks { S.breaks source.exit.now
-                ≡ breaks_told (result_err result) (S.breaks source.entry.now) }
-        { fill(block, source, turns) },
-    );
-    filled
 }
 
 /// Returns whether the source is read again after this answer, if this many bytes follow the whole lines.
@@ -214,7 +145,11 @@ fn may_ask(filled: Result<bool, ReadCause>, len: usize) -> bool
 }
 
 /// Adds the records of these pieces, up to the first fault.
-fn join(pieces: Vec<Piece>, line: &mut u32, kept: &mut Arriving) -> Result<(), ReadCause>
+fn join<L: RecordList>(
+    pieces: Vec<Piece>,
+    line: &mut u32,
+    kept: &mut Kept<L>,
+) -> Result<(), ReadCause>
     requires judged { (bytes : List ℕ) × AreJudged kept.old.version pieces.items bytes }
     requires line { (2 ≤ line.old) × (line.old ≤ LAST_LINE) }
     requires counted { IsLineCounted line.old kept.old }
@@ -237,7 +172,7 @@ fn join(pieces: Vec<Piece>, line: &mut u32, kept: &mut Arriving) -> Result<(), R
 }
 
 /// Adds the records of a piece, up to its fault. A record past the limits is reported before the fault.
-fn add(piece: Piece, line: &mut u32, kept: &mut Arriving) -> Result<(), ReadCause>
+fn add<L: RecordList>(piece: Piece, line: &mut u32, kept: &mut Kept<L>) -> Result<(), ReadCause>
     requires judged { (bytes : List ℕ) × IsPieceJudged kept.old.version bytes piece }
     requires line { (2 ≤ line.old) × (line.old ≤ LAST_LINE) }
     requires counted { IsLineCounted line.old kept.old }
@@ -252,7 +187,7 @@ fn add(piece: Piece, line: &mut u32, kept: &mut Arriving) -> Result<(), ReadCaus
     ensures version { OnOk result (kept.new.version ≡ kept.old.version) }
     ensures fault { IfErr result IsLineFault }
 {
-    let (count, why) = kept.keep_all(piece.records, piece.tasks);
+    let (count, why) = kept.keep_all(piece.records);
     *line += count as u32;
     match why {
         Some(cause) => Err(cause),

@@ -1,19 +1,19 @@
 //! The trace file, of version 1, 2 or 3 of its format: a reader of it from any source, and traces and plain
 //! bytes written to any sink. Read `device`, `faults`, `reading` and `writing` for what a caller sees, and
-//! `laws` for what follows of a file. `window` has the bytes of a source that no line has yet, and `kept`
-//! the trace so far; the crate `lines` reads and writes each line. `reading_on` reads on several workers: by
-//! `blocks`, cut into `pieces` that are judged side by side; `ahead` is what the calling thread has in hand
-//! meanwhile, and `arriving` the trace so far. `upgrading` makes a trace of a newer version of an older one; of
+//! `laws` for what follows of a file. `window` has the bytes of a source that no line has yet, `kept` the trace
+//! so far, and `lists` what that is kept in; the crate `lines` reads and writes each line. `reading_on` reads on
+//! several workers: by `blocks`, cut into `pieces` that are judged side by side; `ahead` is what the calling
+//! thread has in hand meanwhile. `upgrading` makes a trace of a newer version of an older one; of
 //! one of version 1 by what `task_turns` notes of each task.
 #![tactic(auto)]
 
 mod ahead;
-mod arriving;
 mod blocks;
 mod device;
 mod faults;
 mod kept;
 pub mod laws;
+mod lists;
 mod memory;
 mod pieces;
 mod reading;
@@ -29,8 +29,8 @@ pub use device::{DeviceFault, Sink, Source};
 pub use faults::{ReadFault, UpgradeFault, WriteFault};
 pub use lines::ReadCause;
 pub use memory::{MemSink, MemSource};
-pub use reading::{NEWEST_VERSION, read, read_to};
-pub use reading_on::{read_blocks, read_on};
+pub use reading::{NEWEST_VERSION, read, read_packed, read_to};
+pub use reading_on::{read_blocks, read_on, read_packed_on};
 pub use script_reading::read_script;
 pub use scripts::{Script, Step};
 pub use streams::{FromRead, StdRead, StdWrite, ToWrite};

@@ -1,6 +1,6 @@
 //! How a piece of a trace file is judged: whole lines after the header, without counts of the records before
 //! them.
-ghost use Rattle.std.specs.Prelude.{◌≡◌, ◌≤◌, ◌<◌, ◌+◌, ◌-◌, ◌^◌, [], length, slice_range, slice_index, IfOk, OnOk, IfErr};
+ghost use Rattle.std.specs.Prelude.{◌≡◌, ◌≤◌, ◌<◌, ◌+◌, [], length, slice_range, slice_index, IfOk, OnOk, IfErr};
 ghost use Rattle.certificate.specs.Pieces.{IsWholeLines, IsPieceJudged, AreJudged, TakesLine, TakesText, WithRecord, SamePiece};
 ghost use Rattle.certificate.specs.Blocks.{AreCuts, IsPiece};
 
@@ -15,12 +15,10 @@ use std::thread::Threads;
 /// The line of a record is rarely shorter. If many are, the list of a piece's records grows.
 const LINE: usize = 96;
 
-/// The records of a piece's lines up to its first faulty one, how many of them make a task, and the cause of
-/// that line.
+/// The records of a piece's lines up to its first faulty one, and the cause of that line.
 #[derive(Drop)]
 pub(crate) struct Piece {
     pub(crate) records: Vec<Record>,
-    pub(crate) tasks: usize,
     pub(crate) fault: Option<ReadCause>,
 }
 
@@ -28,16 +26,12 @@ impl Piece {
     /// Adds the record.
     #[inline(always)]
     fn add(&mut self, event: Record) -> Result<(), ReadCause>
-        requires { self.old.tasks + 1 < 2 ^ 64 }
         ensures ok { OnOk result (WithRecord event self.old self.new) }
         ensures err { IfErr result (λ cause. (cause ≡ ReadCause.Memory) × SamePiece self.old self.new) }
     {
-        event.read_numbers();
-        let makes = event.body.made().is_some();
         if self.records.push(event).is_err() {
             return Err(ReadCause::Memory);
         }
-        self.tasks += usize::from(makes);
         Ok(())
     }
 }
@@ -97,7 +91,6 @@ fn judge(alloc: Global, version: u32, text: &[u8]) -> Piece
     let mut scratch = Scratch::new(alloc);
     let mut piece = Piece {
         records: reserved(alloc, text.len() / LINE),
-        tasks: 0,
         fault: None,
     };
     let mut start = 0;
@@ -133,7 +126,6 @@ fn judge_line(
 ) -> Result<usize, ReadCause>
     requires whole { IsWholeLines rest.now }
     requires some { 0 < length rest.now }
-    requires room { piece.old.tasks + 1 < 2 ^ 64 }
     ensures { TakesLine version rest.now piece.old result piece.new }
 {
     match record_in_front(alloc, version, rest) {
@@ -156,7 +148,6 @@ fn judge_other_line(
 ) -> Result<usize, ReadCause>
     requires whole { IsWholeLines rest.now }
     requires some { 0 < length rest.now }
-    requires room { piece.old.tasks + 1 < 2 ^ 64 }
     ensures { TakesLine version rest.now piece.old result piece.new }
 {
     match memchr(b'\n', rest) {
@@ -178,7 +169,6 @@ fn judge_text(
     piece: &mut Piece,
     scratch: &mut Scratch,
 ) -> Result<(), ReadCause>
-    requires { piece.old.tasks + 1 < 2 ^ 64 }
     ensures { TakesText version text.now piece.old result piece.new }
 {
     piece.add(record(alloc, version, text, scratch)?)

@@ -11,11 +11,13 @@ ghost use Rattle.lines.specs.Limits.{max_line};
 
 use crate::device::{MAX_TURNS, Source};
 use crate::faults::ReadFault;
-use crate::kept::Kept;
+use crate::kept::{Kept, RecordList};
+use crate::lists::Records;
 use crate::window::Window;
 use json::Scratch;
 use lines::{MAX_LINE, ReadCause, TRACES, header, record, record_in_front};
 use ompt_events::{MAX_RECORDS, Trace};
+use packed_trace::PackedTrace;
 use std::alloc::Global;
 
 /// The number of the last line that is read: after the header and the most records, one too many.
@@ -62,13 +64,54 @@ pub fn read_to<S: Source>(alloc: Global, newest: u32, source: &mut S) -> Result<
     ensures line { IfErr result (λ fault. (1 ≤ fault.line) × (fault.line ≤ LAST_LINE)) }
     ensures version { IfOk result (λ trace. trace.version ≤ newest) }
 {
+    Ok(
+        read_kept(alloc, newest, source, Records::new(alloc))?
+            .into_list()
+            .into_trace(),
+    )
+}
+
+/// Reads a trace file of a version up to [`NEWEST_VERSION`] into columns, as [`read`] reads it.
+pub fn read_packed<S: Source>(alloc: Global, source: &mut S) -> Result<PackedTrace, ReadFault>
+    // The trace that the bytes stand for, their first fault, or a failure of the device or of memory.
+    ensures file { IfSome (S.remaining source.old)
+        (λ bytes. IsReadAnswer result bytes (S.remaining source.new)) }
+
+    // The call ends with the 10,001st answer `Again`.
+    ensures turns { (turns : ℕ) × TakesTurns (cause_told result) 0 turns (S.agains source.old)
+        (S.agains source.new) }
+
+    // `Device` is reported if and only if the source has failed.
+    ensures breaks { S.breaks source.new ≡ breaks_told (cause_told result) (S.breaks source.old) }
+    ensures line { IfErr result (λ fault. (1 ≤ fault.line) × (fault.line ≤ LAST_LINE)) }
+    ensures version { IfOk result (λ trace. trace.version ≤ NEWEST_VERSION) }
+{
+    Ok(read_kept(alloc, NEWEST_VERSION, source, PackedTrace::new(alloc))?.into_list())
+}
+
+/// Reads a file of a version up to `newest` to its end, into this list.
+fn read_kept<S: Source, L: RecordList>(
+    alloc: Global,
+    newest: u32,
+    source: &mut S,
+    list: L,
+) -> Result<Kept<L>, ReadFault>
+    requires { (1 ≤ newest) × (newest ≤ 3) }
+    ensures file { IfSome (S.remaining source.old)
+        (λ bytes. IsAnswerTo newest result bytes (S.remaining source.new)) }
+    ensures turns { (turns : ℕ) × TakesTurns (cause_told result) 0 turns (S.agains source.old)
+        (S.agains source.new) }
+    ensures breaks { S.breaks source.new ≡ breaks_told (cause_told result) (S.breaks source.old) }
+    ensures line { IfErr result (λ fault. (1 ≤ fault.line) × (fault.line ≤ LAST_LINE)) }
+    ensures version { IfOk result (λ trace. trace.version ≤ newest) }
+{
     let Ok(mut window) = Window::new(alloc) else {
         return Err(ReadFault {
             line: 1,
             cause: ReadCause::Memory,
         });
     };
-    let mut kept = Kept::new(alloc);
+    let mut kept = Kept::new(list);
     let mut scratch = Scratch::new(alloc);
     let mut turns = 0;
     'lines: for line in 1..=LAST_LINE {
@@ -83,7 +126,7 @@ pub fn read_to<S: Source>(alloc: Global, newest: u32, source: &mut S) -> Result<
             &mut scratch,
         ) {
             Ok(true) => {}
-            Ok(false) => return Ok(kept.into_trace()),
+            Ok(false) => return Ok(kept),
             Err(cause) => return Err(ReadFault { line, cause }),
         }
     }
@@ -91,14 +134,14 @@ pub fn read_to<S: Source>(alloc: Global, newest: u32, source: &mut S) -> Result<
 }
 
 /// Reads the line with this number and keeps its record. Returns whether there was one.
-fn read_line<S: Source>(
+fn read_line<S: Source, L: RecordList>(
     alloc: Global,
     newest: u32,
     line: u32,
     window: &mut Window,
     source: &mut S,
     turns: &mut u32,
-    kept: &mut Kept,
+    kept: &mut Kept<L>,
     scratch: &mut Scratch,
 ) -> Result<bool, ReadCause>
     requires newest { newest ≤ 3 }
@@ -125,14 +168,14 @@ fn read_line<S: Source>(
 
 /// Reads the next line, whatever form it has: searches for its end first.
 #[inline(never)]
-fn read_other_line<S: Source>(
+fn read_other_line<S: Source, L: RecordList>(
     alloc: Global,
     newest: u32,
     line: u32,
     window: &mut Window,
     source: &mut S,
     turns: &mut u32,
-    kept: &mut Kept,
+    kept: &mut Kept<L>,
     scratch: &mut Scratch,
 ) -> Result<bool, ReadCause>
     requires newest { newest ≤ 3 }
@@ -162,11 +205,11 @@ fn read_other_line<S: Source>(
 /// is in written form. Returns the length of the line, and whether the record is kept. It is not inlined:
 /// with the other forms beside it, such a line takes longer.
 #[inline(never)]
-fn take_front(
+fn take_front<L: RecordList>(
     alloc: Global,
     line: u32,
     window: &Window,
-    kept: &mut Kept,
+    kept: &mut Kept<L>,
 ) -> Option<(usize, Result<(), ReadCause>)>
     ensures line { IfSome result (λ taken. LineFeedAt window.now (Some taken.0)) }
     ensures short { IfSome result (λ taken. taken.0 ≤ max_line) }
@@ -186,12 +229,12 @@ fn take_front(
 /// Takes the text of the line with this number: the header, or a record that is kept. It is not inlined:
 /// with the loop or the other forms beside it, a line in written form takes longer.
 #[inline(never)]
-fn take_text(
+fn take_text<L: RecordList>(
     alloc: Global,
     newest: u32,
     line: u32,
     text: &[u8],
-    kept: &mut Kept,
+    kept: &mut Kept<L>,
     scratch: &mut Scratch,
 ) -> Result<(), ReadCause>
     requires { newest ≤ 3 }
@@ -207,11 +250,11 @@ fn take_text(
 
 /// Takes the text of the header, which begins the trace.
 #[inline(never)]
-fn take_header(
+pub(crate) fn take_header<L: RecordList>(
     alloc: Global,
     newest: u32,
     text: &[u8],
-    kept: &mut Kept,
+    kept: &mut Kept<L>,
     scratch: &mut Scratch,
 ) -> Result<(), ReadCause>
     requires { newest ≤ 3 }
@@ -224,10 +267,10 @@ fn take_header(
 
 /// Takes the text of a record in any form.
 #[inline(never)]
-fn take_other(
+fn take_other<L: RecordList>(
     alloc: Global,
     text: &[u8],
-    kept: &mut Kept,
+    kept: &mut Kept<L>,
     scratch: &mut Scratch,
 ) -> Result<(), ReadCause>
     ensures { IsSaid (result_map_both (λ _. kept.new) (λ e. e) result)

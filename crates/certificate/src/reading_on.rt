@@ -10,17 +10,21 @@ ghost use Rattle.certificate.specs.Pieces.{IsWholeLines};
 ghost use Rattle.certificate.specs.Windows.{LineFeedAt};
 ghost use Rattle.certificate.specs.Blocks.{IsFillFault};
 ghost use Rattle.certificate.specs.ReadingOn.{IsAnswerOn, IsAnswerInBlocks, ReadsAhead, IsToldAfter, IsBetweenLines, IsReadToEnd, IsLineFault, room_of};
-ghost use Rattle.certificate.specs.Ahead.{AreJudgedOf, SameSource, IsFirst, IsInHand, CanAsk, IsRoundReady, Waits, IsAfterStep, IsAfterRound, IsToldNext, AreBlocksTurned, WorkedBeside, HasMet, MeetsMore, rounds_left};
+ghost use Rattle.certificate.specs.Ahead.{AreJudgedOf, SameSource, IsFirst, IsInHand, CanAsk, IsRoundReady, Waits, IsAfterStep, IsAfterRound, AreBlocksTurned, WorkedBeside, HasMet, MeetsMore, rounds_left};
 
 use crate::ahead::{Ahead, Hands};
 use crate::blocks::{Block, fill};
 use crate::device::Source;
 use crate::faults::ReadFault;
+use crate::kept::{Kept, RecordList};
+use crate::lists::Records;
 use crate::pieces::{Piece, cuts, judge_all};
-use crate::reading::{LAST_LINE, NEWEST_VERSION};
+use crate::reading::{LAST_LINE, NEWEST_VERSION, take_header};
+use json::Scratch;
 use lines::{MAX_LINE, ReadCause};
 use memchr::memchr;
 use ompt_events::Trace;
+use packed_trace::PackedTrace;
 use std::alloc::{AllocError, Global};
 use std::mem::swap;
 use std::thread::{Threads, join_mut};
@@ -54,6 +58,34 @@ pub fn read_on<R: Threads + Sync, S: Source>(
     read_blocks(rt, alloc, source, workers, BLOCK)
 }
 
+/// Reads a trace file into columns, on this many workers, as [`read_on`] reads it.
+pub fn read_packed_on<R: Threads + Sync, S: Source>(
+    rt: &R,
+    alloc: Global,
+    source: &mut S,
+    workers: u32,
+) -> Result<PackedTrace, ReadFault>
+    requires { 1 ≤ workers }
+
+    // The trace that the bytes stand for, their first fault, or a failure of the device or of memory.
+    ensures file { IfSome (S.remaining source.old)
+        (λ bytes. IsAnswerOn workers result bytes (S.remaining source.new)) }
+
+    // The reading ends with the 10,001st answer `Again` or an answer `Broken`, which is reported unless a
+    // line before it has a fault.
+    ensures device { (turns : ℕ) × ReadsAhead (cause_told result) 0 turns (S.agains source.old)
+        (S.agains source.new) (S.breaks source.old) (S.breaks source.new) }
+    ensures line { IfErr result (λ fault. (1 ≤ fault.line) × (fault.line ≤ LAST_LINE)) }
+    ensures version { IfOk result (λ trace. trace.version ≤ NEWEST_VERSION) }
+{
+    let hands = Hands {
+        alloc,
+        workers,
+        block: BLOCK,
+    };
+    Ok(read_ahead(rt, &hands, source, PackedTrace::new(alloc))?.into_list())
+}
+
 /// Reads ahead as [`read_on`] does, with blocks of this size, from 1 byte to 2^24. Returns what `read_on` does.
 pub fn read_blocks<R: Threads + Sync, S: Source>(
     rt: &R,
@@ -76,42 +108,56 @@ pub fn read_blocks<R: Threads + Sync, S: Source>(
     ensures line { IfErr result (λ fault. (1 ≤ fault.line) × (fault.line ≤ LAST_LINE)) }
     ensures version { IfOk result (λ trace. trace.version ≤ NEWEST_VERSION) }
 {
-    let limit = limit_of(workers, block);
-    let Ok(mut front) = Block::new(alloc, limit) else {
-        return Err(ReadFault {
-            line: 1,
-            cause: ReadCause::Memory,
-        });
-    };
-    let Ok(mut ahead) = Ahead::new(alloc, limit) else {
-        return Err(ReadFault {
-            line: 1,
-            cause: ReadCause::Memory,
-        });
-    };
     let hands = Hands {
         alloc,
         workers,
         block,
     };
-    if let Err(cause) = start(alloc, &mut front, &mut ahead, source) {
+    Ok(
+        read_ahead(rt, &hands, source, Records::new(alloc))?
+            .into_list()
+            .into_trace(),
+    )
+}
+
+/// Reads ahead into this list, by workers and blocks as these hands say.
+fn read_ahead<R: Threads + Sync, S: Source, L: RecordList>(
+    rt: &R,
+    hands: &Hands,
+    source: &mut S,
+    list: L,
+) -> Result<Kept<L>, ReadFault>
+    requires { (1 ≤ hands.now.block) × (hands.now.block ≤ 2 ^ 24) }
+    ensures file { IfSome (S.remaining source.old)
+        (λ bytes. IsAnswerInBlocks hands.now.workers hands.now.block result bytes (S.remaining source.new)) }
+    ensures device { (turns : ℕ) × ReadsAhead (cause_told result) 0 turns (S.agains source.old)
+        (S.agains source.new) (S.breaks source.old) (S.breaks source.new) }
+    ensures line { IfErr result (λ fault. (1 ≤ fault.line) × (fault.line ≤ LAST_LINE)) }
+    ensures version { IfOk result (λ trace. trace.version ≤ NEWEST_VERSION) }
+{
+    let limit = limit_of(hands.workers, hands.block);
+    let Ok(mut front) = Block::new(hands.alloc, limit) else {
+        return Err(ReadFault {
+            line: 1,
+            cause: ReadCause::Memory,
+        });
+    };
+    let Ok(mut ahead) = Ahead::new(hands.alloc, list, limit) else {
+        return Err(ReadFault {
+            line: 1,
+            cause: ReadCause::Memory,
+        });
+    };
+    if let Err(cause) = start(hands.alloc, &mut front, &mut ahead, source) {
         return Err(ReadFault {
             line: ahead.line,
             cause,
         });
     }
     'rounds: loop {
-        match round(rt, &hands, &mut front, &mut ahead, source) {
+        match round(rt, hands, &mut front, &mut ahead, source) {
             Ok(true) => {}
-            Ok(false) => match ahead.kept.into_trace() {
-                Ok(trace) => return Ok(trace),
-                Err(_) => {
-                    return Err(ReadFault {
-                        line: ahead.line,
-                        cause: ReadCause::Memory,
-                    });
-                }
-            },
+            Ok(false) => return Ok(ahead.kept),
             Err(cause) => {
                 return Err(ReadFault {
                     line: ahead.line,
@@ -132,10 +178,10 @@ fn limit_of(workers: u32, block: usize) -> usize
 }
 
 /// Reads the first bytes, and takes the header.
-fn start<S: Source>(
+fn start<S: Source, L: RecordList>(
     alloc: Global,
     front: &mut Block,
-    ahead: &mut Ahead,
+    ahead: &mut Ahead<L>,
     source: &mut S,
 ) -> Result<(), ReadCause>
     requires first { IsFirst front.old.limit ahead.old }
@@ -157,7 +203,11 @@ fn start<S: Source>(
 }
 
 /// Takes the header from the front of the whole lines.
-fn begin(alloc: Global, front: &mut Block, ahead: &mut Ahead) -> Result<(), ReadCause>
+fn begin<L: RecordList>(
+    alloc: Global,
+    front: &mut Block,
+    ahead: &mut Ahead<L>,
+) -> Result<(), ReadCause>
     requires line { ahead.old.line ≡ 1 }
     requires pieces { ahead.old.pieces.items ≡ [] }
     requires whole { IsWholeLines front.old.waiting }
@@ -184,7 +234,14 @@ fn begin(alloc: Global, front: &mut Block, ahead: &mut Ahead) -> Result<(), Read
         Some(_) => return Err(ReadCause::LineTooLong),
         None => return end(ahead.filled, ahead.block.len(), 1),
     };
-    ahead.kept.take_header(alloc, &text[..len])?;
+    let mut scratch = Scratch::new(alloc);
+    take_header(
+        alloc,
+        NEWEST_VERSION,
+        &text[..len],
+        &mut ahead.kept,
+        &mut scratch,
+    )?;
     ahead.line = 2;
     front.skip(len + 1);
     Ok(())
@@ -192,11 +249,11 @@ fn begin(alloc: Global, front: &mut Block, ahead: &mut Ahead) -> Result<(), Read
 
 /// Judges the lines in front while the pieces before them are added and the other block is filled. Returns
 /// whether more may come.
-fn round<R: Threads + Sync, S: Source>(
+fn round<R: Threads + Sync, S: Source, L: RecordList>(
     rt: &R,
     hands: &Hands,
     front: &mut Block,
-    ahead: &mut Ahead,
+    ahead: &mut Ahead<L>,
     source: &mut S,
 ) -> Result<bool, ReadCause>
     requires ready { IsRoundReady front.old ahead.old }
@@ -226,11 +283,11 @@ fn round<R: Threads + Sync, S: Source>(
 
 /// Judges the lines in front while the pieces before them are added and the other block is filled. Then the
 /// judged ones are to be added, and the block that was filled is in front.
-fn advance<R: Threads + Sync, S: Source>(
+fn advance<R: Threads + Sync, S: Source, L: RecordList>(
     rt: &R,
     hands: &Hands,
     front: &mut Block,
-    ahead: &mut Ahead,
+    ahead: &mut Ahead<L>,
     source: &mut S,
 ) -> Result<(), ReadCause>
     requires ready { IsRoundReady front.old ahead.old }
@@ -256,11 +313,11 @@ fn advance<R: Threads + Sync, S: Source>(
 }
 
 /// Judges whole lines in another thread, and meanwhile does the work of this one.
-fn side_by_side<R: Threads + Sync, S: Source>(
+fn side_by_side<R: Threads + Sync, S: Source, L: RecordList>(
     rt: &R,
     hands: &Hands,
     text: &[u8],
-    ahead: &mut Ahead,
+    ahead: &mut Ahead<L>,
     source: &mut S,
 ) -> (Result<Vec<Piece>, AllocError>, Result<(), ReadCause>)
     requires whole { IsWholeLines text.now }
@@ -285,7 +342,7 @@ fn side_by_side<R: Threads + Sync, S: Source>(
                 (S.remaining source.entry.now) (S.remaining source.exit.now) }
             ensures met { MeetsMore ahead.entry.now ahead.exit.now (S.agains source.entry.now)
                 (S.agains source.exit.now) (S.breaks source.entry.now) (S.breaks source.exit.now) }
-        { ahead.work_beside(rt, hands, source) },
+        { ahead.work_beside(hands.alloc, source) },
     )
 }
 
@@ -333,7 +390,11 @@ fn pieces_of(judges: u32, block: usize, len: usize) -> u32
 }
 
 /// Adds the last pieces, which these bytes follow, and returns how the reading ends.
-fn finish(alloc: Global, front: &Block, ahead: &mut Ahead) -> Result<(), ReadCause>
+fn finish<L: RecordList>(
+    alloc: Global,
+    front: &Block,
+    ahead: &mut Ahead<L>,
+) -> Result<(), ReadCause>
     requires in_hand { IsInHand ahead.old }
     requires none { LineFeedAt front.now.waiting None }
     requires empty { ahead.old.block.waiting ≡ [] }
@@ -341,9 +402,6 @@ fn finish(alloc: Global, front: &Block, ahead: &mut Ahead) -> Result<(), ReadCau
     ensures after { (known left : Option (List ℕ)) (room : ℕ)
         → Waits known left room front.now.waiting ahead.old
         → IsReadToEnd result known ahead.new.line ahead.new.kept room left }
-    ensures memory { (known left : Option (List ℕ)) (room : ℕ)
-        → Waits known left room front.now.waiting ahead.old
-        → OnOk result (IsToldNext ReadCause.Memory known left room ahead.new) }
     ensures line { (1 ≤ ahead.new.line) × (ahead.new.line ≤ LAST_LINE) }
     ensures version { OnOk result (ahead.new.kept.version ≤ NEWEST_VERSION) }
     ensures source { SameSource ahead.old ahead.new }

@@ -17,7 +17,7 @@ use Rattle.ompt_events.specs.Records.{claim}
 use Rattle.ompt_events.proofs.ListLemmas.{get_within}
 use Rattle.packed_trace.specs.declared.act.PackedEvent.{PackedEvent}
 use Rattle.packed_trace.specs.declared.columns.Columns.{Columns}
-use Rattle.packed_trace.specs.declared.columns.Ids.{Ids}
+use Rattle.packed_trace.specs.declared.ids.Ids.{Ids}
 use Rattle.packed_trace.specs.declared.columns.Numbers.{Numbers}
 use Rattle.packed_trace.specs.declared.sparse.Sparse.{Sparse}
 use Rattle.packed_trace.specs.Packed.{ids_of, listed_deps, numbers_of, packed}
@@ -50,11 +50,11 @@ said_there says rs i value within all =
     ∙ all there.0.body (ap (option_and_then (λ (r : Record). Some r.body)) there.1)
 
 -- all columns grow by one record, whose claim and list these are
-pub added : (rs : List Record) (r : Record) (old : Columns) (events : Vec PackedEvent) (ids : Vec Ids)
+pub added : (rs : List Record) (r : Record) (old : Columns) (events : Vec PackedEvent) (ids : List Ids)
     (numbers : Vec Numbers) (seqs : Vec ℕ) (claims : Sparse Claim) (lists : Sparse (List Dep))
     (result : Result (Unit {0}) AllocError) → AreColumns rs old
     → events.items ≡ map packed (rs ++ r ∷ [])
-    → ids.items ≡ map (λ (q : Record). ids_of q.body) (rs ++ r ∷ [])
+    → ids ≡ map (λ (q : Record). ids_of q.body) (rs ++ r ∷ [])
     → numbers.items ≡ map (λ (q : Record). numbers_of q.body) (rs ++ r ∷ [])
     → seqs.items ≡ map (λ (q : Record). q.seq) (rs ++ r ∷ []) → (place : ℕ) → place ≡ length old.events.items
     → (claimed : Option Claim) (listed : Option (List Dep))
@@ -100,6 +100,12 @@ kept_there keep rs column i r y stands are is =
     let all : length column ≡ length rs = ap length are ∙ length-map rs keep in
     same_Some y (keep r)
     (sym (column_there keep rs column i y (omega (arith, within, all)) is are) ∙ ap (option_map keep) stands)
+
+pub same_there : {Y : Type 0} (keep : Record → Y) (rs : List Record) (column : List Y) (i : ℕ) (r : Record)
+    (y : Y) → slice_get rs i ≡ Some r → column ≡ map keep rs → slice_get column i ≡ Some y → y ≡ keep r
+same_there keep rs column i r y stands are is =
+    same_Some y (keep r)
+    (sym is ∙ ap (λ c. slice_get c i) are ∙ slice_get-map keep rs i ∙ ap (option_map keep) stands)
 
 pub ok_refl : {E Y : Type 0} (result : Result (Unit {0}) E) (y : Y) → OnOk result (y ≡ y)
 ok_refl (Err fault) y = tt

@@ -10,7 +10,7 @@ use Rattle.packed_trace.specs.Sparse.{AreSparse}
 -- each column has what it keeps of each record
 pub record AreColumns (rs : List Record) (columns : Columns) : Type 0 where
   pub events : columns.events.items ≡ map packed rs
-  pub ids : columns.ids.items ≡ map (λ (r : Record). ids_of r.body) rs
+  pub ids : columns.ids ≡ map (λ (r : Record). ids_of r.body) rs
   pub numbers : columns.numbers.items ≡ map (λ (r : Record). numbers_of r.body) rs
   pub seqs : columns.seqs.items ≡ map (λ (r : Record). r.seq) rs
   pub claims : AreSparse claim rs columns.claims.places.items columns.claims.items.items

@@ -16,7 +16,7 @@ use Rattle.ompt_events.specs.Records.{dependences, flags, forked, made, next_tur
 use Rattle.packed_trace.specs.declared.act.Act.{Act}
 use Rattle.packed_trace.specs.declared.act.Act.TheVariants as act
 use Rattle.packed_trace.specs.declared.act.PackedEvent.{PackedEvent}
-use Rattle.packed_trace.specs.declared.columns.Ids.{Ids}
+use Rattle.packed_trace.specs.declared.ids.Ids.{Ids}
 use Rattle.packed_trace.specs.declared.columns.Numbers.{Numbers}
 
 -- an initial task begins, or an implicit one

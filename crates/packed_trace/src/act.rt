@@ -4,6 +4,7 @@ ghost use Rattle.ompt_events.specs.declared.records.Body.{Body};
 ghost use Rattle.ompt_events.specs.Flags as flag;
 ghost use Rattle.ompt_events.specs.Flags.{has_flag};
 ghost use Rattle.ompt_events.specs.Records.{begun_initial, begun_root, created, created_with_deps, creation, dependences, discarded, ended_root, finish, forked, fulfilled, joined, made, region, region_named, running, schedule, started, told_turns, wait_completed};
+ghost use Rattle.ompt_events.specs.Regions.{ends_wait};
 ghost use Rattle.ompt_events.specs.Traces.{HasItsNext};
 ghost use Rattle.packed_trace.specs.Named.{subject, object};
 ghost use Rattle.packed_trace.specs.Packed.{act_of, both, first_id, forked_region, made_with, packed, root_begun, schedule_status, second_id, task_created};
@@ -361,6 +362,20 @@ impl Act {
     {
         match self {
             Act::Depend => true,
+            _ => false,
+        }
+    }
+
+    /// Returns whether a region ends that waits for tasks (15.3, 15.4 and 15.5).
+    pub fn ends_wait(self) -> bool
+        ensures { (body : Body) → act_of body ≡ self → result ≡ ends_wait body }
+    {
+        match self {
+            Act::Region {
+                endpoint: Endpoint::Begin,
+                ..
+            } => false,
+            Act::Region { kind, .. } => kind.waits_for_tasks(),
             _ => false,
         }
     }

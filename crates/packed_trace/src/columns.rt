@@ -7,18 +7,10 @@ ghost use Rattle.packed_trace.specs.Sparse.{AddsItem};
 
 use crate::act::PackedEvent;
 use crate::copies::{boxed_copy, deps_of};
+use crate::ids::{IdColumn, Ids};
 use crate::sparse::Sparse;
 use ompt_events::{Body, BoxedClaim, Deps, Record, Turns};
 use std::alloc::{AllocError, Global};
-
-/// The ids that a record names.
-#[derive(Clone, Copy, Debug)]
-pub struct Ids {
-    /// The task that the record is of, and 0 if it is of none.
-    pub first: u64,
-    /// The task that it creates, or that runs next, or its parallel region; and 0 if it names none.
-    pub second: u64,
-}
 
 /// The numbers that a record names.
 #[derive(Clone, Copy, Debug)]
@@ -34,7 +26,7 @@ pub struct Numbers {
 #[derive(Debug, Drop)]
 pub(crate) struct Columns {
     pub(crate) events: Vec<PackedEvent>,
-    pub(crate) ids: Vec<Ids>,
+    pub(crate) ids: IdColumn,
     pub(crate) numbers: Vec<Numbers>,
     pub(crate) seqs: Vec<u32>,
     pub(crate) claims: Sparse<BoxedClaim>,
@@ -50,7 +42,7 @@ impl Columns {
     {
         Columns {
             events: Vec::new(alloc),
-            ids: Vec::new(alloc),
+            ids: IdColumn::new(alloc),
             numbers: Vec::new(alloc),
             seqs: Vec::new(alloc),
             claims: Sparse::new(alloc),
@@ -101,7 +93,7 @@ impl Columns {
     {
         let place = self.events.len();
         self.events.push(other.events[at])?;
-        self.ids.push(other.ids[at])?;
+        self.ids.push(other.ids.at(at))?;
         self.numbers.push(other.numbers[at])?;
         self.seqs.push(other.seqs[at])?;
         copy_claim(alloc, other.claims.find(at), place, &mut self.claims)?;

@@ -11,11 +11,13 @@
 mod act;
 mod columns;
 mod copies;
+mod ids;
 mod listed;
 mod row;
 mod sparse;
 mod trace;
 
 pub use act::{Act, PackedEvent};
-pub use columns::{Ids, Numbers};
+pub use columns::Numbers;
+pub use ids::Ids;
 pub use trace::PackedTrace;

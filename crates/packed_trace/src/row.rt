@@ -5,7 +5,8 @@ ghost use Rattle.ompt_events.specs.Records.{begun_turn, ended_turn, joined, susp
 ghost use Rattle.packed_trace.specs.Rows.{IsRowOf};
 
 use crate::act::Act;
-use crate::columns::{Ids, Numbers};
+use crate::columns::Numbers;
+use crate::ids::Ids;
 use ompt_events::{Membership, Status, Turns};
 
 /// What the columns have of one record.

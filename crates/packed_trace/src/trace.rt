@@ -297,7 +297,7 @@ impl PackedTrace {
         requires { at < length self.now.records }
         ensures { (body : Body) → says_at Some self.now.records at ≡ Some body → first_id body ≡ result }
     {
-        self.columns.ids[at].first
+        self.columns.ids.at(at).first
     }
 
     /// Returns the second id of the record, and 0 if it has none.
@@ -305,7 +305,7 @@ impl PackedTrace {
         requires { at < length self.now.records }
         ensures { (body : Body) → says_at Some self.now.records at ≡ Some body → second_id body ≡ result }
     {
-        self.columns.ids[at].second
+        self.columns.ids.at(at).second
     }
 }
 
@@ -394,7 +394,7 @@ impl PackedTrace {
     {
         Row {
             act: self.act(at),
-            ids: self.columns.ids[at],
+            ids: self.columns.ids.at(at),
             numbers: self.columns.numbers[at],
         }
     }

@@ -3,7 +3,7 @@
 use crate::again::again;
 use crate::standard_input::trace_of_input;
 use anyhow::Result;
-use checker::{Order, Verdict, check, counter_order};
+use checker::{Order, Verdict, check, check_with_counter, counter_order};
 use ompt_events::Trace;
 use std::alloc::{AllocError, Global};
 use task_states::gap;
@@ -18,7 +18,18 @@ fn of_trace(rt: &HostRuntime, trace: &Trace) -> Result<()> {
     let gap = gap(trace);
     println!(rt; "gap {gap:?}")?;
     let verdict = again!(rt, _, check(rt.alloc(), trace))?;
-    tell(rt, &verdict)
+    tell(rt, &verdict)?;
+    let (same, _) = again!(rt, _, check_with_counter(rt.alloc(), trace))?;
+    tell_other(rt, &verdict, &same)
+}
+
+/// Prints the verdict that comes with a counter order, if it is another one.
+fn tell_other(rt: &HostRuntime, verdict: &Verdict, other: &Verdict) -> Result<()> {
+    let told = format!(in rt.alloc(); "{verdict:?}")?;
+    if format!(in rt.alloc(); "{other:?}")? != told {
+        println!(rt; "with a counter order {other:?}")?;
+    }
+    Ok(())
 }
 
 /// Prints the verdict, of a yes the places in its order.

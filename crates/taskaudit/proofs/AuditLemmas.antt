@@ -20,6 +20,7 @@ use Rattle.taskaudit.specs.declared.work.Shown.{Shown}
 use Rattle.taskaudit.specs.declared.work.Shown.TheVariants.{Report}
 use Rattle.taskaudit.specs.Audits.{BreaksOff, IsJudged, IsOfCrew, IsWriteFault, Leaves, LeavesOn, Prints}
 use Rattle.taskaudit.specs.Audits.{Reports}
+use Rattle.taskaudit.specs.Devices.{read_cause_of}
 use Rattle.taskaudit.specs.Reports.{outcome_of}
 use Rattle.taskaudit.proofs.HeadlineLemmas.{synchronised}
 
@@ -147,3 +148,14 @@ nothing_met agains breaks = (
     told_after = refl;
   },
 )
+
+-- what ends with the writing reports no cause of reading
+pub no_read_cause : {X : Type 0} (part : ℕ → Type 0) (result : Result X AuditFault)
+    → IfErr result (IsWriteFault part) → read_cause_of result ≡ None
+no_read_cause part (Ok x) fault = refl
+no_read_cause part (Err (Write f)) fault = refl
+no_read_cause part (Err (Read f)) fault = absurd fault
+no_read_cause part (Err (Check f)) fault = refl
+no_read_cause part (Err (Call line f)) fault = refl
+no_read_cause part (Err (Upgrade line f)) fault = refl
+no_read_cause part (Err Memory) fault = refl

@@ -13,9 +13,12 @@ ghost use Rattle.taskaudit.specs.Reports.{AreCounts, outcome_of};
 use crate::order::shown_text;
 use crate::report::{Counts, counts_of, report_by};
 use crate::work::{AuditFault, Outcome, Shown};
-use certificate::{Sink, Source, WriteFault, read, read_on, write_bytes};
-use checker::{CheckFault, Gate, MAX_WORKERS, Verdict, check, check_on, check_with_counter};
-use ompt_events::Trace;
+use certificate::{Sink, Source, WriteFault, read_packed, read_packed_on, write_bytes};
+use checker::{
+    CheckFault, Gate, MAX_WORKERS, Verdict, check_packed, check_packed_on,
+    check_packed_with_counter,
+};
+use packed_trace::PackedTrace;
 use std::alloc::Global;
 use std::mem::forget;
 use std::thread::{Threads, join};
@@ -43,9 +46,8 @@ pub fn audit<I: Source, O: Sink>(
         (record { turns = O.stalls sink.new; breaks = O.breaks sink.new }) }
     ensures memory { result ≢ Err (AuditFault.Write WriteFault.Memory) }
 {
-    let trace = read(alloc, source).map_err(AuditFault::Read)?;
-    let (verdict, text) = answer(alloc, shown, &trace)?;
-    leave(trace);
+    let trace = read_packed(alloc, source).map_err(AuditFault::Read)?;
+    let (verdict, text) = answer_and_leave(alloc, shown, trace)?;
     put(&verdict, text.as_slice(), sink)
 }
 
@@ -98,16 +100,11 @@ pub fn audit_on<R: Threads + Sync, G: Gate + Sync, I: Source, O: Sink>(
     if crew.workers == 0 || crew.workers > MAX_WORKERS {
         return Err(AuditFault::Check(CheckFault::Workers));
     }
-    let recorded = read_on(crew.threads, alloc, source, crew.workers).map_err(AuditFault::Read)?;
-    let (verdict, text) = answer_on(alloc, crew, &recorded)?;
-    leave(recorded);
+    let recorded = read_packed_on(crew.threads, alloc, source, crew.workers).map_err(
+        AuditFault::Read,
+    )?;
+    let (verdict, text) = answer_on_and_leave(alloc, crew, recorded)?;
     put(&verdict, text.as_slice(), sink)
-}
-
-/// Leaves the trace to the end of the process, which comes soon: to free the memory of each claim would only
-/// take time.
-fn leave(trace: Trace) {
-    forget(trace);
 }
 
 /// Writes what is shown of the verdict, and returns its kind.
@@ -125,27 +122,69 @@ fn put<O: Sink>(verdict: &Verdict, text: &[u8], sink: &mut O) -> Result<Outcome,
     }
 }
 
+/// The verdict on the trace, and what is shown of it. Leaves the trace to the end of the process, which comes
+/// soon: to free the memory of each claim would only take time.
+fn answer_and_leave(
+    alloc: Global,
+    shown: Shown,
+    trace: PackedTrace,
+) -> Result<(Verdict, Vec<u8>), AuditFault>
+    ensures verdict { IfOk result (λ answer. IsVerdict trace.records answer.0) }
+    ensures text { IfOk result (λ answer. Prints shown trace.records answer.0 answer.1.items) }
+    ensures memory { IfErr result IsOutOfMemory }
+{
+    let answer = answer(alloc, shown, &trace);
+    forget(trace);
+    answer
+}
+
 /// The verdict on the trace, and what is shown of it.
-fn answer(alloc: Global, shown: Shown, trace: &Trace) -> Result<(Verdict, Vec<u8>), AuditFault>
+fn answer(
+    alloc: Global,
+    shown: Shown,
+    trace: &PackedTrace,
+) -> Result<(Verdict, Vec<u8>), AuditFault>
     ensures verdict { IfOk result (λ answer. IsVerdict trace.now.records answer.0) }
     ensures text { IfOk result (λ answer. Prints shown trace.now.records answer.0 answer.1.items) }
     ensures memory { IfErr result IsOutOfMemory }
 {
     match shown {
-        Shown::Report => reported(alloc, check(alloc, trace), trace, None),
+        Shown::Report => reported(alloc, check_packed(alloc, trace), trace, None),
         Shown::Order => {
-            let (verdict, counter) = check_with_counter(alloc, trace).map_err(AuditFault::Check)?;
+            let (verdict, counter) = check_packed_with_counter(alloc, trace).map_err(
+                AuditFault::Check,
+            )?;
             let text = shown_text(alloc, trace, &verdict, &counter)?;
             Ok((verdict, text))
         }
     }
 }
 
+/// The verdict on the trace that the workers of the crew find, and its report. Leaves the trace as
+/// [`answer_and_leave`] does.
+fn answer_on_and_leave<R: Threads + Sync, G: Gate + Sync>(
+    alloc: Global,
+    crew: Crew<R, G>,
+    trace: PackedTrace,
+) -> Result<(Verdict, Vec<u8>), AuditFault>
+    requires { (1 ≤ crew.workers) × (crew.workers ≤ 256) }
+    ensures verdict { IfOk result (λ answer. IsVerdict trace.records answer.0) }
+    ensures text { IfOk result (λ answer. Prints Shown.Report trace.records answer.0 answer.1.items) }
+    ensures passed { IfOk result (λ answer.
+        HavePassedFor (G.passed crew.entry.gate.now) crew.entry.workers answer.0) }
+    ensures fault { IfErr result
+        (IsOfCrew crew.entry.workers (G.may_refuse crew.entry.gate.now) (G.passed crew.entry.gate.now)) }
+{
+    let answer = answer_on(alloc, crew, &trace);
+    forget(trace);
+    answer
+}
+
 /// The verdict on the trace that the workers of the crew find, and its report.
 fn answer_on<R: Threads + Sync, G: Gate + Sync>(
     alloc: Global,
     crew: Crew<R, G>,
-    trace: &Trace,
+    trace: &PackedTrace,
 ) -> Result<(Verdict, Vec<u8>), AuditFault>
     requires { (1 ≤ crew.workers) × (crew.workers ≤ 256) }
     ensures verdict { IfOk result (λ answer. IsVerdict trace.now.records answer.0) }
@@ -164,7 +203,7 @@ fn answer_on<R: Threads + Sync, G: Gate + Sync>(
 fn found_on<R: Threads + Sync, G: Gate + Sync>(
     alloc: Global,
     crew: Crew<R, G>,
-    trace: &Trace,
+    trace: &PackedTrace,
 ) -> (Option<Counts>, Result<Verdict, CheckFault>)
     requires { (1 ≤ crew.workers) × (crew.workers ≤ 256) }
     ensures counts { IfSome result.0 (AreCounts trace.now.records) }
@@ -175,13 +214,14 @@ fn found_on<R: Threads + Sync, G: Gate + Sync>(
         (AuditFault.Check fault)) }
 {
     if crew.workers == 1 {
-        return (None, check_on(crew.threads, alloc, trace, 1, crew.gate));
+        let found = check_packed_on(crew.threads, alloc, trace, 1, crew.gate);
+        return (None, found);
     }
     let (counts, found) = join(
         crew.threads,
         || -> Counts
             ensures { AreCounts trace.entry.now.records result }
-        { counts_of(trace.records()) },
+        { counts_of(trace) },
         || -> Result<Verdict, CheckFault>
             requires { IsSync R.row × IsSync G.row × (1 ≤ crew.workers) × (crew.workers ≤ 256) }
             ensures verdict { IfOk result (IsVerdict trace.entry.now.records) }
@@ -189,7 +229,7 @@ fn found_on<R: Threads + Sync, G: Gate + Sync>(
             ensures fault { IfErr result (λ fault.
                 IsOfCrew crew.entry.workers (G.may_refuse crew.entry.gate.now) (G.passed crew.entry.gate.now)
                 (AuditFault.Check fault)) }
-        { check_on(crew.threads, alloc, trace, crew.workers, crew.gate) },
+        { check_packed_on(crew.threads, alloc, trace, crew.workers, crew.gate) },
     );
     (Some(counts), found)
 }
@@ -198,7 +238,7 @@ fn found_on<R: Threads + Sync, G: Gate + Sync>(
 fn reported(
     alloc: Global,
     found: Result<Verdict, CheckFault>,
-    trace: &Trace,
+    trace: &PackedTrace,
     counts: Option<Counts>,
 ) -> Result<(Verdict, Vec<u8>), AuditFault>
     requires found { IfOk found (IsVerdict trace.now.records) }

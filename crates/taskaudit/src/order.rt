@@ -1,17 +1,16 @@
 //! What is printed of an order.
-ghost use Rattle.std.specs.Prelude.{◌≡◌, ◌<◌, ◌≤◌, ◌++◌, ℕ, Contains, IfOk, IsOkUnless, OnOk, codes, decimal, length, option_map, string_bytes};
-ghost use Rattle.ompt_events.specs.Limits.{max_records};
+ghost use Rattle.std.specs.Prelude.{◌≡◌, ◌<◌, ◌++◌, ℕ, Contains, IfOk, IsOkUnless, OnOk, codes, decimal, length, option_map, string_bytes};
 ghost use Rattle.checker.specs.Counter.{IsShownBy};
 ghost use Rattle.checker.specs.Readings.{by_task};
 ghost use Rattle.checker.specs.Verdicts.{IsVerdict};
 ghost use Rattle.taskaudit.specs.Audits.{Prints};
 ghost use Rattle.taskaudit.specs.Orders.{order_lines, order_shown};
 
-use crate::report::report_text;
+use crate::report::report_by;
 use crate::work::{AuditFault, Shown};
 use checker::{Order, Verdict};
 use itoa::Buffer;
-use ompt_events::{Record, Trace};
+use packed_trace::PackedTrace;
 use std::alloc::{AllocError, Global};
 
 /// The most bytes of a line: three digits of the thread, a space, seven digits of the seq, since a thread has
@@ -22,7 +21,7 @@ const LINE: usize = 12;
 /// no.
 pub fn shown_text(
     alloc: Global,
-    trace: &Trace,
+    trace: &PackedTrace,
     verdict: &Verdict,
     counter: &Option<Order>,
 ) -> Result<Vec<u8>, AuditFault>
@@ -31,9 +30,9 @@ pub fn shown_text(
     ensures text { IfOk result (λ text. Prints Shown.Order trace.now.records verdict.now text.items) }
     ensures memory { IsOkUnless result AuditFault.Memory }
 {
-    let report = report_text(alloc, verdict, trace)?;
+    let report = report_by(alloc, verdict, trace, None)?;
     match order_shown(verdict, counter) {
-        Some(order) => order_text(report, order, trace.records()),
+        Some(order) => order_text(report, order, trace),
         None => Ok(report.into_bytes()),
     }
 }
@@ -50,43 +49,41 @@ fn order_shown<'a>(verdict: &'a Verdict, counter: &'a Option<Order>) -> Option<&
 }
 
 /// The report, and behind it the lines of the order.
-fn order_text(report: String, order: &Order, records: &[Record]) -> Result<Vec<u8>, AuditFault>
-    requires few { length records.now ≤ max_records }
-    requires within { (i : ℕ) → Contains order.now i → i < length records.now }
+fn order_text(report: String, order: &Order, trace: &PackedTrace) -> Result<Vec<u8>, AuditFault>
+    requires { (i : ℕ) → Contains order.now i → i < length trace.now.records }
     ensures text { IfOk result (λ text. text.items
-        ≡ string_bytes report ++ order_lines records.now order.now) }
+        ≡ string_bytes report ++ order_lines trace.now.records order.now) }
     ensures memory { IsOkUnless result AuditFault.Memory }
 {
     let mut text = report.into_bytes();
-    match put_lines(&mut text, order, records) {
+    match put_lines(&mut text, order, trace) {
         Ok(()) => Ok(text),
         Err(AllocError) => Err(AuditFault::Memory),
     }
 }
 
 /// Puts the lines of the order behind, after room was made for all of them.
-fn put_lines(text: &mut Vec<u8>, order: &Order, records: &[Record]) -> Result<(), AllocError>
-    requires few { length records.now ≤ max_records }
-    requires within { (i : ℕ) → Contains order.now i → i < length records.now }
-    ensures { OnOk result (text.new.items ≡ text.old.items ++ order_lines records.now order.now) }
+fn put_lines(text: &mut Vec<u8>, order: &Order, trace: &PackedTrace) -> Result<(), AllocError>
+    requires { (i : ℕ) → Contains order.now i → i < length trace.now.records }
+    ensures { OnOk result (text.new.items ≡ text.old.items ++ order_lines trace.now.records order.now) }
 {
-    text.reserve_exact(LINE * records.len())?;
+    text.reserve_exact(LINE * trace.len())?;
     for before in 0..order.len() {
         let place = order.place_at(before).unwrap();
-        put_line(text, &records[place])?;
+        put_line(text, trace.thread(place), trace.seq(place))?;
     }
     Ok(())
 }
 
-/// Puts the line of the record behind: its thread and its seq.
-fn put_line(text: &mut Vec<u8>, event: &Record) -> Result<(), AllocError>
+/// Puts the line of a record of this thread behind, which has this seq.
+fn put_line(text: &mut Vec<u8>, thread: u8, seq: u32) -> Result<(), AllocError>
     ensures { OnOk result (text.new.items ≡ text.old.items
-        ++ (decimal event.now.thread ++ (codes " " ++ (decimal event.now.seq ++ codes "\n")))) }
+        ++ (decimal thread ++ (codes " " ++ (decimal seq ++ codes "\n")))) }
 {
     let mut digits = Buffer::new();
-    text.extend_from_slice(digits.format(event.thread).as_bytes())?;
+    text.extend_from_slice(digits.format(thread).as_bytes())?;
     text.push(b' ')?;
-    text.extend_from_slice(digits.format(event.seq).as_bytes())?;
+    text.extend_from_slice(digits.format(seq).as_bytes())?;
     text.push(b'\n')?;
     Ok(())
 }

@@ -1,5 +1,7 @@
 //! What is printed of a verdict or a fault, and the exit statuses.
-ghost use Rattle.std.specs.Prelude.{◌≡◌, IfOk, IfSome, IsOkUnless, Some, string_bytes};
+ghost use Rattle.std.specs.Prelude.{◌≡◌, ◌<◌, IfOk, IfSome, IsOkUnless, Some, length, string_bytes};
+ghost use Rattle.ompt_events.specs.Places.{at as says_at};
+ghost use Rattle.ompt_events.specs.Records.{started, wait_completed};
 ghost use Rattle.clap.specs.Words.{kind_of};
 ghost use Rattle.taskaudit.specs.FileFaults.{file_fault_text_of};
 ghost use Rattle.taskaudit.specs.Reports.{AreCounts, report_of, fault_text_of, yes_text, no_text, late_text, dependent_at, malformed_text, place_text, record_place};
@@ -10,7 +12,8 @@ use callbacks::CallFault;
 use certificate::{ReadCause, UpgradeFault, WriteFault};
 use checker::{Verdict, Why};
 use clap::error::ErrorKind;
-use ompt_events::{Cause, Record, Trace, finish};
+use ompt_events::{Cause, Trace};
+use packed_trace::PackedTrace;
 use std::alloc::{AllocError, Global};
 use std::fmt;
 
@@ -35,7 +38,10 @@ pub fn report_text(alloc: Global, verdict: &Verdict, trace: &Trace) -> Result<St
     ensures text { IfOk result (λ text. string_bytes text ≡ report_of trace.now.records verdict.now) }
     ensures memory { IsOkUnless result AuditFault.Memory }
 {
-    report_by(alloc, verdict, trace, None)
+    match PackedTrace::of(alloc, trace) {
+        Ok(packed) => report_by(alloc, verdict, &packed, None),
+        Err(AllocError) => Err(AuditFault::Memory),
+    }
 }
 
 /// Returns the report of a verdict on the trace, from the counts if they are given. Else the records are
@@ -43,35 +49,34 @@ pub fn report_text(alloc: Global, verdict: &Verdict, trace: &Trace) -> Result<St
 pub(crate) fn report_by(
     alloc: Global,
     verdict: &Verdict,
-    trace: &Trace,
+    trace: &PackedTrace,
     counts: Option<Counts>,
 ) -> Result<String, AuditFault>
     requires { IfSome counts (AreCounts trace.now.records) }
     ensures text { IfOk result (λ text. string_bytes text ≡ report_of trace.now.records verdict.now) }
     ensures memory { IsOkUnless result AuditFault.Memory }
 {
-    let records = trace.records();
     let text = match verdict {
-        Verdict::Yes { .. } => yes_text(alloc, records, counts_or(counts, records)),
+        Verdict::Yes { .. } => yes_text(alloc, trace, counts_or(counts, trace)),
         Verdict::No {
             at,
             why: Why::Unfinished(task),
-        } => no_text(alloc, records, *at, *task),
+        } => no_text(alloc, trace, *at, *task),
         Verdict::No {
             at,
             why: Why::Predecessor(task),
-        } => late_text(alloc, records, *at, *task),
-        Verdict::Malformed { at, cause } => malformed_text(alloc, records, *at, *cause),
+        } => late_text(alloc, trace, *at, *task),
+        Verdict::Malformed { at, cause } => malformed_text(alloc, trace, *at, *cause),
     };
     text.map_err(|_| AuditFault::Memory)
 }
 
 /// Returns the report of a yes.
-fn yes_text(alloc: Global, records: &[Record], counts: Counts) -> Result<String, AllocError>
-    requires { AreCounts records.now counts }
-    ensures { IfOk result (λ text. string_bytes text ≡ yes_text records.now) }
+fn yes_text(alloc: Global, trace: &PackedTrace, counts: Counts) -> Result<String, AllocError>
+    requires { AreCounts trace.now.records counts }
+    ensures { IfOk result (λ text. string_bytes text ≡ yes_text trace.now.records) }
 {
-    let count = records.len();
+    let count = trace.len();
     let Counts {
         entries,
         tasks,
@@ -90,28 +95,28 @@ pub(crate) struct Counts {
 }
 
 /// Returns the counts that are given, or makes them.
-fn counts_or(counts: Option<Counts>, records: &[Record]) -> Counts
-    requires { IfSome counts (AreCounts records.now) }
-    ensures { AreCounts records.now result }
+fn counts_or(counts: Option<Counts>, trace: &PackedTrace) -> Counts
+    requires { IfSome counts (AreCounts trace.now.records) }
+    ensures { AreCounts trace.now.records result }
 {
     match counts {
         Some(counts) => counts,
-        None => counts_of(records),
+        None => counts_of(trace),
     }
 }
 
 /// Returns all three counts, made in one walk.
-pub(crate) fn counts_of(records: &[Record]) -> Counts
-    ensures { AreCounts records.now result }
+pub(crate) fn counts_of(trace: &PackedTrace) -> Counts
+    ensures { AreCounts trace.now.records result }
 {
     let mut entries = 0;
     let mut tasks = 0;
     let mut waits = 0;
-    for at in 0..records.len() {
-        let event = &records[at];
-        entries += usize::from(finish(event).is_some());
-        tasks += usize::from(event.body.creation().is_some());
-        waits += usize::from(event.body.ends_wait());
+    for at in 0..trace.len() {
+        let act = trace.act(at);
+        entries += usize::from(act.finishes().is_some());
+        tasks += usize::from(act.creates());
+        waits += usize::from(act.ends_wait());
     }
     Counts {
         entries,
@@ -121,50 +126,74 @@ pub(crate) fn counts_of(records: &[Record]) -> Counts
 }
 
 /// The report of a no: the task is unfinished at the record.
-fn no_text(alloc: Global, records: &[Record], at: usize, task: u64) -> Result<String, AllocError>
-    ensures { IfOk result (λ text. string_bytes text ≡ no_text records.now at task) }
+fn no_text(alloc: Global, trace: &PackedTrace, at: usize, task: u64) -> Result<String, AllocError>
+    ensures { IfOk result (λ text. string_bytes text ≡ no_text trace.now.records at task) }
 {
-    let place = Place::of(records, at);
+    let place = Place::of(trace, at);
     format!(in alloc; "no: {place}: task {task} unfinished\n")
 }
 
 /// The report of a no: the task should have been finished where another starts, or a taskwait is complete.
 fn late_text(
     alloc: Global,
-    records: &[Record],
+    trace: &PackedTrace,
     at: usize,
     predecessor: u64,
 ) -> Result<String, AllocError>
-    ensures { IfOk result (λ text. string_bytes text ≡ late_text records.now at predecessor) }
+    ensures { IfOk result (λ text. string_bytes text ≡ late_text trace.now.records at predecessor) }
 {
-    let place = Place::of(records, at);
-    let task = dependent_at(records, at);
+    let place = Place::of(trace, at);
+    let task = dependent_at(trace, at);
     format!(in alloc; "no: {place}: task {predecessor} must precede task {task}\n")
 }
 
 /// The task that starts at the record, or the taskwait that is complete there; 0 where there is none.
-fn dependent_at(records: &[Record], at: usize) -> u64
-    ensures { result ≡ dependent_at records.now at }
+fn dependent_at(trace: &PackedTrace, at: usize) -> u64
+    ensures { result ≡ dependent_at trace.now.records at }
 {
-    let Some(event) = records.get(at) else {
+    if at >= trace.len() {
         return 0;
-    };
-    match event.body.started() {
+    }
+    match started_at(trace, at) {
         Some(task) => task,
-        None => event.body.wait_completed().unwrap_or(0),
+        None => completed_at(trace, at).unwrap_or(0),
+    }
+}
+
+/// Returns the task that runs next after the record.
+fn started_at(trace: &PackedTrace, at: usize) -> Option<u64>
+    requires { at < length trace.now.records }
+    ensures { result ≡ says_at started trace.now.records at }
+{
+    if trace.act(at).starts() {
+        trace.object(at)
+    } else {
+        None
+    }
+}
+
+/// Returns the taskwait that is complete at the record.
+fn completed_at(trace: &PackedTrace, at: usize) -> Option<u64>
+    requires { at < length trace.now.records }
+    ensures { result ≡ says_at wait_completed trace.now.records at }
+{
+    if trace.act(at).completes_wait() {
+        trace.subject(at)
+    } else {
+        None
     }
 }
 
 /// The report of a malformed trace: the record has the cause.
 fn malformed_text(
     alloc: Global,
-    records: &[Record],
+    trace: &PackedTrace,
     at: usize,
     cause: Cause,
 ) -> Result<String, AllocError>
-    ensures { IfOk result (λ text. string_bytes text ≡ malformed_text records.now at cause) }
+    ensures { IfOk result (λ text. string_bytes text ≡ malformed_text trace.now.records at cause) }
 {
-    let place = Place::of(records, at);
+    let place = Place::of(trace, at);
     let number = cause.number();
     let name = cause.name();
     format!(in alloc; "malformed: {place}: cause {number} {name}\n")
@@ -181,21 +210,21 @@ struct Place {
 
 impl Place {
     /// The place of the record; the file's line 1 is the header.
-    fn of(records: &[Record], at: usize) -> Place
-        ensures { place_text result.line result.thread result.seq ≡ record_place records.now at }
+    fn of(trace: &PackedTrace, at: usize) -> Place
+        ensures { place_text result.line result.thread result.seq ≡ record_place trace.now.records at }
     {
         let line = at as u128 + 2;
-        match records.get(at) {
-            Some(event) => Place {
-                line,
-                thread: event.thread,
-                seq: event.seq,
-            },
-            None => Place {
+        if at >= trace.len() {
+            return Place {
                 line,
                 thread: 0,
                 seq: 0,
-            },
+            };
+        }
+        Place {
+            line,
+            thread: trace.thread(at),
+            seq: trace.seq(at),
         }
     }
 }

@@ -7,7 +7,7 @@ use Rattle.certificate.proofs.JoinLemmas.{Joins, Joins-next, Joins-piece}
 use Rattle.certificate.proofs.ahead.join.Goals as goal
 
 pub pieces-preserved : goal.pieces-preserved
-pieces-preserved c =
+pieces-preserved g c =
     let now = c.pieces.invariant in
     let call = c.in_ok-add.ensures in
     let judged : AreJudged c.pieces.kept.version (c.in-Some.piece ∷ into_iter_items c.next.new.self)
@@ -31,7 +31,7 @@ pieces-preserved c =
     }
 
 pub returns-in_err-add-clause-judged : goal.returns-in_err-add-clause-judged
-returns-in_err-add-clause-judged c =
+returns-in_err-add-clause-judged g c =
     let p = err_from_is_err_and c.from_residual.result c.from_residual.ensures.1 in
     rw (p.1, p.2) (λ bytes more known left room whole few now.
     let next =

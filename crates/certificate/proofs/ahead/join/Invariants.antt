@@ -7,7 +7,7 @@ use Rattle.certificate.proofs.JoinLemmas.{Joins}
 use Rattle.certificate.proofs.ahead.join.Given as goal
 
 abbrev pub invariant-pieces : goal.invariant-pieces
-invariant-pieces l = record {
+invariant-pieces g l = record {
   bytes : List ℕ;
   judged : AreJudged l.kept.version (into_iter_items l.rest) bytes;
   joins : (all : List ℕ) → AreJudged l.fn.kept.version l.fn.pieces.items all
@@ -19,4 +19,4 @@ invariant-pieces l = record {
 }
 
 abbrev pub decreases-pieces : goal.decreases-pieces
-decreases-pieces l = into_iter_len l.rest
+decreases-pieces g l = into_iter_len l.rest

@@ -1,6 +1,4 @@
 use Rattle.std.proofs.Common.{◌≡◌, ◌≤◌, ◌-◌, None, length, drop}
-use Rattle.std.specs.Prelude.{All}
-use Rattle.ompt_events.specs.Traces.{IsInRange, tasks_in}
 use Rattle.certificate.specs.Pieces.{BeginsWithRecords}
 use Rattle.certificate.proofs.pieces.judge.Given as goal
 
@@ -8,9 +6,6 @@ abbrev pub invariant-lines : goal.invariant-lines
 invariant-lines l = record {
   within : l.start ≤ length l.text;
   read : BeginsWithRecords l.version l.piece.records.items (drop l.start l.text) l.text;
-  counted : l.piece.tasks ≡ tasks_in l.piece.records.items;
-  in_range : All IsInRange l.piece.records.items;
-  few : l.piece.tasks ≤ l.start;
   fault : l.piece.fault ≡ None;
 }
 

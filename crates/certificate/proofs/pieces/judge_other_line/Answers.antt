@@ -29,5 +29,5 @@ returns-in_ok-judge_text-in-Some c =
 pub returns-in-Some-2 : goal.returns-in-Some-2
 returns-in-Some-2 c = (
   begins_long c.args.rest.now c.in-Some.len c.in-Some.ensures (omega (arith, c.if-len-le-MAX_LINE.false)),
-  record { records = refl; tasks = refl; fault = refl },
+  record { records = refl; fault = refl },
 )

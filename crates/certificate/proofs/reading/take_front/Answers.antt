@@ -5,12 +5,12 @@ use Rattle.certificate.proofs.TraceLemmas.{text_adds-record}
 use Rattle.certificate.proofs.reading.take_front.Goals as goal
 
 pub keep-requires : goal.keep-requires
-keep-requires c =
+keep-requires g c =
     rw (← c.version.ensures)
     (line_says-sound _ (take c.in_ok-event.len c.all.result.now) _ (sym c.in_ok-event.ensures.says))
 
 pub returns-clause-kept : goal.returns-clause-kept
-returns-clause-kept c = λ newest sure.
+returns-clause-kept g c = λ newest sure.
     c.keep.ensures sure
     ∙ ap (with_record c.args.kept.now)
     (sym (rw (c.version.ensures, c.all.ensures.bytes) at c.in_ok-event.ensures.says))

@@ -4,6 +4,6 @@ use Rattle.certificate.proofs.TraceLemmas.{header_says-known}
 use Rattle.certificate.proofs.reading.take_header.Goals as goal
 
 pub begin-requires : goal.begin-requires
-begin-requires c =
+begin-requires g c =
     header_says-known c.args.newest c.args.text.now _ c.requires
     (c.in_ok-header.ensures (ok_not_err _ Memory))

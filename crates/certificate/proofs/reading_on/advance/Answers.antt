@@ -1,9 +1,8 @@
 use Rattle.std.proofs.Common.{Ok, Err, sym, refl}
 use Rattle.std.proofs.lemmas.Result.{err_from_is_err_and}
-use Rattle.certificate.specs.declared.ahead.Ahead.{Ahead}
 use Rattle.certificate.specs.Ahead.{WorkedBeside}
 use Rattle.certificate.proofs.AheadLemmas.{added_fault_known, next_waits, next_memory, turned_waits}
-use Rattle.certificate.proofs.AheadLemmas.{worked_version}
+use Rattle.certificate.proofs.AheadLemmas.{worked_version, with_pieces}
 use Rattle.certificate.proofs.reading_on.advance.Goals as goal
 
 pub returns-in_err-worked-clause-after : goal.returns-in_err-worked-clause-after
@@ -39,15 +38,7 @@ returns-clause-after g c =
     let front = c.args.front.now.waiting in
     let old = c.args.ahead.now in
     let new = call.new.ahead in
-    let last : Ahead = record {
-      line = new.line;
-      kept = new.kept;
-      pieces = c.in-Ok.pieces;
-      block = c.swap.new.y;
-      turns = new.turns;
-      filled = new.filled;
-      asks = new.asks;
-    } in
+    let last = with_pieces new c.in-Ok.pieces c.swap.new.y in
     let worked : WorkedBeside (Ok c.in_ok-worked.field-0) old new left left' =
     rw c.in_ok-worked.was at call.ensures.worked in
     let judged = rw (c.in-Ok.is, c.bytes.ensures.bytes) at call.ensures.judged in

@@ -14,7 +14,7 @@ use Rattle.certificate.proofs.AheadLemmas.{waits_first, whole_none, ended_step}
 use Rattle.certificate.proofs.reading_on.begin.Goals as goal
 
 pub returns-in-Some-2-clause-after : goal.returns-in-Some-2-clause-after
-returns-in-Some-2-clause-after c =
+returns-in-Some-2-clause-after g c =
     λ known left room waits.
     let text = c.args.front.now.waiting in
     let old = c.args.ahead.now in
@@ -24,7 +24,7 @@ returns-in-Some-2-clause-after c =
     (begins_long text c.in-Some.len at (omega (arith, c.if-len-le-MAX_LINE.false))) first.between
 
 pub returns-in-None-clause-after : goal.returns-in-None-clause-after
-returns-in-None-clause-after c =
+returns-in-None-clause-after g c =
     λ known left room waits.
     let text = c.args.front.now.waiting in
     let old = c.args.ahead.now in
@@ -40,7 +40,7 @@ returns-in-None-clause-after c =
     c.requires.none few waits.end)
 
 pub returns-in_err-take_header-clause-after : goal.returns-in_err-take_header-clause-after
-returns-in_err-take_header-clause-after c =
+returns-in_err-take_header-clause-after g c =
     let p = err_from_is_err_and c.from_residual.result c.from_residual.ensures.1 in
     let text = c.args.front.now.waiting in
     let old = c.args.ahead.now in
@@ -52,7 +52,7 @@ returns-in_err-take_header-clause-after c =
     (rw c.bytes-text.ensures.bytes at c.in_err-take_header.ensures) first.between)
 
 pub returns-clause-after : goal.returns-clause-after
-returns-clause-after c =
+returns-clause-after g c =
     λ known left room waits.
     let text = c.args.front.now.waiting in
     let old = c.args.ahead.now in
@@ -60,7 +60,7 @@ returns-clause-after c =
     let at : LineFeedAt text (Some c.in-Some.len) = rw c.bytes-text.ensures.bytes at c.in-Some.ensures in
     let first = waits_first known left room text old c.requires.pieces waits in
     let there =
-    header_taken known old.line old.kept c.take_header.new.self text old.block.waiting len left
+    header_taken known old.line old.kept c.take_header.new.kept text old.block.waiting len left
     c.requires.line at c.if-len-le-MAX_LINE.true
     ((rw c.bytes-text.ensures.bytes at c.in_ok-take_header.ensures) (ok_not_err _ Memory))
     first.between in
@@ -75,7 +75,7 @@ returns-clause-after c =
     record {
       bytes = [];
       judged =
-          subst (λ (ps : List Piece). AreJudged c.take_header.new.self.version ps []) (sym c.requires.pieces)
+          subst (λ (ps : List Piece). AreJudged c.take_header.new.kept.version ps []) (sym c.requires.pieces)
           refl;
       between = rw c.skip.ensures.waiting there;
       few = rw c.skip.ensures.waiting few;
@@ -83,9 +83,9 @@ returns-clause-after c =
     }
 
 pub returns-clause-ready : goal.returns-clause-ready
-returns-clause-ready c =
-    let counted : IsLineCounted 2 c.take_header.new.self = search rules in
-    let version : c.take_header.new.self.version ≤ newest_version = search rules in
+returns-clause-ready g c =
+    let counted : IsLineCounted 2 c.take_header.new.kept = search rules in
+    let version : c.take_header.new.kept.version ≤ newest_version = search rules in
     record {
       in_hand = record {
         low = omega arith;
@@ -95,7 +95,7 @@ returns-clause-ready c =
         pending = record {
           bytes = [];
           judged =
-              subst (λ (ps : List Piece). AreJudged c.take_header.new.self.version ps [])
+              subst (λ (ps : List Piece). AreJudged c.take_header.new.kept.version ps [])
               (sym c.requires.pieces) refl;
           some = λ some. absurd (omega (arith, ap length c.requires.pieces));
         };

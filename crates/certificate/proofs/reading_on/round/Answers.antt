@@ -48,8 +48,7 @@ pub returns-clause-after : goal.returns-clause-after
 returns-clause-after g c =
     let left = g.S.Source.remaining c.advance.new.source in
     λ known room all waits.
-    let there = c.in_ok-advance.ensures.after known room all waits in
-    (c.in_ok-finish.ensures.after known left room there, c.in_ok-finish.ensures.memory known left room there)
+    c.in_ok-finish.ensures.after known left room (c.in_ok-advance.ensures.after known room all waits)
 
 pub returns-clause-met : goal.returns-clause-met
 returns-clause-met g c =

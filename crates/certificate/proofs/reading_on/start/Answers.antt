@@ -1,7 +1,6 @@
 use Rattle.std.proofs.Common.{arith}
 use Rattle.std.proofs.lemmas.Result.{err_from_is_err_and}
-use Rattle.certificate.specs.declared.ahead.Ahead.{Ahead}
-use Rattle.certificate.proofs.AheadLemmas.{start_waits, waits_memory, waits_parted}
+use Rattle.certificate.proofs.AheadLemmas.{start_waits, waits_memory, waits_parted, with_answer}
 use Rattle.certificate.proofs.reading_on.start.Goals as goal
 
 pub returns-in_err-part-clause-after : goal.returns-in_err-part-clause-after
@@ -12,15 +11,7 @@ returns-in_err-part-clause-after g c =
     let fill = c.fill-ahead.ensures in
     let old = c.args.ahead.now in
     let first = c.requires.first in
-    let filled : Ahead = record {
-      line = old.line;
-      kept = old.kept;
-      pieces = old.pieces;
-      block = old.block;
-      turns = c.fill-ahead.new.turns;
-      filled = c.fill-ahead.result;
-      asks = old.asks;
-    } in
+    let filled = with_answer old c.fill-ahead.new.turns c.fill-ahead.result in
     let front = c.fill-ahead.new.block.waiting in
     rw (p.1, p.2) (λ room all.
     rw (c.in_err-part.ensures.fault, c.in_err-part.ensures.lines.line)
@@ -35,15 +26,7 @@ returns-clause-after g c =
     let fill = c.fill-ahead.ensures in
     let old = c.args.ahead.now in
     let first = c.requires.first in
-    let filled : Ahead = record {
-      line = old.line;
-      kept = old.kept;
-      pieces = old.pieces;
-      block = old.block;
-      turns = c.fill-ahead.new.turns;
-      filled = c.fill-ahead.result;
-      asks = old.asks;
-    } in
+    let filled = with_answer old c.fill-ahead.new.turns c.fill-ahead.result in
     let front = c.fill-ahead.new.block.waiting in
     let part = c.in_ok-part.ensures in
     λ room all.

@@ -6,7 +6,7 @@ use Rattle.taskaudit.proofs.report.counts_of.Given as goal
 -- the records so far are counted
 abbrev pub invariant-loop-at : goal.invariant-loop-at
 invariant-loop-at l = record {
-  entries : l.entries ≡ entries_in (take l.at l.records);
-  tasks : l.tasks ≡ creates_in (take l.at l.records);
-  waits : l.waits ≡ waits_in (take l.at l.records);
+  entries : l.entries ≡ entries_in (take l.at l.trace.records);
+  tasks : l.tasks ≡ creates_in (take l.at l.trace.records);
+  waits : l.waits ≡ waits_in (take l.at l.trace.records);
 }

@@ -12,7 +12,7 @@ returns c = λ rs are.
     added rs r old c.push.new.self c.push-2.new.self c.push-3.new.self c.push-4.new.self c.add_list.new.claims
     c.add_list.new.lists c.add_list.result are
     (column_more packed rs r _ _ _ are.events c.of.ensures c.in_ok-push.ensures.items)
-    (column_more (λ q. ids_of q.body) rs r _ _ _ are.ids c.of-2.ensures c.in_ok-push-2.ensures.items)
+    (column_more (λ q. ids_of q.body) rs r _ _ _ are.ids c.of-2.ensures c.in_ok-push-2.ensures)
     (column_more (λ q. numbers_of q.body) rs r _ _ _ are.numbers c.of-3.ensures c.in_ok-push-3.ensures.items)
     (column_more (λ q. q.seq) rs r _ _ _ are.seqs refl c.in_ok-push-4.ensures.items)
     c.len-place.result at (claim r.body) (listed_deps r.body) (ok_refl c.add_list.result (claim r.body))

@@ -3,7 +3,7 @@ use Rattle.std.specs.Prelude.{option_copied}
 use Rattle.ompt_events.specs.Records.{claim}
 use Rattle.ompt_events.proofs.PlaceLemmas.{at_get}
 use Rattle.packed_trace.specs.Packed.{ids_of, listed_deps, numbers_of, packed}
-use Rattle.packed_trace.proofs.ColumnLemmas.{added, column_more, kept_there, ok_always}
+use Rattle.packed_trace.proofs.ColumnLemmas.{added, column_more, kept_there, same_there, ok_always}
 use Rattle.packed_trace.proofs.columns.Columns.add_from.Goals as goal
 
 pub returns : goal.returns
@@ -19,14 +19,14 @@ returns c = λ rs others r from there are.
     (kept_there packed others other.events.items k r _ there from.events c.index.ensures)
     c.in_ok-push.ensures.items)
     (column_more (λ q. ids_of q.body) rs r _ _ _ are.ids
-    (kept_there (λ q. ids_of q.body) others other.ids.items k r _ there from.ids c.index-2.ensures)
-    c.in_ok-push-2.ensures.items)
+    (same_there (λ q. ids_of q.body) others other.ids k r _ there from.ids c.at.ensures)
+    c.in_ok-push-2.ensures)
     (column_more (λ q. numbers_of q.body) rs r _ _ _ are.numbers
     (kept_there (λ q. numbers_of q.body) others other.numbers.items k r _ there from.numbers
-    c.index-3.ensures)
+    c.index-2.ensures)
     c.in_ok-push-3.ensures.items)
     (column_more (λ q. q.seq) rs r _ _ _ are.seqs
-    (kept_there (λ q. q.seq) others other.seqs.items k r _ there from.seqs c.index-4.ensures)
+    (kept_there (λ q. q.seq) others other.seqs.items k r _ there from.seqs c.index-3.ensures)
     c.in_ok-push-4.ensures.items)
     c.len-place.result at (option_copied c.find.result) (option_copied c.find-2.result)
     (ok_always c.copy_list.result

@@ -4,7 +4,7 @@ use Rattle.ompt_events.specs.Limits.{max_records}
 use Rattle.certificate.specs.Counts.{TakesTurns}
 use Rattle.certificate.specs.Files.{traces}
 use Rattle.certificate.specs.Reading.{IsBetween}
-use Rattle.certificate.proofs.reading.read_to.Given as goal
+use Rattle.certificate.proofs.reading.read_kept.Given as goal
 
 abbrev pub invariant-lines : goal.invariant-lines
 invariant-lines g l = record {

@@ -6,7 +6,7 @@ use Rattle.certificate.specs.Files.{traces}
 use Rattle.certificate.proofs.CountLemmas.{TakesTurns-none, TakesTurns-more, TakesTurns-other}
 use Rattle.certificate.proofs.ReadingLemmas.{IsAnswerIn-no_window, IsBetween-start}
 use Rattle.certificate.proofs.TraceLemmas.{IsAnswerTo-from, Grows-counted}
-use Rattle.certificate.proofs.reading.read_to.Goals as goal
+use Rattle.certificate.proofs.reading.read_kept.Goals as goal
 
 pub returns-in_default-clause-file : goal.returns-in_default-clause-file
 returns-in_default-clause-file g c =
@@ -16,10 +16,10 @@ returns-in_default-clause-file g c =
 
 pub returns-in-Ok-false-clause-file : goal.returns-in-Ok-false-clause-file
 returns-in-Ok-false-clause-file g c =
-    rw c.into_trace.ensures (IsAnswerTo-from c.args.newest (g.S.Source.remaining c.args.source.now)
+    IsAnswerTo-from c.args.newest (g.S.Source.remaining c.args.source.now)
     (Ok c.read_line.new.kept) (g.S.Source.remaining c.read_line.new.source)
     (rw c.in-Ok-false.field-0-test
-    at (c.in-Ok-false.ensures.after (g.S.Source.remaining c.args.source.now) c.lines.invariant.between)))
+    at (c.in-Ok-false.ensures.after (g.S.Source.remaining c.args.source.now) c.lines.invariant.between))
 
 pub returns-in-Err-clause-file : goal.returns-in-Err-clause-file
 returns-in-Err-clause-file g c =
