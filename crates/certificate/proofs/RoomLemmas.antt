@@ -102,8 +102,8 @@ kept_more old now new first r is room said =
     one.1 ∙ ap (λ (t : TraceView). and_record t r) is in (
       HaveRoom-push old.records first r room fits,
       grown
-      ∙ ap (λ (rs : List Record). record { version = old.version; records = rs })
-      (append_assoc old.records first (r ∷ [])),
+          ∙ ap (λ (rs : List Record). record { version = old.version; records = rs })
+          (append_assoc old.records first (r ∷ [])),
     )
 
 -- why no more are kept

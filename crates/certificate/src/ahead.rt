@@ -47,7 +47,8 @@ pub(crate) struct Ahead<L: RecordList> {
 }
 
 impl<L: RecordList> Ahead<L> {
-    /// Returns the state before anything was read, with a list for the records. The block has room for at most this many bytes.
+    /// Returns the state before anything was read, with a list for the records. The block has room for at
+    /// most this many bytes.
     pub(crate) fn new(alloc: Global, list: L, limit: usize) -> Result<Ahead<L>, AllocError>
         ensures { IfOk result (IsFirst limit) }
     {

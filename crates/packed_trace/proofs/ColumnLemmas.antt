@@ -107,10 +107,6 @@ same_there keep rs column i r y stands are is =
     same_Some y (keep r)
     (sym is ∙ ap (λ c. slice_get c i) are ∙ slice_get-map keep rs i ∙ ap (option_map keep) stands)
 
-pub ok_refl : {E Y : Type 0} (result : Result (Unit {0}) E) (y : Y) → OnOk result (y ≡ y)
-ok_refl (Err fault) y = tt
-ok_refl (Ok done) y = refl
-
 pub ok_always : {E P : Type 0} (result : Result (Unit {0}) E) → P → OnOk result P
 ok_always (Err fault) holds = tt
 ok_always (Ok done) holds = holds

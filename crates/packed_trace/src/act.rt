@@ -7,10 +7,10 @@ ghost use Rattle.ompt_events.specs.Records.{begun_initial, begun_root, created, 
 ghost use Rattle.ompt_events.specs.Regions.{ends_wait};
 ghost use Rattle.ompt_events.specs.Traces.{HasItsNext};
 ghost use Rattle.packed_trace.specs.Named.{subject, object};
-ghost use Rattle.packed_trace.specs.Packed.{act_of, both, first_id, forked_region, made_with, packed, root_begun, schedule_status, second_id, task_created};
+ghost use Rattle.packed_trace.specs.Packed.{act_of, both, first_id, forked_region, made_with, root_begun, schedule_status, second_id, task_created};
 
 use bitflags::Flags;
-use ompt_events::{Body, CancelFlags, Endpoint, Part, Record, Status, SyncKind, TaskFlags};
+use ompt_events::{Endpoint, Part, Status, SyncKind, TaskFlags};
 
 /// What a record says, without the tasks, regions and numbers that it names (OpenMP 5.2, 19.5.2).
 #[derive(Clone, Copy, Debug)]
@@ -53,53 +53,7 @@ pub struct PackedEvent {
     pub seen: u32,
 }
 
-impl PackedEvent {
-    /// Returns the packed event of a record.
-    pub(crate) fn of(event: &Record) -> PackedEvent
-        ensures { result ≡ packed event.now }
-    {
-        PackedEvent {
-            act: Act::of(&event.body),
-            thread: event.thread,
-            seen: event.seen,
-        }
-    }
-}
-
 impl Act {
-    /// Returns what the record says.
-    fn of(body: &Body) -> Act
-        ensures { result ≡ act_of body.now }
-    {
-        match body {
-            Body::ThreadBegin { .. } | Body::ThreadEnd => Act::Thread,
-            Body::ParallelBegin { .. } => Act::Fork,
-            Body::ParallelEnd { .. } => Act::Join,
-            Body::ImplicitTask {
-                endpoint,
-                flags,
-                ..
-            } => match endpoint {
-                Endpoint::Begin => root_begun(*flags),
-                Endpoint::End => Act::RootEnd,
-                Endpoint::BeginEnd => Act::RootBoth,
-            },
-            Body::TaskCreate { deps, flags, .. } => task_created(*deps, *flags),
-            Body::Dependences { .. } => Act::Depend,
-            Body::TaskSchedule { status, turns, .. } => Act::Schedule {
-                status: *status,
-                told: turns.is_some(),
-            },
-            Body::SyncRegion { kind, endpoint, .. } => Act::Region {
-                kind: *kind,
-                endpoint: *endpoint,
-            },
-            Body::Cancel { flags, .. } => Act::Cancel {
-                discards: flags.contains(CancelFlags::DISCARDED_TASK),
-            },
-        }
-    }
-
     /// Returns whether the record is of a task.
     pub fn is_of_task(self) -> bool
         ensures { (body : Body) → act_of body ≡ self
@@ -393,7 +347,7 @@ impl Act {
 }
 
 /// Returns what the begin of a root with these flags is.
-fn root_begun(flags: TaskFlags) -> Act
+pub(crate) fn root_begun(flags: TaskFlags) -> Act
     ensures { result ≡ root_begun (has_flag flags.0 flag.initial) (has_flag flags.0 flag.taskwait)
         (has_flag flags.0 flag.target) }
 {
@@ -407,7 +361,7 @@ fn root_begun(flags: TaskFlags) -> Act
 }
 
 /// Returns what the creation of a task with these flags is, whose dependences follow or not.
-fn task_created(deps: bool, flags: TaskFlags) -> Act
+pub(crate) fn task_created(deps: bool, flags: TaskFlags) -> Act
     ensures { result ≡ task_created deps (has_flag flags.0 flag.taskwait) (has_flag flags.0 flag.target) }
 {
     let wait = flags.contains(TaskFlags::TASKWAIT);

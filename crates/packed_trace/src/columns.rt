@@ -1,15 +1,14 @@
 //! What a packed trace keeps of its records, by place.
 ghost use Rattle.std.specs.Prelude.{◌≡◌, ◌<◌, ◌++◌, ◌∷◌, [], ◌^◌, List, Some, OnOk, length, option_copied, slice_get};
 ghost use Rattle.ompt_events.specs.declared.records.Record.{Record as SpecRecord};
-ghost use Rattle.ompt_events.specs.Records.{claim};
-ghost use Rattle.packed_trace.specs.Packed.{ids_of, listed_deps, numbers_of};
 ghost use Rattle.packed_trace.specs.Sparse.{AddsItem};
 
 use crate::act::PackedEvent;
 use crate::copies::{boxed_copy, deps_of};
-use crate::ids::{IdColumn, Ids};
+use crate::ids::IdColumn;
+use crate::parts::Parts;
 use crate::sparse::Sparse;
-use ompt_events::{Body, BoxedClaim, Deps, Record, Turns};
+use ompt_events::{BoxedClaim, Deps, Record};
 use std::alloc::{AllocError, Global};
 
 /// The numbers that a record names.
@@ -69,11 +68,26 @@ impl Columns {
             → OnOk result (AreColumns (rs ++ event ∷ []) self.new) }
     {
         let place = self.events.len();
-        self.events.push(PackedEvent::of(&event))?;
-        self.ids.push(Ids::of(&event.body))?;
-        self.numbers.push(Numbers::of(&event.body))?;
-        self.seqs.push(event.seq)?;
-        add_list(event.body, place, &mut self.claims, &mut self.lists)
+        let Record {
+            thread,
+            seq,
+            seen,
+            body,
+            ..
+        } = event;
+        let Parts {
+            act,
+            ids,
+            numbers,
+            claim,
+            list,
+        } = Parts::of(body);
+        self.events.push(PackedEvent { act, thread, seen })?;
+        self.ids.push(ids)?;
+        self.numbers.push(numbers)?;
+        self.seqs.push(seq)?;
+        add_claim(claim, place, &mut self.claims)?;
+        add_list(list, place, &mut self.lists)
     }
 
     /// Adds a copy of the record at a place of other columns behind the others. Fails only when out of memory;
@@ -101,27 +115,6 @@ impl Columns {
     }
 }
 
-/// Adds the claim, or the list of dependences, of the record at a place, if it has one.
-fn add_list(
-    body: Body,
-    place: usize,
-    claims: &mut Sparse<BoxedClaim>,
-    lists: &mut Sparse<Deps>,
-) -> Result<(), AllocError>
-    requires { place < 2 ^ 32 }
-    ensures claims { OnOk result (AddsItem claims.old.places.items claims.old.items.items
-        claims.new.places.items claims.new.items.items place (claim body)) }
-    ensures lists { OnOk result (AddsItem lists.old.places.items lists.old.items.items
-        lists.new.places.items lists.new.items.items place (listed_deps body)) }
-{
-    match body {
-        Body::Dependences { list, .. } => lists.add(place, list),
-        Body::TaskSchedule { claim, .. } => add_claim(claim, place, claims),
-        Body::Cancel { claim, .. } => add_claim(claim, place, claims),
-        _ => Ok(()),
-    }
-}
-
 /// Adds the claim of the record at a place, if it has one.
 fn add_claim(
     claim: Option<BoxedClaim>,
@@ -134,6 +127,18 @@ fn add_claim(
 {
     match claim {
         Some(claim) => claims.add(place, claim),
+        None => Ok(()),
+    }
+}
+
+/// Adds the dependences of the record at a place, if it lists some.
+fn add_list(list: Option<Deps>, place: usize, lists: &mut Sparse<Deps>) -> Result<(), AllocError>
+    requires { place < 2 ^ 32 }
+    ensures { OnOk result (AddsItem lists.old.places.items lists.old.items.items
+        lists.new.places.items lists.new.items.items place list) }
+{
+    match list {
+        Some(list) => lists.add(place, list),
         None => Ok(()),
     }
 }
@@ -169,50 +174,5 @@ fn copy_list(
     match list {
         Some(list) => lists.add(place, deps_of(alloc, list)?),
         None => Ok(()),
-    }
-}
-
-impl Ids {
-    /// Returns the ids that a record with this body names.
-    fn of(body: &Body) -> Ids
-        ensures { result ≡ ids_of body.now }
-    {
-        let (first, second) = match body {
-            Body::ThreadBegin { .. } | Body::ThreadEnd => (0, 0),
-            Body::ParallelBegin { task, parallel, .. } => (*task, *parallel),
-            Body::ParallelEnd { task, parallel } => (*task, *parallel),
-            Body::ImplicitTask { task, parallel, .. } => (*task, *parallel),
-            Body::TaskCreate { task, child, .. } => (*task, *child),
-            Body::Dependences { task, .. } => (*task, 0),
-            Body::TaskSchedule { prior, next, .. } => (*prior, next.unwrap_or(0)),
-            Body::SyncRegion { task, .. } => (*task, 0),
-            Body::Cancel { task, .. } => (*task, 0),
-        };
-        Ids { first, second }
-    }
-}
-
-impl Numbers {
-    /// Returns the numbers that a record with this body names.
-    fn of(body: &Body) -> Numbers
-        ensures { result ≡ numbers_of body.now }
-    {
-        match body {
-            Body::ImplicitTask { actual, index, .. } => Numbers {
-                first: *actual,
-                second: *index,
-            },
-            Body::TaskSchedule {
-                turns: Some(Turns { prior, next }),
-                ..
-            } => Numbers {
-                first: *prior,
-                second: *next,
-            },
-            _ => Numbers {
-                first: 0,
-                second: 0,
-            },
-        }
     }
 }

@@ -63,7 +63,9 @@ impl IdColumn {
     pub(crate) fn push(&mut self, ids: Ids) -> Result<(), AllocError>
         ensures { OnOk result (self.new ≡ self.old ++ ids ∷ []) }
     {
-        if self.wide.is_empty() && let Some(narrow) = narrowed(ids) {
+        if self.wide.is_empty()
+            && let Some(narrow) = narrowed(ids)
+        {
             self.narrow.push(narrow)?;
         } else {
             self.wide.push(ids)?;

@@ -5,7 +5,8 @@
 //! ids and numbers that it names, and its `seq`; claims and lists of dependences are in lists of their own,
 //! by the places of their records (`Sparse`). What no clause of an audit needs is gone: the kinds of threads,
 //! the number of threads that are requested, flags without a meaning here, and the region of a synchronisation
-//! region. Read `trace`, then `act` and `columns`. `listed` is the list that only contracts see.
+//! region. Read `trace`, then `act` and `columns`; `parts` takes a record apart for them, and `ids` keeps ids.
+//! `listed` is the list that only contracts see.
 #![tactic(auto)]
 
 mod act;
@@ -13,6 +14,7 @@ mod columns;
 mod copies;
 mod ids;
 mod listed;
+mod parts;
 mod row;
 mod sparse;
 mod trace;
