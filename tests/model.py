@@ -1,6 +1,8 @@
 #!/usr/bin/env python3
 """model.py < FILE: the answer of docs/MODEL.md to a readable trace file, found only by the definitions there.
 model.py order < FILE: the same, and after a yes or a no an order of all records, one line `T S` (thread, seq) each.
+model.py all MOST < FILE: the same, and after a no or a malformed each record at which it shows, at most MOST of them,
+and how many are left out.
 
 A file of version 3 has parallel regions inside others. Its records nest, and where that matters a function says so.
 
@@ -812,13 +814,41 @@ def report(records, found):
         tasks = len([record for record in records if record.creation])
         waits = len([record for record in records if kind_ended(record) in WAITS_FOR_TASKS])
         return f'yes: {len(records)} records, {entries_in(records)} entries, {tasks} tasks, {waits} waits', 0
-    record = records[found.place]
-    where = f'line {found.place + 2}, thread {record.thread}, seq {record.seq}'
+    where = place_text(records, found.place)
     if isinstance(found, Malformed):
         return f'malformed: {where}: cause {found.number} {found.name}', 2
     if found.why == 'Unfinished':
         return f'no: {where}: task {found.task} unfinished', 1
     return f'no: {where}: task {found.task} must precede task {dependent_at(records, found.place)}', 1
+
+
+def place_text(records, i):
+    """record_place: where the record at i is; line 1 of the file is the header."""
+    return f'line {i + 2}, thread {records[i].thread}, seq {records[i].seq}'
+
+
+def violation_text(records, i, tasks):
+    """violation_line: the record at i, of the tasks that are missed there the one created first, and how many others
+    there are."""
+    task = next(record.created for record in records if record.created in tasks)
+    is_wait = bool(covered(in_own_order(records), own_place(records)[i]))
+    why = 'unfinished' if is_wait else f'must precede task {dependent_at(records, i)}'
+    others = f', and {len(tasks) - 1} more' if len(tasks) > 1 else ''
+    return f'{place_text(records, i)}: task {task} {why}{others}'
+
+
+def finding_lines(records, found, most):
+    """findings_text: what `check --all` prints after the report: of a malformed trace each record that shows the cause,
+    of a no each record at which some order misses a task, at most so many, and how many are left out."""
+    if isinstance(found, Yes):
+        return []
+    if isinstance(found, Malformed):
+        lines = [place_text(records, i) for i in sorted(shows(records, found.name))]
+    else:
+        required = must_be_complete(records)
+        left = [unfinished(records, required, i) for i in places(records)]
+        lines = [violation_text(records, i, left[i]) for i in places(records) if left[i]]
+    return [*lines[:most], f'left out: {max(len(lines) - most, 0)}']
 
 
 def order_lines(records, found):
@@ -829,14 +859,16 @@ def order_lines(records, found):
 
 
 def main(words):
-    """Prints the answer, with the order where that is asked for, and gives the exit status."""
-    if words not in ([], ['order']):
+    """Prints the answer, with the order or the findings where they are asked for, and gives the exit status."""
+    asks_all = len(words) == 2 and words[0] == 'all' and words[1].isdigit()
+    if words not in ([], ['order']) and not asks_all:
         print(__doc__)
         return 4
     records = read(sys.stdin.buffer.read())
     found = verdict(records)
     text, status = report(records, found)
-    print('\n'.join([text, *order_lines(records, found) * bool(words)]))
+    more = order_lines(records, found) if words == ['order'] else []
+    print('\n'.join([text, *(finding_lines(records, found, int(words[1])) if asks_all else more)]))
     return status
 
 

@@ -152,7 +152,9 @@ def page(answer, places):
         sheet = sheet_of(chosen, places.of)
     if found.order:
         order = f'<p>{escape(found.order.sentence)}</p>\n' + as_they_stand(lines_of_order(found.order, places.of))
+    head, *others = answer.lines_of_others() or ['']
+    others = f'<p>{escape(head)}</p>\n{as_they_stand(others)}' if others else ''
     told = ''.join(f'<p>{escape(it)}</p>\n' for it in found.sentences)
     return (f'<!DOCTYPE html>\n<html lang="en"><head><meta charset="utf-8"><title>{escape(found.answer)}</title>'
             f'<style>{STYLE}</style></head><body>\n<h1>{escape(found.answer)}</h1>\n{told}{sheet}'
-            f'{as_they_stand(lines_of(found.shown, places.of))}{order}<script>{SCRIPT}</script>\n</body></html>\n')
+            f'{as_they_stand(lines_of(found.shown, places.of))}{order}{others}<script>{SCRIPT}</script>\n</body></html>\n')

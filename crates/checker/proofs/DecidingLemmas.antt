@@ -88,7 +88,7 @@ found_there view done IsThat clear same credit finds =
     let Right : OwnView → Type 0 = λ own. HasRightEntries own.run.records in
     subst IsThat same (finds (subst Right (sym same) (clear_entries view clear)) credit)
 
-stands_there : (view : ClearView) (own : OwnView) (number place : ℕ) → own ≡ view.own
+pub stands_there : (view : ClearView) (own : OwnView) (number place : ℕ) → own ≡ view.own
     → slice_get own.places number ≡ Some place → slice_get view.own.places number ≡ Some place
 stands_there view own number place same stands =
     let P : OwnView → Type 0 = λ o. slice_get o.places number ≡ Some place in

@@ -61,7 +61,7 @@ earlier_cases x xs a b e = of e.first e.second e.apart e.within e.a_stands e.b_s
 earlier_never : (a b : ℕ) → IsEarlier [] a b → ⊥
 earlier_never a b e = let within = e.within in absurd (omega (arith, within))
 
-contains_never : (a : ℕ) → Contains {X = ℕ} [] a → ⊥
+contains_never : {X : Type 0} (a : X) → Contains {X = X} [] a → ⊥
 contains_never a (k, below, is) = absurd (omega (arith, below))
 
 contains_behind : (x : ℕ) (xs : List ℕ) (a : ℕ) → Contains xs a → Contains (x ∷ xs) a
@@ -179,7 +179,7 @@ split_at (x ∷ xs) a (suc k, below, is) =
     (x ∷ parts.0, parts.1, ap (λ l. x ∷ l) parts.2)
 
 -- an element that is kept passed the test
-pub filter_holds : (p : ℕ → Bool) (xs : List ℕ) (a : ℕ) → Contains (filter p xs) a → p a ≡ true
+pub filter_holds : {X : Type 0} (p : X → Bool) (xs : List X) (a : X) → Contains (filter p xs) a → p a ≡ true
 filter_holds p [] a has = absurd (contains_never a has)
 filter_holds p (x ∷ xs) a has = of (filter_holds p xs a) (p x) refl
   where

@@ -66,10 +66,10 @@ pub first_of_none : (file own : List Record) (tasks : List ℕ) (bound : ℕ)
     → IsFirstOf file own tasks bound 0 None
 first_of_none file own tasks bound task (k, below, there) = absurd (omega (arith, below))
 
-late_kept : (tasks : List ℕ) (n task : ℕ) → IsAmongFirst tasks n task → IsAmongFirst tasks (n + 1) task
+pub late_kept : (tasks : List ℕ) (n task : ℕ) → IsAmongFirst tasks n task → IsAmongFirst tasks (n + 1) task
 late_kept tasks n task (k, below, there) = (k, omega (arith, below), there)
 
-among_more : (tasks : List ℕ) (n last task : ℕ) → slice_get tasks n ≡ Some last
+pub among_more : (tasks : List ℕ) (n last task : ℕ) → slice_get tasks n ≡ Some last
     → IsAmongFirst tasks (n + 1) task → IsAmongFirst tasks n task ⊎ (task ≡ last)
 among_more tasks n last task stands (k, below, there) = elim (cases_lt k n) [
   | inl less ↦ inl (k, less, there)

@@ -50,10 +50,10 @@ known_start rs = record {
           omega (arith, more, zero_there)
     ]
 
-pub known_more : (rs : List Record) (n own after : ℕ) (known : List ℕ) → thread_at rs n ≡ Some own → own < 256
-    → after ≡ known_after rs n → get_or known own 0 ≤ seen_at rs n → AreKnownLengths rs n known
+pub known_raised : (rs : List Record) (n own after : ℕ) (known : List ℕ) → thread_at rs n ≡ Some own
+    → own < 256 → after ≡ known_after rs n → get_or known own 0 ≤ after → AreKnownLengths rs n known
     → AreKnownLengths rs (n + 1) (set known own after)
-known_more rs n own after known runs low is more are = record {
+known_raised rs n own after known runs low is more are = record {
   all = length-set known own after ∙ are.all;
   most = λ k thread below its. most k thread below its (cases_eq thread own);
   last = λ thread positive. last thread positive (cases_eq thread own);
@@ -77,10 +77,9 @@ known_more rs n own after known runs low is more are = record {
           let value = there thread same in let knows = ap (known_after rs) here in omega (arith, value, knows)
       | inr before ↦
           let value = there thread same in
-          let least = known_least rs n in
           let old = are.most k thread (omega (arith, below, before)) its in
           let slot = ap (λ t. get_or known t 0) same in
-          omega (arith, value, least, old, slot, more)
+          omega (arith, value, is, old, slot, more)
     ]
     most k thread below its (inr apart) =
         let value = elsewhere thread apart in
@@ -100,9 +99,16 @@ known_more rs n own after known runs low is more are = record {
         let old = are.last thread (omega (arith, positive, value)) in
         (old.0, omega (arith, old.1), old.2, old.3 ∙ sym value)
 
+pub known_more : (rs : List Record) (n own after : ℕ) (known : List ℕ) → thread_at rs n ≡ Some own → own < 256
+    → after ≡ known_after rs n → get_or known own 0 ≤ seen_at rs n → AreKnownLengths rs n known
+    → AreKnownLengths rs (n + 1) (set known own after)
+known_more rs n own after known runs low is more are =
+    known_raised rs n own after known runs low is
+    (let least = known_least rs n in omega (arith, is, more, least)) are
+
 -- ---- the first that names less
 
-behind : (rs : List Record) (i : ℕ) → HasCause rs i LengthBack → IsBehind rs i
+pub behind : (rs : List Record) (i : ℕ) → HasCause rs i LengthBack → IsBehind rs i
 behind rs i (length_back has) = has
 
 pub behind_known : (rs : List Record) (n thread : ℕ) (known : List ℕ) → n < length rs
@@ -113,7 +119,7 @@ behind_known rs n thread known within own less are =
     let value = last.3 in
     (last.0, thread_order last.1 within (last.2 ∙ sym own), omega (arith, less, value))
 
-step_behind : (rs : List Record) (c i : ℕ) → IsProgramStep rs c i → seen_at rs i < seen_at rs c
+pub step_behind : (rs : List Record) (c i : ℕ) → IsProgramStep rs c i → seen_at rs i < seen_at rs c
     → IsBehind rs i
 step_behind rs c i step less = (c, step, let least = known_least rs c in omega (arith, least, less))
 
@@ -146,7 +152,7 @@ first_back rs n within is free = record {
   first = λ k below has. free k below (behind rs k has);
 }
 
-step_within : (rs : List Record) (a b : ℕ) → IsProgramStep rs a b → b < length rs
+pub step_within : (rs : List Record) (a b : ℕ) → IsProgramStep rs a b → b < length rs
 step_within rs a b (thread_order below within same) = within
 step_within rs a b (creation task creates start) =
     at_within Rattle.ompt_events.specs.Records.started rs b task (start_starts rs b task start)

@@ -1,5 +1,6 @@
 mod ClaimLemmas
 mod LengthLemmas
+mod BackLemmas
 mod EntryLemmas
 mod ListsLemmas
 mod QueueLemmas
@@ -20,6 +21,7 @@ mod SuspensionLemmas
 mod InOrderLemmas
 mod StartLemmas
 mod LateLemmas
+mod FindingsLemmas
 mod PhaseLemmas
 mod VerdictLemmas
 mod BlindBodyLemmas
@@ -45,3 +47,4 @@ mod OneVerdictLemmas
 mod TurnEndLemmas
 mod OwnTurnLemmas
 mod KeptOrderLemmas
+mod AllShownLemmas

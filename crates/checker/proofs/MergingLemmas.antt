@@ -1,6 +1,6 @@
 -- The merge of the threads, one record on.
 use Rattle.std.proofs.Common.{zero, suc, ◌≡◌, ◌≢◌, ◌∙◌, ℕ, ◌<◌, ◌≤◌, ◌+◌, List, [], ◌∷◌, ◌++◌, length, get_or}
-use Rattle.std.proofs.Common.{Option, Some, None, Bool, true, false, refl, sym, ap, subst, arith, inl, inr}
+use Rattle.std.proofs.Common.{Some, Bool, true, false, refl, sym, ap, subst, arith, inl, inr}
 use Rattle.std.proofs.Common.{◌⊎◌}
 use Rattle.std.proofs.lemmas.Bool.{cases_eq, cases_lt, false≢true}
 use Rattle.std.proofs.lemmas.Option.{same_Some, slice_get-get_or, slice_get_within}
@@ -9,24 +9,24 @@ use Rattle.std.proofs.lemmas.List.{get_or-replicate, get_or_default, get_or-take
 use Rattle.std.proofs.lemmas.List.{append_assoc, take-append-le, take_all, get_or_append_left, get_or_push}
 use Rattle.std.proofs.lemmas.List.{length_push}
 use Rattle.std.proofs.lemmas.List.Elements.{Contains-push, Contains-push_cases, Contains-append_left}
-use Rattle.std.proofs.lemmas.List.Elements.{Contains-append_cases}
+use Rattle.std.proofs.lemmas.List.Elements.{Contains-append_cases, All-weaker}
 use Rattle.std.proofs.lemmas.List.Sorted.{IsPermutation-refl, IsPermutation-more, Contains-permutation}
 use Rattle.std.specs.List.Sorted.{IsPermutation}
 use Rattle.std.specs.List.{remove}
 use Rattle.ompt_events.proofs.PlaceLemmas.{contains_place, nothing_left}
 use Rattle.std.proofs.Math.ListN.{set}
-use Rattle.std.specs.Prelude.{slice_get, slice_index, Contains, ⊤, replicate, sum_by, take, MatchOption}
+use Rattle.std.specs.Prelude.{slice_get, slice_index, Contains, ⊤, replicate, sum_by, take, All}
 use Rattle.std.proofs.lemmas.List.Sums.{sum_by-set}
 use Rattle.ompt_events.specs.declared.records.Record.{Record}
 use Rattle.ompt_events.specs.Places.{places, thread_at}
 use Rattle.ompt_events.specs.HappensBefore.{HappensBefore, step}
 use Rattle.ompt_events.specs.declared.cause.Cause.TheVariants.{NoOrder}
 use Rattle.ompt_events.specs.Causes.{HasCause, no_order, HasNoOrder, IsFreeOf}
-use Rattle.ompt_events.specs.Faults.{FindsFirst}
+use Rattle.ompt_events.specs.Shown.{AreAllBelow, AreAll, AreAllWith}
 use Rattle.ompt_events.specs.Linearization.{IsDue, IsReady, IsFirstReady, IsGreedy, IsGrounded}
 use Rattle.ompt_events.specs.Linearization.{IsLinearization}
-use Rattle.checker.specs.Merge.{IsPlacedPrefix, Stands, IsFirstUnplaced, MayStandNext, AreHeads, AreInTurn}
-use Rattle.checker.specs.Merge.{IsGreedyBehind, ArePlaced}
+use Rattle.checker.specs.Merge.{IsPlacedPrefix, Stands, IsUnplaced, MayStandNext, AreHeads, AreInTurn}
+use Rattle.checker.specs.Merge.{IsGreedyBehind, IsMerged, ArePlaced}
 use Rattle.checker.specs.Lists.{AreLists, IsNextWith, LeadsOn}
 use Rattle.checker.proofs.MergeLemmas.{stands_or_not, is_head}
 use Rattle.ompt_events.proofs.LinearizationLemmas.{IsClosed, due_from_steps, grounded_rising}
@@ -480,24 +480,38 @@ passed_more placed makers low next place old new k below real = elim (cases_lt k
 unordered_within : (rs : List Record) (i : ℕ) → HasCause rs i NoOrder → i < length rs
 unordered_within rs i (no_order h) = h.within
 
--- where no record may follow, the first that doesn't stand is the first without an order; and where all
--- stand, each record has one
-pub finds_unordered : (rs : List Record) (placed : List Bool) (heads links order : List ℕ) (found : Option ℕ)
-    → ArePlaced rs placed heads links order → ((j : ℕ) → MayStandNext rs placed j → ⊥)
-    → MatchOption found ((i : ℕ) → i < length placed → Stands placed i) (IsFirstUnplaced placed)
-    → FindsFirst rs NoOrder found
-finds_unordered rs placed heads links order None standing none every =
-    λ i has.
-    stands_ordered rs placed heads links order i standing
-    (every i (rw standing.all (unordered_within rs i has))) has
-finds_unordered rs placed heads links order (Some i) standing none is =
-    let within : i < length rs = rw standing.all at is.unplaced.within in
-    record {
-      within = within;
-      has =
-          no_order (missing_unordered rs placed heads links order i standing none within is.unplaced.missing);
-      first = λ k below has. stands_ordered rs placed heads links order k standing (is.before k below) has;
-    }
+-- where no record may follow, those that don't stand are all without an order
+pub all_unordered : (rs : List Record) (base order : List ℕ) (placed : List Bool) (places : List ℕ)
+    → IsMerged rs base order placed → AreAll (IsUnplaced placed) (length placed) places
+    → AreAllWith rs NoOrder places
+all_unordered rs base order placed places merged are = record {
+  rising = are.rising;
+  within = subst (λ m. All (λ place. place < m) places) merged.standing.all are.within;
+  hold =
+      All-weaker (IsUnplaced placed) (λ i. HasCause rs i NoOrder)
+      (λ i is.
+      no_order
+      (missing_unordered rs placed merged.heads merged.links order i merged.standing merged.ended
+      (rw merged.standing.all at is.within) is.missing))
+      places are.hold;
+  complete = λ i has.
+      are.complete i (record {
+        within = rw merged.standing.all (unordered_within rs i has);
+        missing =
+            λ stands.
+            stands_ordered rs placed merged.heads merged.links order i merged.standing stands has;
+      });
+}
+
+-- the records that don't stand so far are, along all, all
+pub all_unplaced : (placed : List Bool) (n : ℕ) (places : List ℕ) → length placed ≡ n
+    → AreAllBelow (IsUnplaced placed) n places → AreAll (IsUnplaced placed) (length placed) places
+all_unplaced placed n places all are = record {
+  rising = are.rising;
+  within = subst (λ m. All (λ place. place < m) places) (sym all) are.within;
+  hold = are.hold;
+  complete = λ i is. let within = is.within in are.complete i (omega (arith, within, all)) is;
+}
 
 -- where each record has an order, all stand
 pub all_stand : (rs : List Record) (placed : List Bool) (heads links order : List ℕ)

@@ -242,24 +242,34 @@ required_within reading i task of (inr precedes) =
       | inr completes ↦ at_within wait_completed reading.records i own.0 completes
     ]
 
--- an unfinished task is incomplete where the record comes as early as the ledger lengths allow
+-- an order in which the record comes as early as the ledger lengths allow: what is complete there has been
+-- seen
+pub early_order : (reading : Reading) (order : List ℕ) (i task : ℕ) → IsOfRecords reading
+    → IsFreeOf reading.records LengthBack → IsLinearization reading.records order
+    → IsRequiredBy reading i task
+    → (early : List ℕ) × IsLinearization reading.records early
+    × (IsCompleteIn reading.records early task i → IsCompleteAt reading.records task i)
+early_order reading order i task of free linear required =
+    let rs = reading.records in
+    let has : Contains order i =
+    Contains-permutation (places rs) order i linear.all_once
+    (contains_place rs i (required_within reading i task of required)) in
+    let parts = split_at order i has in
+    let P : List ℕ → Type 0 = IsLinearization rs in
+    let moved = moved_linear rs i parts.0 parts.1 free (subst P parts.2 linear) in
+    (moved_up rs i parts.0 parts.1, moved, complete_at rs i task parts.0 parts.1 moved.all_once)
+
+-- so an unfinished task is incomplete there
 pub missed_by : (reading : Reading) (order : List ℕ) (i task : ℕ) → IsOfRecords reading
     → IsFreeOf reading.records LengthBack → IsLinearization reading.records order
     → IsUnfinished reading i task → IsMissed reading i task
 missed_by reading order i task of free linear unfinished =
-    let rs = reading.records in
-    let has : Contains order i =
-    Contains-permutation (places rs) order i linear.all_once
-    (contains_place rs i (required_within reading i task of unfinished.required)) in
-    let parts = split_at order i has in
-    let P : List ℕ → Type 0 = IsLinearization rs in
-    let moved = moved_linear rs i parts.0 parts.1 free (subst P parts.2 linear) in
+    let early = early_order reading order i task of free linear unfinished.required in
     record {
       required = unfinished.required;
-      order = moved_up rs i parts.0 parts.1;
-      linearization = moved;
-      incomplete =
-          λ complete. unfinished.incomplete (complete_at rs i task parts.0 parts.1 moved.all_once complete);
+      order = early.0;
+      linearization = early.1;
+      incomplete = λ complete. unfinished.incomplete (early.2 complete);
     }
 
 -- and a missed one is unfinished

@@ -37,7 +37,7 @@ use Rattle.checker.specs.Merge.{turn_slot, key_of}
 
 -- ---- single records
 
-started_keeps : (b : Body) (task : ℕ) → started b ≡ Some task → discarded b ≡ None
+pub started_keeps : (b : Body) (task : ℕ) → started b ≡ Some task → discarded b ≡ None
 started_keeps (Cancel flags own claimed) task starts = absurd (none-some task starts)
 started_keeps _ task starts = refl
 
@@ -121,7 +121,7 @@ first_begun_starts rs i task begins =
     at_through begun_turn first_started (task, 0) task rs i (λ b. begins_first b task) begins
 
 -- what a record says, where each that says one thing says no other
-silent : {X Y : Type 0} (f : Body → Option X) (g : Body → Option Y) (x : X) (rs : List Record) (i : ℕ)
+pub silent : {X Y : Type 0} (f : Body → Option X) (g : Body → Option Y) (x : X) (rs : List Record) (i : ℕ)
     → ((b : Body) → f b ≡ Some x → g b ≡ None) → at f rs i ≡ Some x → at g rs i ≡ None
 silent {X} {Y} f g x rs i each is = by (slice_get rs i) is
   where

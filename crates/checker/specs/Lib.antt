@@ -17,4 +17,5 @@ pub mod InOrder
 pub mod Starts
 pub mod Counter
 pub mod Deciding
+pub mod Findings
 pub mod Gate

@@ -5,9 +5,7 @@ use Rattle.std.specs.BTreeSet.{contains}
 use Rattle.ompt_events.specs.declared.records.Record.{Record}
 use Rattle.ompt_events.specs.Places.{seen_at}
 use Rattle.ompt_events.specs.HappensBefore.{IsFinishing}
-use Rattle.ompt_events.specs.Causes.{entries_in}
 use Rattle.checker.specs.declared.makers.Named.{Named}
-use Rattle.checker.specs.Entries.{AreEntryPlaces}
 
 -- whether the entry is named so far: the table has a record for it, or it is in the set of the entries
 -- beyond
@@ -24,9 +22,3 @@ IsMadeBelow rs n entry = (k : ℕ) × (k < n) × IsFinishing rs k × (seen_at rs
 abbrev pub AreEntriesNamed : List Record → ℕ → Named → Type 0
 AreEntriesNamed rs n named =
     (entry : ℕ) → (is_named (length rs) named entry ≡ true) ↔ IsMadeBelow rs n entry
-
--- each of them is named by the record that makes it, in a table with room for the whole ledger
-pub record IsNaming (rs : List Record) (n : ℕ) (told : Named) : Type 0 where
-  pub all : length told.makers.items ≡ entries_in rs
-  pub named : AreEntriesNamed rs n told
-  pub makers : AreEntryPlaces rs n told.makers.items

@@ -67,15 +67,19 @@ pub record ArePlaced (rs : List Record) (placed : List Bool) (heads links order 
   pub left : List ℕ
   pub permutation : IsPermutation (places rs) (order ++ left)
 
+-- just the records of the order are placed, which is greedy behind these records, and none may be placed
+-- next
+pub record IsMerged (rs : List Record) (base order : List ℕ) (placed : List Bool) : Type 0 where
+  pub heads : List ℕ
+  pub links : List ℕ
+  pub standing : ArePlaced rs placed heads links order
+  pub behind : IsGreedyBehind rs base order
+  pub ended : (i : ℕ) → MayStandNext rs placed i → ⊥
+
 -- there is such a record, and it isn't placed
 pub record IsUnplaced (placed : List Bool) (i : ℕ) : Type 0 where
   pub within : i < length placed
   pub missing : Stands placed i → ⊥
-
--- the first record that isn't placed
-pub record IsFirstUnplaced (placed : List Bool) (i : ℕ) : Type 0 where
-  pub unplaced : IsUnplaced placed i
-  pub before : (k : ℕ) → k < i → Stands placed k
 
 -- the ledger length that is reached: each entry below it is made by a record that is placed; and if a
 -- record names a greater length, the record that makes the next entry isn't placed

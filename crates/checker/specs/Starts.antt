@@ -1,6 +1,7 @@
 -- Which tasks start, and which taskwaits are complete, before one of their predecessors is finished.
 use Rattle.std.specs.Prelude.{ℕ, ◌≡◌, ◌<◌, ◌≤◌, ◌↔◌, ◌⊎◌, List, length, Option, Some, None, MatchOption}
-use Rattle.std.specs.Prelude.{slice_get, slice_index}
+use Rattle.std.specs.Prelude.{◌≢◌, All, Contains, slice_get, slice_index}
+use Rattle.std.specs.List.{AllPairs}
 use Rattle.ompt_events.specs.declared.records.Record.{Record}
 use Rattle.ompt_events.specs.Records.{created, begun_turn}
 use Rattle.ompt_events.specs.Places.{at}
@@ -118,6 +119,16 @@ IsFirstOf file own tasks bound n (Some late) =
     IsAmongFirst tasks n late.task × IsBehindAt file own bound late.task late.place
     × ((task place : ℕ) → IsAmongFirst tasks n task → IsBehindAt file own bound task place
     → late.place ≤ place)
+
+-- the task is among the first n of these, and the entries don't finish it
+abbrev pub IsLateAmong : List Record → ℕ → List ℕ → ℕ → ℕ → Type 0
+IsLateAmong own bound tasks n task = IsAmongFirst tasks n task × (IsDone own bound task → ⊥)
+
+-- these are all of them, each once
+pub record AreLateOf (own : List Record) (bound : ℕ) (tasks : List ℕ) (n : ℕ) (late : List ℕ) : Type 0 where
+  pub each : All (IsLateAmong own bound tasks n) late
+  pub all : (task : ℕ) → IsAmongFirst tasks n task → (IsDone own bound task → ⊥) → Contains late task
+  pub apart : AllPairs (λ x y. x ≢ y) late
 
 -- of a late task, if there is one, and another, the one that is created first
 pub data IsEarlierOf (other late : Late) : Option Late → Type 0 where

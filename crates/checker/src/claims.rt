@@ -1,18 +1,20 @@
 //! Whether each finishing record claims the right place of its task in the tree.
-ghost use Rattle.std.specs.Prelude.{[], ◌∷◌, ℕ, ◌≡◌, ◌<◌, ◌↔◌, Some, IfErr, IsTrue, OnOk, length, slice_get};
+ghost use Rattle.std.specs.Prelude.{[], ◌∷◌, ℕ, ◌≡◌, ◌<◌, ◌↔◌, Some, IfErr, IfOk, IsTrue, OnOk, length, slice_get};
 ghost use Rattle.ompt_events.specs.declared.cause.Cause.TheVariants.{ShareWrong};
 ghost use Rattle.ompt_events.specs.Causes.{IsFreeOf, IsRightClaim, HasWrongShare};
-ghost use Rattle.task_tree.specs.Own.{FindsFirstPlace, IsOwnFault};
+ghost use Rattle.task_tree.specs.Own.{AreAllPlacesWith, IsOwnFault};
 
-use ompt_events::{Cause, Claim, Fault};
+use ompt_events::{Cause, Claim, Fault, Shown};
+use std::alloc::{AllocError, Global};
 use task_tree::{Own, Run};
 
 /// Excludes ShareWrong. Fails with it at the first finishing record in file order whose claim is wrong.
-pub(crate) fn exclude_wrong_claims(own: &Own) -> Result<(), Fault>
+pub(crate) fn exclude_wrong_claims(alloc: Global, own: &Own) -> Result<(), Fault>
     ensures free { OnOk result (IsFreeOf own.now.run.records ShareWrong) }
     ensures fault { IfErr result (IsOwnFault own.now ShareWrong) }
 {
-    match find_wrong_claim(own) {
+    let _run = own.run();
+    match wrong_claims(alloc, own)?.first() {
         Some(at) => Err(Fault::Malformed {
             at,
             cause: Cause::ShareWrong,
@@ -21,18 +23,18 @@ pub(crate) fn exclude_wrong_claims(own: &Own) -> Result<(), Fault>
     }
 }
 
-/// Returns the first finishing record in file order whose claim is wrong by the tasks' own order: its task
-/// has another path or another root, or created another number of children.
-fn find_wrong_claim(own: &Own) -> Option<usize>
-    ensures { FindsFirstPlace own.now ShareWrong result }
+/// Returns all places in the file of finishing records whose claim is wrong by the tasks' own order: the
+/// task has another path or another root, or created another number of children. Fails only when out of
+/// memory.
+pub(crate) fn wrong_claims(alloc: Global, own: &Own) -> Result<Shown, AllocError>
+    ensures { IfOk result (AreAllPlacesWith own.now ShareWrong) }
 {
     let run = own.run();
-    for at in 0..run.len() {
-        if claims_wrongly(run, own.number(at)) {
-            return Some(at);
-        }
+    let mut shown = Shown::none(alloc);
+    for place in 0..run.len() {
+        shown.note(place, claims_wrongly(run, own.number(place)))?;
     }
-    None
+    Ok(shown)
 }
 
 /// Returns whether the record with this number finishes a task and its claim is wrong.

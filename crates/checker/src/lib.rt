@@ -5,6 +5,7 @@
 //! first, then `phases` and the phases in the order in which it calls them.
 #![tactic(auto)]
 
+mod all_shown;
 mod before;
 mod checking;
 mod claims;
@@ -12,6 +13,7 @@ mod clear;
 mod counter;
 mod deciding;
 mod earliest;
+mod findings;
 mod front;
 mod gate;
 mod in_order;
@@ -30,11 +32,14 @@ mod sound;
 mod starts;
 mod suspensions;
 mod verdict;
+mod violations;
 mod waiting;
 mod workers;
 
 pub use checking::{check, check_packed};
 pub use counter::{check_packed_with_counter, check_with_counter, counter_order};
+pub use findings::Findings;
 pub use gate::{Gate, OpenGate};
 pub use verdict::{CheckFault, Order, Verdict, Why};
+pub use violations::{Violation, Violations};
 pub use workers::{MAX_WORKERS, check_on, check_packed_on};

@@ -2,13 +2,14 @@
 ghost use Rattle.std.specs.Prelude.{ℕ, ◌≡◌, ◌∷◌, [], ◌<◌, ◌+◌, ◌==◌, ◌||◌, ◌↔◌, IfOk, IfErr, OnOk, IsTrue, false, length, slice_set};
 ghost use Rattle.ompt_events.specs.declared.cause.Cause.TheVariants.{EntryTwice, LengthAhead};
 ghost use Rattle.ompt_events.specs.Causes.{RepeatsEntry, entries_in, IsAhead, IsFreeOf};
-ghost use Rattle.ompt_events.specs.Faults.{FindsFirst, IsFault};
+ghost use Rattle.ompt_events.specs.Faults.{IsFault};
+ghost use Rattle.ompt_events.specs.Shown.{AreAllWith};
 ghost use Rattle.checker.specs.Entries.{AreEntryPlaces, IsLedger};
-ghost use Rattle.checker.specs.Makers.{is_named, IsNaming};
+ghost use Rattle.checker.specs.Makers.{is_named, AreEntriesNamed};
 ghost use Rattle.checker.specs.Schedule.{EachAwaitsOne};
 
 use crate::suspensions::Suspensions;
-use ompt_events::{Cause, Fault, exclude};
+use ompt_events::{Cause, Fault, Shown, exclude};
 use std::alloc::{AllocError, Global};
 use std::collections::BTreeSet;
 use std::marker::Model;
@@ -50,8 +51,15 @@ impl<'a> Makers<'a> {
         ensures run { IfOk result (λ makers. makers.run ≡ run.now) }
         ensures fault { IfErr result (IsFault run.now.records (EntryTwice ∷ LengthAhead ∷ [])) }
     {
-        let places = find_makers(alloc, run)?;
-        exclude(Cause::LengthAhead, find_ahead(run, places.len()))?;
+        let Entries {
+            makers: places,
+            repeats,
+        } = find_makers(alloc, run)?;
+        exclude(Cause::EntryTwice, repeats.first())?;
+        exclude(
+            Cause::LengthAhead,
+            find_ahead(alloc, run, places.len())?.first(),
+        )?;
         let suspensions = Suspensions::of(alloc, run)?;
         Ok(Makers {
             run: run.again(),
@@ -107,37 +115,46 @@ fn entry_count(run: &Run) -> usize
     count
 }
 
-/// Returns by entry of the ledger the record that makes it. Fails with EntryTwice at the first finishing
-/// record that names the entry of an earlier one.
-fn find_makers(alloc: Global, run: &Run) -> Result<Vec<u32>, Fault>
-    ensures makers { IfOk result (λ makers. AreEntryPlaces run.now.records (length run.now.records) makers.items) }
-    ensures entries { IfOk result (λ makers. length makers.items ≡ entries_in run.now.records) }
-    ensures free { OnOk result (IsFreeOf run.now.records EntryTwice) }
-    ensures fault { IfErr result (IsFault run.now.records (EntryTwice ∷ [])) }
+/// The records that make the entries of the ledger.
+#[derive(Drop)]
+struct Entries {
+    /// By entry the place of a record that makes it, or the number of records.
+    makers: Vec<u32>,
+    /// The finishing records that name the entry of an earlier one.
+    repeats: Shown,
+}
+
+/// Returns by entry of the ledger the record that makes it, and the finishing records that name the entry of
+/// an earlier one.
+fn find_makers(alloc: Global, run: &Run) -> Result<Entries, AllocError>
+    ensures repeats { IfOk result (λ entries. AreAllWith run.now.records EntryTwice entries.repeats) }
+    ensures makers { IfOk result (λ entries. IsFreeOf run.now.records EntryTwice
+        → AreEntryPlaces run.now.records (length run.now.records) entries.makers.items) }
+    ensures entries { IfOk result (λ entries. length entries.makers.items ≡ entries_in run.now.records) }
 {
     let mut named = Named {
         makers: vec![in alloc; run.len() as u32; entry_count(run)]?,
         beyond: BTreeSet::new(alloc),
     };
+    let mut repeats = Shown::none(alloc);
     for at in 0..run.len() {
-        if repeats_entry(run, &mut named, at)? {
-            return Err(Fault::Malformed {
-                at,
-                cause: Cause::EntryTwice,
-            });
-        }
+        let again = repeats_entry(run, &mut named, at)?;
+        repeats.note(at, again)?;
     }
     let Named { makers, .. } = named;
-    Ok(makers)
+    Ok(Entries { makers, repeats })
 }
 
-/// Returns whether the record at a place names the entry of an earlier one. If not, marks its own entry as
-/// named.
+/// Returns whether the record at a place names the entry of an earlier one. Marks its own entry as named.
 fn repeats_entry(run: &Run, named: &mut Named, at: usize) -> Result<bool, AllocError>
     requires within { at < length run.now.records }
-    requires named { IsNaming run.now.records at named.old }
+    requires named { AreEntriesNamed run.now.records at named.old }
     ensures repeats { IfOk result (λ repeats. IsTrue repeats ↔ RepeatsEntry run.now.records at) }
-    ensures named { IfOk result (λ repeats. repeats ≡ false → IsNaming run.now.records (at + 1) named.new) }
+    ensures named { OnOk result (AreEntriesNamed run.now.records (at + 1) named.new) }
+    ensures long { OnOk result (length named.new.makers.items ≡ length named.old.makers.items) }
+    ensures makers { IfOk result (λ repeats. repeats ≡ false
+        → AreEntryPlaces run.now.records at named.old.makers.items
+        → AreEntryPlaces run.now.records (at + 1) named.new.makers.items) }
 {
     if run.is_finishing(at) {
         name_entry(named, run, run.seen(at), at)
@@ -164,18 +181,17 @@ fn name_entry(named: &mut Named, run: &Run, entry: u32, at: usize) -> Result<boo
     }
 }
 
-/// Returns the first record that names an entry past the ledger's end, or a greater length than the ledger
-/// ever has.
-fn find_ahead(run: &Run, entries: usize) -> Option<usize>
+/// Returns the records that name an entry past the ledger's end, or a greater length than the ledger ever
+/// has.
+fn find_ahead(alloc: Global, run: &Run, entries: usize) -> Result<Shown, AllocError>
     requires { entries ≡ entries_in run.now.records }
-    ensures { FindsFirst run.now.records LengthAhead result }
+    ensures { IfOk result (AreAllWith run.now.records LengthAhead) }
 {
+    let mut shown = Shown::none(alloc);
     for at in 0..run.len() {
-        if is_ahead(run, entries, at) {
-            return Some(at);
-        }
+        shown.note(at, is_ahead(run, entries, at))?;
     }
-    None
+    Ok(shown)
 }
 
 /// Returns whether the record at a place does so.
@@ -186,4 +202,20 @@ fn is_ahead(run: &Run, entries: usize, at: usize) -> bool
 {
     let seen = run.seen(at) as usize;
     seen > entries || (seen == entries && run.is_finishing(at))
+}
+
+/// Returns all finishing records that name the entry of an earlier one. Fails only when out of memory.
+pub(crate) fn repeated_entries(alloc: Global, run: &Run) -> Result<Shown, AllocError>
+    ensures { IfOk result (AreAllWith run.now.records EntryTwice) }
+{
+    let Entries { repeats, .. } = find_makers(alloc, run)?;
+    Ok(repeats)
+}
+
+/// Returns all records that name an entry past the ledger's end, or a greater length than the ledger ever
+/// has. Fails only when out of memory.
+pub(crate) fn lengths_ahead(alloc: Global, run: &Run) -> Result<Shown, AllocError>
+    ensures { IfOk result (AreAllWith run.now.records LengthAhead) }
+{
+    find_ahead(alloc, run, entry_count(run))
 }

@@ -1,18 +1,19 @@
 //! The greedy order of the records.
-ghost use Rattle.std.specs.Prelude.{ℕ, ◌≡◌, ◌∷◌, [], ◌<◌, ◌≤◌, ◌↔◌, List, Some, MatchOption, IfOk, IfErr, IsTrue, OnOk, false, true, length, replicate, slice_index, slice_set};
+ghost use Rattle.std.specs.Prelude.{ℕ, ◌≡◌, ◌∷◌, [], ◌<◌, ◌≤◌, ◌↔◌, ◌^◌, List, Some, IfOk, IfErr, IsTrue, OnOk, false, true, length, replicate, slice_index, slice_set};
 ghost use Rattle.ompt_events.specs.declared.cause.Cause.TheVariants.{NoOrder};
 ghost use Rattle.ompt_events.specs.Places.{thread_at};
 ghost use Rattle.ompt_events.specs.Linearization.{IsLinearization};
 ghost use Rattle.ompt_events.specs.Causes.{IsFreeOf};
 ghost use Rattle.ompt_events.specs.Faults.{IsFault};
-ghost use Rattle.checker.specs.Merge.{Stands, IsUnplaced, IsFirstUnplaced, IsFront, AreOffered, AreInTurn, IsGreedyBehind, ArePlaced};
+ghost use Rattle.ompt_events.specs.Shown.{AreAll, AreAllWith};
+ghost use Rattle.checker.specs.Merge.{Stands, IsUnplaced, IsFront, AreOffered, AreInTurn, IsGreedyBehind, IsMerged, ArePlaced};
 
 use crate::front::{Front, stands, take_first};
 use crate::lists::{Lists, lists_of_threads};
 use crate::makers::Makers;
 use crate::queue::Queue;
 use crate::waiting::{Placed, Waiting};
-use ompt_events::{Cause, Fault, exclude};
+use ompt_events::{Cause, Fault, Shown, exclude};
 use std::alloc::{AllocError, Global};
 use task_tree::Run;
 
@@ -25,6 +26,37 @@ pub(crate) fn find_order(alloc: Global, makers: &Makers, base: Vec<u32>) -> Resu
     ensures greedy { IfOk result (λ order. IsGreedyBehind makers.now.run.records base.items order.items) }
     ensures free { OnOk result (IsFreeOf makers.now.run.records NoOrder) }
     ensures fault { IfErr result (IsFault makers.now.run.records (NoOrder ∷ [])) }
+{
+    let _run = makers.run();
+    let Merged { order, placed } = place_all(alloc, makers, base)?;
+    exclude(Cause::NoOrder, unplaced(alloc, &placed)?.first())?;
+    Ok(order)
+}
+
+/// Returns all records that are in no order which has, before each record, all that happens before it. Fails
+/// only when out of memory.
+pub(crate) fn unordered(alloc: Global, makers: &Makers) -> Result<Shown, AllocError>
+    ensures { IfOk result (AreAllWith makers.now.run.records NoOrder) }
+{
+    let run = makers.run();
+    let none = Vec::with_capacity(alloc, run.len())?;
+    let Merged { placed, .. } = place_all(alloc, makers, none)?;
+    unplaced(alloc, &placed)
+}
+
+/// The greedy order of the records that have one, and a mark for each record: whether it is placed.
+#[derive(Drop)]
+struct Merged {
+    order: Vec<u32>,
+    placed: Vec<bool>,
+}
+
+/// Returns these records and behind them, as long as there is one, the first record in file order whose
+/// predecessors are all placed.
+fn place_all(alloc: Global, makers: &Makers, base: Vec<u32>) -> Result<Merged, AllocError>
+    requires { AreInTurn makers.now.run.records base.items }
+    ensures { IfOk result (λ merged. IsMerged makers.now.run.records base.items merged.order.items
+        merged.placed.items) }
 {
     let run = makers.run();
     let places = makers.places();
@@ -52,8 +84,8 @@ pub(crate) fn find_order(alloc: Global, makers: &Makers, base: Vec<u32>) -> Resu
         };
         waiting.release(&front, &mut ready, just_placed)?;
     }
-    exclude(Cause::NoOrder, first_unplaced(&standing.placed))?;
-    Ok(order)
+    let Standing { placed, .. } = standing;
+    Ok(Merged { order, placed })
 }
 
 /// Which records are placed: a mark for each record, the first one of each thread that is not placed, and
@@ -133,17 +165,16 @@ fn none_placed(alloc: Global, len: usize) -> Result<Vec<bool>, AllocError>
     vec![in alloc; false; len]
 }
 
-/// Returns the first record that is not placed.
-fn first_unplaced(placed: &[bool]) -> Option<usize>
-    ensures { MatchOption result ((i : ℕ) → i < length placed.now → Stands placed.now i)
-        (IsFirstUnplaced placed.now) }
+/// Returns the records that are not placed.
+fn unplaced(alloc: Global, placed: &[bool]) -> Result<Shown, AllocError>
+    requires { length placed.now ≤ 2 ^ 32 }
+    ensures { IfOk result (AreAll (IsUnplaced placed.now) (length placed.now)) }
 {
+    let mut shown = Shown::none(alloc);
     for at in 0..placed.len() {
-        if !stands(placed, at) {
-            return Some(at);
-        }
+        shown.note(at, is_unplaced(placed, at))?;
     }
-    None
+    Ok(shown)
 }
 
 /// Returns the first entry, from one on, whose record is not placed, or the number of entries.

@@ -157,10 +157,10 @@ pub(crate) fn edges_of<'a>(alloc: Global, runs: &Runs<'a>) -> Result<Edges<'a>, 
     let run = runs.run();
     let own = runs.own();
     let _records = own.run();
-    exclude(Cause::NestedParallel, find_nested(alloc, run)?)?;
-    exclude(Cause::RegionNesting, find_misnested(alloc, run)?)?;
+    exclude(Cause::NestedParallel, find_nested(alloc, run)?.first())?;
+    exclude(Cause::RegionNesting, find_misnested(alloc, run)?.first())?;
     let edges = Edges::in_run(alloc, run, own)?;
-    exclude_wrong_claims(own)?;
+    exclude_wrong_claims(alloc, own)?;
     Ok(edges)
 }
 

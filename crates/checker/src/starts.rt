@@ -7,6 +7,7 @@ ghost use Rattle.ompt_events.specs.Causes.{IsFreeOf};
 ghost use Rattle.ompt_events.specs.Tree.{IsExplicit};
 ghost use Rattle.depend_edges.specs.Edges.{ArePredecessors};
 ghost use Rattle.wait_coverage.specs.Done.{AreOwnLengths};
+ghost use Rattle.wait_coverage.specs.Waits.{AreEach};
 ghost use Rattle.trace_ledger.specs.Entries.{IsDone};
 ghost use Rattle.checker.specs.Starts.{IsPredecessorUnfinished, AreReady, IsPrecededByNone, IsDependentAt, IsFirstLateAt, IsBound, AreNoLengths, AreStarts, AreStartsBelow, StartsAt, StartsNoneAt, IsUnfinishedPredecessor, AreDoneBefore, IsFirstBehind, IsFirstOf, IsBehindAt, IsEarlierOf};
 
@@ -115,6 +116,31 @@ impl<'a, 'r> Precedence<'a, 'r> {
         match &self.starts {
             Some(starts) => self.late_by(starts.as_slice(), at),
             None => Ok(None),
+        }
+    }
+
+    /// Returns whether a predecessor of what starts or is complete at the place is not finished there. Takes a
+    /// few steps.
+    pub(crate) fn is_late_at(&self, at: usize) -> bool
+        requires { at < length self.now.file.records }
+        ensures { IsTrue result ↔ (AreReady self.now.file.records at → ⊥) }
+    {
+        match &self.starts {
+            Some(starts) => self.is_any_late_by(starts.as_slice(), at),
+            None => false,
+        }
+    }
+
+    /// Returns the predecessors of what starts or is complete at the place that are not finished there, each
+    /// once. Takes n log n steps in the dependences of one task's siblings. Fails only when out of memory.
+    pub(crate) fn all_late_at(&self, alloc: Global, at: usize) -> Result<Vec<u64>, Fault>
+        requires { at < length self.now.file.records }
+        ensures late { IfOk result (λ late. AreEach (IsPredecessorUnfinished self.now.file.records at) late.items) }
+        ensures memory_alone { IfErr result (λ fault. fault ≡ Memory) }
+    {
+        match &self.starts {
+            Some(starts) => self.all_late_by(alloc, starts.as_slice(), at),
+            None => Ok(Vec::new(alloc)),
         }
     }
 
@@ -250,6 +276,31 @@ impl Precedence<'_, '_> {
         }
     }
 
+    /// Returns whether one of those predecessors isn't complete there.
+    fn is_any_late_by(&self, starts: &[u32], at: usize) -> bool
+        requires within { at < length self.now.file.records }
+        requires starts { AreStarts self.now.file.records self.now.file.family.tasks starts.now }
+        ensures { IsTrue result ↔ (AreReady self.now.file.records at → ⊥) }
+    {
+        match self.dependent_at(starts, at) {
+            Some(dependent) => self.is_any_late_of(dependent.index, dependent.bound),
+            None => false,
+        }
+    }
+
+    /// Returns all of those predecessors that aren't complete there.
+    fn all_late_by(&self, alloc: Global, starts: &[u32], at: usize) -> Result<Vec<u64>, Fault>
+        requires within { at < length self.now.file.records }
+        requires starts { AreStarts self.now.file.records self.now.file.family.tasks starts.now }
+        ensures late { IfOk result (λ late. AreEach (IsPredecessorUnfinished self.now.file.records at) late.items) }
+        ensures memory_alone { IfErr result (λ fault. fault ≡ Memory) }
+    {
+        match self.dependent_at(starts, at) {
+            Some(dependent) => self.all_late_of(alloc, dependent.index, dependent.bound),
+            None => Ok(Vec::new(alloc)),
+        }
+    }
+
     /// Returns whether the task is one of those predecessors, and isn't complete there.
     fn is_late_by(&self, starts: &[u32], at: usize, task: u64) -> Result<bool, Fault>
         requires within { at < length self.now.file.records }
@@ -291,6 +342,34 @@ impl Precedence<'_, '_> {
         } else {
             Ok(false)
         }
+    }
+
+    /// Returns whether the entries below the length don't finish some predecessor of the task at the index.
+    fn is_any_late_of(&self, index: usize, bound: u32) -> bool
+        requires { index < length self.now.own.run.family.tasks }
+        ensures { (task : ℕ) → slice_get self.now.own.run.family.tasks index ≡ Some task
+            → IsTrue result ↔ (AreDoneBefore self.now.own.run.records task bound → ⊥) }
+    {
+        let _lengths = self.lengths;
+        self.latest[index] > u64::from(bound)
+    }
+
+    /// Returns the predecessors of the task at the index that the entries below the length don't finish.
+    fn all_late_of(&self, alloc: Global, index: usize, bound: u32) -> Result<Vec<u64>, Fault>
+        requires { index < length self.now.own.run.family.tasks }
+        ensures late { IfOk result (λ late. (task : ℕ)
+            → slice_get self.now.own.run.family.tasks index ≡ Some task
+            → AreEach (IsUnfinishedPredecessor self.now.own.run.records task bound) late.items) }
+        ensures memory_alone { IfErr result (λ fault. fault ≡ Memory) }
+    {
+        let predecessors = self.edges.of(self.own.run().task(index))?;
+        let mut late = Vec::new(alloc);
+        for predecessor in &predecessors {
+            if self.behind_at(*predecessor, bound).is_some() {
+                late.push(*predecessor)?;
+            }
+        }
+        Ok(late)
     }
 
     /// Returns, of the predecessors of the task at the index that the entries below the length don't

@@ -13,8 +13,10 @@ use Rattle.ompt_events.specs.declared.cause.Cause.TheVariants.{DepsPlace}
 use Rattle.ompt_events.specs.Records.{created_with_deps, dependences}
 use Rattle.ompt_events.specs.Places.{at, thread_at}
 use Rattle.ompt_events.specs.Causes.{IsNextInThread, AreFollowed, HasMisplacedDeps, stray, missing, HasCause}
-use Rattle.ompt_events.specs.Causes.{deps_place, IsFirstWith, IsFreeOf}
+use Rattle.ompt_events.specs.Causes.{deps_place}
+use Rattle.ompt_events.specs.Shown.{AreAllBelow, AreAllWith}
 use Rattle.ompt_events.proofs.PlaceLemmas.{at_within}
+use Rattle.ompt_events.proofs.ShownLemmas.{all_with}
 use Rattle.task_tree.proofs.LinkLemmas.{get_set_same, get_set_other}
 use Rattle.task_tree.specs.Runs.{RunView, IsRun, IsIndexOf, AreDependences}
 use Rattle.task_tree.proofs.SubjectLemmas.{call_task}
@@ -325,20 +327,12 @@ misplaced_within rs i (missing creates none) = there (at created_with_deps rs i)
     there None e is = absurd (false≢true is)
     there (Some x) e is = at_within created_with_deps rs i x e
 
-pub first_found : (rs : List Record) (i : ℕ) → ((k : ℕ) → k < i → HasMisplacedDeps rs k → ⊥)
-    → HasMisplacedDeps rs i → IsFirstWith rs DepsPlace i
-first_found rs i before here = record {
-  within = misplaced_within rs i here;
-  has = deps_place here;
-  first = λ k less has. before k less (misplaced_of rs k has);
-}
-
-pub none_found : (rs : List Record) (n : ℕ) → ((k : ℕ) → k < n → HasMisplacedDeps rs k → ⊥) → length rs ≤ n
-    → IsFreeOf rs DepsPlace
-none_found rs n before all i has =
+pub all_misplaced : (rs : List Record) (n : ℕ) (places : List ℕ) → length rs ≡ n
+    → AreAllBelow (HasMisplacedDeps rs) n places → AreAllWith rs DepsPlace places
+all_misplaced rs n places long are =
+    all_with rs DepsPlace (HasMisplacedDeps rs) n places long (λ i here. deps_place here) (λ i has.
     let here = misplaced_of rs i has in
-    let within = misplaced_within rs i here in
-    before i (omega arith) here
+    (let within = misplaced_within rs i here in omega (arith, within, long), here)) are
 
 -- ---- a mark that was read
 

@@ -6,7 +6,7 @@ ghost use Rattle.ompt_events.specs.Faults.{IsFault};
 ghost use Rattle.task_tree.specs.Families.{IsOwnOf};
 ghost use Rattle.depend_edges.specs.Lists.{AreListed, AreListedOnce};
 
-use crate::placement::{find_marks, has_none, no_places};
+use crate::placement::{has_none, misplaced_dependences, no_places};
 use index_tables::Slot;
 use ompt_events::{Cause, Fault, exclude};
 use std::alloc::{AllocError, Global};
@@ -36,8 +36,8 @@ fn exclude_misplaced(alloc: Global, run: &Run) -> Result<(), Fault>
     ensures placed { OnOk result (IsFreeOf run.now.records DepsPlace) }
     ensures fault { IfErr result (IsFault run.now.records (DepsPlace ∷ [])) }
 {
-    let marks = find_marks(alloc, run)?;
-    exclude(Cause::DepsPlace, marks.first_misplaced())
+    let misplaced = misplaced_dependences(alloc, run)?;
+    exclude(Cause::DepsPlace, misplaced.first())
 }
 
 /// Returns by index of the task the place of its list. Requires that no task has two.

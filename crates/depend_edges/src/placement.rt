@@ -4,10 +4,11 @@ ghost use Rattle.ompt_events.specs.Places.{at as says_at};
 ghost use Rattle.ompt_events.specs.Records.{dependences};
 ghost use Rattle.ompt_events.specs.declared.cause.Cause.TheVariants.{DepsPlace};
 ghost use Rattle.ompt_events.specs.Causes.{IsNextInThread, HasMisplacedDeps};
-ghost use Rattle.ompt_events.specs.Faults.{FindsFirst};
+ghost use Rattle.ompt_events.specs.Shown.{AreAllWith};
 ghost use Rattle.depend_edges.specs.Placement.{AreLastOfThreads, AreListsMarked, BelongTogether, HasDependences, HasNoneAt};
 
 use index_tables::Slot;
+use ompt_events::Shown;
 use std::alloc::{AllocError, Global};
 use std::marker::Model;
 use task_tree::Run;
@@ -27,10 +28,20 @@ pub(crate) fn has_none(run: &Run) -> bool
     true
 }
 
+/// Returns the places of all records whose dependences are misplaced: those that list dependences of no task
+/// that the record before creates on the same thread, and those that create a task with dependences which
+/// the next one there does not list.
+pub fn misplaced_dependences(alloc: Global, run: &Run) -> Result<Shown, AllocError>
+    ensures { IfOk result (AreAllWith run.now.records DepsPlace) }
+{
+    let marks = find_marks(alloc, run)?;
+    marks.misplaced(alloc)
+}
+
 /// For each record of a run, whether it creates a task with dependences that follow, or lists those of the
 /// task that was created before it.
 #[derive(Drop)]
-pub(crate) struct Marks<'a> {
+struct Marks<'a> {
     run: Run<'a>,
     marks: Vec<bool>,
 }
@@ -48,16 +59,15 @@ impl<'a> Model for Marks<'a> {
 }
 
 impl Marks<'_> {
-    /// Returns the place of the first record whose dependences are misplaced.
-    pub(crate) fn first_misplaced(&self) -> Option<usize>
-        ensures { FindsFirst self.now.records DepsPlace result }
+    /// Returns the places of all records whose dependences are misplaced.
+    fn misplaced(&self, alloc: Global) -> Result<Shown, AllocError>
+        ensures { IfOk result (AreAllWith self.now.records DepsPlace) }
     {
+        let mut shown = Shown::none(alloc);
         for at in 0..self.run.len() {
-            if self.is_misplaced(at) {
-                return Some(at);
-            }
+            shown.note(at, self.is_misplaced(at))?;
         }
-        None
+        Ok(shown)
     }
 
     /// Returns whether the record creates a task with dependences, or lists some, and has no mark.
@@ -71,7 +81,7 @@ impl Marks<'_> {
 }
 
 /// Returns the marks of the run's records.
-pub(crate) fn find_marks<'a>(alloc: Global, run: &Run<'a>) -> Result<Marks<'a>, AllocError>
+fn find_marks<'a>(alloc: Global, run: &Run<'a>) -> Result<Marks<'a>, AllocError>
     ensures { IfOk result (λ marked. marked ≡ run.now) }
 {
     let mut last = no_places(alloc, THREADS)?;

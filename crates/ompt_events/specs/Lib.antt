@@ -24,4 +24,5 @@ pub mod Violations
 pub mod CauseNames
 pub mod Causes
 pub mod Upgrades
+pub mod Shown
 pub mod Faults

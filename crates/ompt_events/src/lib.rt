@@ -16,6 +16,7 @@ mod named;
 mod names;
 mod path;
 mod records;
+mod shown;
 mod state;
 mod trace;
 
@@ -29,5 +30,6 @@ pub use named::NamedTasks;
 pub use names::{DepKind, Endpoint, Status, SyncKind, ThreadKind, WaitKind, conflicts};
 pub use path::Path;
 pub use records::{Body, Claim, Membership, Part, Record, Turns, finish};
+pub use shown::Shown;
 pub use state::State;
 pub use trace::{MAX_DEPENDENCES, MAX_DEPTH, MAX_RECORDS, MAX_TASKS, Trace};

@@ -1,9 +1,13 @@
 -- When a record speaks for a task that its thread doesn't run.
-use Rattle.std.proofs.Common.{◌≡◌, ◌≢◌, ◌∙◌, ℕ, ◌<◌, ◌≤◌, Bool, true, false, List, length, take, Option, Some}
+use Rattle.std.proofs.Common.{◌+◌, get_or}
+use Rattle.std.proofs.Common.{◌≡◌, ◌≢◌, ◌∙◌, ℕ, ◌<◌, Bool, true, false, List, length, take, Option, Some}
 use Rattle.std.proofs.Common.{None, refl, sym, ap, subst, arith, inl, inr}
-use Rattle.std.proofs.lemmas.Bool.{false≢true}
+use Rattle.std.proofs.lemmas.Bool.{false≢true, cases_eq, and_parts}
+use Rattle.std.proofs.lemmas.List.{length-set, get_or-set_same, get_or-set_other, get_or-replicate}
+use Rattle.std.proofs.lemmas.List.{length-replicate}
+use Rattle.std.proofs.Math.ListN.{set}
 use Rattle.std.proofs.lemmas.Option.{none-some, same_Some, slice_get_within}
-use Rattle.std.specs.Prelude.{slice_get, IsSomeAnd, if◌then◌else◌}
+use Rattle.std.specs.Prelude.{◌↔◌, ◌&&◌, ◌||◌, not, IsTrue, replicate, slice_get, IsSomeAnd, if◌then◌else◌}
 use Rattle.ompt_events.specs.declared.records.Record.{Record}
 use Rattle.ompt_events.specs.declared.records.Body.{Body}
 use Rattle.ompt_events.specs.declared.records.Body.TheVariants.{ImplicitTask, TaskSchedule}
@@ -17,7 +21,9 @@ use Rattle.ompt_events.specs.Places.{thread_at}
 use Rattle.ompt_events.specs.Tree.{IsRoot, IsExplicit}
 use Rattle.ompt_events.specs.Threads.{Walk, walk_of, Misfits, not_running, not_innermost, other_root}
 use Rattle.ompt_events.specs.Threads.{other_parent, MisfitsAt}
-use Rattle.ompt_events.specs.Causes.{HasCause, not_current, IsFirstWith, IsFreeOf}
+use Rattle.ompt_events.specs.Causes.{HasCause, not_current, IsNotCurrent}
+use Rattle.ompt_events.specs.Shown.{AreAllBelow, AreAllWith}
+use Rattle.ompt_events.proofs.ShownLemmas.{all_with}
 use Rattle.ompt_events.proofs.ListLemmas.{contains_get, get_within}
 use Rattle.ompt_events.proofs.PlaceLemmas.{some_and}
 use Rattle.index_tables.specs.Numbering.{AreApart}
@@ -249,53 +255,213 @@ nothing_misfits rs w b (none, no_begin, no_end, no_run) (other_parent own i pare
 
 -- ---- the search
 
-misplaced : (rs : List Record) (i : ℕ) → HasCause rs i NotCurrent → MisfitsAt rs i
-misplaced rs i (not_current h) = h.misfits
+is_first : (rs : List Record) (i : ℕ) → HasCause rs i NotCurrent → IsNotCurrent rs i
+is_first rs i (not_current h) = h
 
 pub misfits_here : (run : RunView) (i thread : ℕ) (walk : Walk) (event : ThreadEvent) → IsRun run
     → i < length run.records → thread_at run.records i ≡ Some thread → IsThreadEvent run i event
     → IsIndexed run.family.tasks walk (walk_of thread (take i run.records))
-    → ((k : ℕ) → k < i → MisfitsAt run.records k → ⊥) → EventMisfits run walk event
-    → IsFirstWith run.records NotCurrent i
-misfits_here run i thread walk event is within runs tells at_w free h =
+    → EventMisfits run walk event → MisfitsAt run.records i
+misfits_here run i thread walk event is within runs tells at_w h =
     let rs = run.records in
     let (r, stands) = get_within rs i within in
     let P : ℕ → Type 0 = λ t. IsIndexed run.family.tasks walk (walk_of t (take i rs)) in
-    let misfit : Misfits rs (walk_of r.thread (take i rs)) r.body =
-    event_misfits run walk (walk_of r.thread (take i rs)) event r.body is
-    (told_there run i r event stands tells)
-    (subst P (sym (thread_there run i thread r stands runs)) at_w) h in
     record {
-      within = within;
-      has =
-          not_current
-          (record {
-            misfits = record { the_record = r; stands = stands; misfits = misfit };
-            first = λ k below same. free k below;
-          });
-      first = λ k below has. free k below (misplaced rs k has);
+      the_record = r;
+      stands = stands;
+      misfits =
+          event_misfits run walk (walk_of r.thread (take i rs)) event r.body is
+          (told_there run i r event stands tells)
+          (subst P (sym (thread_there run i thread r stands runs)) at_w) h;
     }
 
-pub fits_here : (run : RunView) (i thread : ℕ) (walk : Walk) (event : ThreadEvent) → IsRun run
+-- and back
+pub misfits_there : (run : RunView) (i thread : ℕ) (walk : Walk) (event : ThreadEvent) → IsRun run
     → thread_at run.records i ≡ Some thread → IsThreadEvent run i event
     → IsIndexed run.family.tasks walk (walk_of thread (take i run.records))
-    → (EventMisfits run walk event → ⊥) → MisfitsAt run.records i → ⊥
-fits_here run i thread walk event is runs tells at_w fits h =
+    → MisfitsAt run.records i → EventMisfits run walk event
+misfits_there run i thread walk event is runs tells at_w h =
     let rs = run.records in
     let r = h.the_record in
     let P : ℕ → Type 0 = λ t. IsIndexed run.family.tasks walk (walk_of t (take i rs)) in
-    fits
-    (misfits_event run walk (walk_of r.thread (take i rs)) event r.body is
+    misfits_event run walk (walk_of r.thread (take i rs)) event r.body is
     (told_there run i r event h.stands tells)
-    (subst P (sym (thread_there run i thread r h.stands runs)) at_w) h.misfits)
+    (subst P (sym (thread_there run i thread r h.stands runs)) at_w) h.misfits
 
 pub nothing_fits : (run : RunView) (i : ℕ) → IsNoThreadEvent run i → MisfitsAt run.records i → ⊥
 nothing_fits run i nothing h =
     nothing_misfits run.records (walk_of h.the_record.thread (take i run.records)) h.the_record.body
     (nothing_there run i h.the_record h.stands nothing) h.misfits
 
-pub free_of_misfits : (rs : List Record) (n : ℕ) → ((k : ℕ) → k < n → MisfitsAt rs k → ⊥) → length rs ≤ n
-    → IsFreeOf rs NotCurrent
-free_of_misfits rs n free all i has =
-    let h = misplaced rs i has in
-    free i (let inside = slice_get_within rs i h.the_record h.stands in omega arith) h
+-- ---- which threads have had a misfit
+
+-- one of the first n records is of the thread and misfits
+pub record HasMisfit (rs : List Record) (n thread : ℕ) : Type 0 where
+  pub place : ℕ
+  pub below : place < n
+  pub runs : thread_at rs place ≡ Some thread
+  pub misfits : MisfitsAt rs place
+
+-- it is marked which threads have had one
+pub record AreMarked (rs : List Record) (n : ℕ) (marks : List Bool) : Type 0 where
+  pub all : length marks ≡ 256
+  pub each : (thread : ℕ) → thread < 256 → IsTrue (get_or marks thread false) ↔ HasMisfit rs n thread
+
+pub none_marked : (rs : List Record) (marks : List Bool) → marks ≡ replicate 256 false → AreMarked rs 0 marks
+none_marked rs marks fresh = record {
+  all = ap length fresh ∙ length-replicate 256 false;
+  each = λ thread low. (
+    λ yes.
+        absurd
+        (false≢true
+        (sym (ap (λ l. get_or l thread false) fresh ∙ get_or-replicate 256 thread false false low) ∙ yes)),
+    λ has. absurd (let below = has.below in omega (arith, below)),
+  );
+}
+
+-- a record that fits
+pub marked_still : (rs : List Record) (i : ℕ) (marks : List Bool) → (MisfitsAt rs i → ⊥)
+    → AreMarked rs i marks → AreMarked rs (i + 1) marks
+marked_still rs i marks fits are = record {
+  all = are.all;
+  each = λ thread low. (
+    λ yes.
+        let has = (are.each thread low).0 yes in
+        record {
+          place = has.place;
+          below = let below = has.below in omega (arith, below);
+          runs = has.runs;
+          misfits = has.misfits;
+        },
+    λ has. (are.each thread low).1 (before thread has),
+  );
+}
+  where
+    before : (thread : ℕ) → HasMisfit rs (i + 1) thread → HasMisfit rs i thread
+    before thread has = elim (cases_eq has.place i) [
+      | inl same ↦ let P : ℕ → Type 0 = MisfitsAt rs in absurd (fits (subst P same has.misfits))
+      | inr apart ↦
+          record {
+            place = has.place;
+            below = let below = has.below in omega (arith, below, apart);
+            runs = has.runs;
+            misfits = has.misfits;
+          }
+    ]
+
+-- a record of the thread that misfits, or fits
+pub marked_more : (rs : List Record) (i thread : ℕ) (misfit : Bool) (marks : List Bool) → thread < 256
+    → thread_at rs i ≡ Some thread → IsTrue misfit ↔ MisfitsAt rs i → AreMarked rs i marks
+    → AreMarked rs (i + 1) (set marks thread (get_or marks thread false || misfit))
+marked_more rs i thread misfit marks low runs is are = record {
+  all = length-set marks thread mark ∙ are.all;
+  each = λ other low_other. elim (cases_eq other thread) [
+    | inl same ↦
+        let P : Bool → Type 0 = λ b. IsTrue b ↔ HasMisfit rs (i + 1) other in
+        subst P
+        (sym
+        (ap (λ t. get_or (set marks thread mark) t false) same
+        ∙ get_or-set_same marks thread mark false (rw are.all low)))
+        (subst (λ t. IsTrue mark ↔ HasMisfit rs (i + 1) t) (sym same) mine)
+    | inr apart ↦
+        let P : Bool → Type 0 = λ b. IsTrue b ↔ HasMisfit rs (i + 1) other in
+        subst P (sym (get_or-set_other marks thread other mark false apart)) (
+          λ yes. later other ((are.each other low_other).0 yes),
+          λ has. (are.each other low_other).1 (others other apart has),
+        )
+  ];
+}
+  where
+    mark : Bool
+    mark = get_or marks thread false || misfit
+
+    later : (other : ℕ) → HasMisfit rs i other → HasMisfit rs (i + 1) other
+    later other has = record {
+      place = has.place;
+      below = let below = has.below in omega (arith, below);
+      runs = has.runs;
+      misfits = has.misfits;
+    }
+
+    others : (other : ℕ) → other ≢ thread → HasMisfit rs (i + 1) other → HasMisfit rs i other
+    others other apart has = elim (cases_eq has.place i) [
+      | inl same ↦
+          absurd (apart (same_Some other thread (sym has.runs ∙ ap (thread_at rs) same ∙ runs)))
+      | inr earlier ↦
+          record {
+            place = has.place;
+            below = let below = has.below in omega (arith, below, earlier);
+            runs = has.runs;
+            misfits = has.misfits;
+          }
+    ]
+
+    either : (before now : Bool) → (IsTrue before → HasMisfit rs (i + 1) thread)
+        → (IsTrue now → HasMisfit rs (i + 1) thread) → IsTrue (before || now) → HasMisfit rs (i + 1) thread
+    either true now old new so = old refl
+    either false now old new so = new so
+
+    or_left : (a b : Bool) → IsTrue a → IsTrue (a || b)
+    or_left true b so = refl
+    or_left false b so = absurd (false≢true so)
+
+    or_right : (a b : Bool) → IsTrue b → IsTrue (a || b)
+    or_right true b so = refl
+    or_right false b so = so
+
+    mine : IsTrue mark ↔ HasMisfit rs (i + 1) thread
+    mine = (
+      either (get_or marks thread false) misfit (λ old. later thread ((are.each thread low).0 old))
+          (λ new. record { place = i; below = omega arith; runs = runs; misfits = is.0 new }),
+      λ has. elim (cases_eq has.place i) [
+        | inl same ↦
+            let P : ℕ → Type 0 = MisfitsAt rs in
+            or_right (get_or marks thread false) misfit (is.1 (subst P same has.misfits))
+        | inr earlier ↦
+            or_left (get_or marks thread false) misfit
+            ((are.each thread low).1 (record {
+              place = has.place;
+              below = let below = has.below in omega (arith, below, earlier);
+              runs = has.runs;
+              misfits = has.misfits;
+            }))
+      ],
+    )
+
+-- the record is the first one of its thread that misfits
+pub first_misfit : (rs : List Record) (i thread : ℕ) (misfit : Bool) (marks : List Bool) → thread < 256
+    → thread_at rs i ≡ Some thread → IsTrue misfit ↔ MisfitsAt rs i → AreMarked rs i marks
+    → IsTrue (misfit && not (get_or marks thread false)) ↔ IsNotCurrent rs i
+first_misfit rs i thread misfit marks low runs is are = (
+  λ yes.
+      let (here, fresh) = and_parts misfit (not (get_or marks thread false)) yes in
+      record {
+        misfits = is.0 here;
+        first =
+            λ k below same other.
+            let marked : IsTrue (get_or marks thread false) =
+            (are.each thread low).1
+            (record { place = k; below = below; runs = same ∙ runs; misfits = other }) in
+            false≢true (sym (ap not marked) ∙ fresh);
+      },
+  λ first. both misfit (get_or marks thread false) (is.1 first.misfits)
+      (λ marked.
+      let has = (are.each thread low).0 marked in
+      first.first has.place has.below (has.runs ∙ sym runs) has.misfits),
+)
+  where
+    both : (a b : Bool) → IsTrue a → (IsTrue b → ⊥) → IsTrue (a && not b)
+    both true true so none = absurd (none refl)
+    both true false so none = refl
+    both false b so none = absurd (false≢true so)
+
+-- the places that were found up to the end are all
+pub all_misfits : (rs : List Record) (n : ℕ) (places : List ℕ) → length rs ≡ n
+    → AreAllBelow (IsNotCurrent rs) n places → AreAllWith rs NotCurrent places
+all_misfits rs n places all are =
+    all_with rs NotCurrent (IsNotCurrent rs) n places all (λ i first. not_current first)
+    (λ i has.
+    let first = is_first rs i has in
+    let inside = slice_get_within rs i first.misfits.the_record first.misfits.stands in
+    (omega (arith, inside, all), first))
+    are

@@ -1,3 +1,4 @@
+mod ListingLemmas
 mod NumberingLemmas
 mod TargetLemmas
 mod WalkLemmas
@@ -9,6 +10,7 @@ pub mod OriginLemmas
 mod PassLemmas
 pub mod HomeLemmas
 pub mod RootLemmas
+mod MetLemmas
 mod MovedLemmas
 pub mod RowLemmas
 mod TurnEdgeLemmas

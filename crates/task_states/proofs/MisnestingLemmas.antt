@@ -1,5 +1,5 @@
 -- Which roots begin inside another one, of a region that the current task of their thread has not begun.
-use Rattle.std.proofs.Common.{◌≡◌, ◌≢◌, ◌∙◌, ℕ, ◌<◌, ◌≤◌, ◌+◌, ◌*◌, ◌/◌, ◌%◌, ◌^◌, List, [], length, take}
+use Rattle.std.proofs.Common.{◌≡◌, ◌≢◌, ◌∙◌, ℕ, ◌<◌, ◌+◌, ◌*◌, ◌/◌, ◌%◌, ◌^◌, List, [], length, take}
 use Rattle.std.proofs.Common.{get_or}
 use Rattle.std.proofs.Common.{Option, Some, None, Bool, true, false, refl, sym, ap, subst, arith, rules}
 use Rattle.std.proofs.Common.{inl, inr}
@@ -24,7 +24,9 @@ use Rattle.ompt_events.specs.Records.{forked, joined, begun_initial}
 use Rattle.ompt_events.specs.Places.{at, thread_at, nests_at}
 use Rattle.ompt_events.specs.Threads.{Walk, walk_of}
 use Rattle.ompt_events.specs.Causes.{IsWalkAt, HasBegun, IsMisnested, other_region, other_league, HasCause}
-use Rattle.ompt_events.specs.Causes.{region_nesting, forked_twice, IsFirstWith, IsFreeOf}
+use Rattle.ompt_events.specs.Causes.{region_nesting, forked_twice, IsFreeOf}
+use Rattle.ompt_events.specs.Shown.{AreAllBelow, AreAllWith}
+use Rattle.ompt_events.proofs.ShownLemmas.{all_with}
 use Rattle.ompt_events.proofs.PlaceLemmas.{some_and, and_some, some_of}
 use Rattle.task_tree.specs.Runs.{RunView, IsRun, IsFork}
 use Rattle.task_tree.proofs.SubjectLemmas.{call_index, call_task}
@@ -554,19 +556,15 @@ nest_at rs i nests all is within = nests_all rs nests i all within ∙ is
 is_misnested : (rs : List Record) (i : ℕ) → HasCause rs i RegionNesting → IsMisnested rs i
 is_misnested rs i (region_nesting h) = h
 
-pub first_misnested : (rs : List Record) (i : ℕ) → ((k : ℕ) → k < i → IsMisnested rs k → ⊥)
-    → IsMisnested rs i → IsFirstWith rs RegionNesting i
-first_misnested rs i before here = record {
-  within = misnested_within rs i here;
-  has = region_nesting here;
-  first = λ k low has. before k low (is_misnested rs k has);
-}
-
-pub free_of_misnested : (rs : List Record) (n : ℕ) → ((k : ℕ) → k < n → IsMisnested rs k → ⊥)
-    → length rs ≤ n → IsFreeOf rs RegionNesting
-free_of_misnested rs n none all i has =
+-- the places that were found up to the end are all
+pub all_misnested : (rs : List Record) (n : ℕ) (places : List ℕ) → length rs ≡ n
+    → AreAllBelow (IsMisnested rs) n places → AreAllWith rs RegionNesting places
+all_misnested rs n places all are =
+    all_with rs RegionNesting (IsMisnested rs) n places all (λ i here. region_nesting here)
+    (λ i has.
     let here = is_misnested rs i has in
-    none i (let inside = misnested_within rs i here in omega arith) here
+    let inside = misnested_within rs i here in (omega (arith, inside, all), here))
+    are
 
 pub free_where_none_nest : (rs : List Record) → All (λ (r : Record). r.nests ≡ false) rs
     → IsFreeOf rs RegionNesting

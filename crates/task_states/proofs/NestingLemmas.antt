@@ -1,5 +1,5 @@
 -- Which records put a parallel region inside another.
-use Rattle.std.proofs.Common.{◌≡◌, ◌≢◌, ◌∙◌, ℕ, ◌<◌, ◌≤◌, ◌+◌, List, [], ◌∷◌, length, take, drop, get_or}
+use Rattle.std.proofs.Common.{◌≡◌, ◌≢◌, ◌∙◌, ℕ, ◌<◌, ◌+◌, List, [], ◌∷◌, length, take, drop, get_or}
 use Rattle.std.proofs.Common.{Option, Some, None, Bool, true, false, cond, refl, sym, ap, subst, arith, inl}
 use Rattle.std.proofs.Common.{inr, ◌⊎◌, rules}
 use Rattle.std.proofs.lemmas.Bool.{false≢true, cases_eq}
@@ -23,8 +23,10 @@ use Rattle.ompt_events.specs.Teams.{IsInitial, IsMember}
 use Rattle.ompt_events.specs.Names.{demands_next}
 use Rattle.ompt_events.specs.Threads.{Walk, at_start, after_body, after_record, walk_of}
 use Rattle.ompt_events.specs.Causes.{IsWalkAt, IsNested, forked_inside, joined_inside, initial_inside}
-use Rattle.ompt_events.specs.Causes.{HasCause, nested_parallel, IsFirstWith, IsFreeOf}
+use Rattle.ompt_events.specs.Causes.{HasCause, nested_parallel, IsFreeOf}
 use Rattle.ompt_events.specs.Causes.{IsMisnested, other_region, other_league}
+use Rattle.ompt_events.specs.Shown.{AreAllBelow, AreAllWith}
+use Rattle.ompt_events.proofs.ShownLemmas.{all_with}
 use Rattle.ompt_events.proofs.PlaceLemmas.{at_within, at_get, get_at, some_and, and_some, some_of}
 use Rattle.ompt_events.proofs.ThreadLemmas.{AreWalks, walks_more, walk_is}
 use Rattle.ompt_events.proofs.ListLemmas.{get_within}
@@ -461,16 +463,42 @@ free_where_all_nest rs all i has =
 
 -- ---- the search
 
-pub first_nested : (rs : List Record) (i : ℕ) → ((k : ℕ) → k < i → IsNested rs k → ⊥) → IsNested rs i
-    → IsFirstWith rs NestedParallel i
-first_nested rs i before here = record {
-  within = nested_within rs i here;
-  has = nested_parallel here;
-  first = λ k low has. before k low (is_nested rs k has);
-}
+-- a record that begins or ends a root begins no region
+pub root_forks : (run : RunView) (i : ℕ) (event : ThreadEvent) → IsRootEvent run i event
+    → ForksInside run.records i → ⊥
+root_forks run i event is h = roots event is
+  where
+    says : (p : ℕ × ℕ) × (at forked run.records i ≡ Some p) × (IsInitial run.records p.0 → ⊥)
+    says = some_and (at forked run.records i) (λ (p : ℕ × ℕ). IsInitial run.records p.0 → ⊥) h
 
-pub free_of_nested : (rs : List Record) (n : ℕ) → ((k : ℕ) → k < n → IsNested rs k → ⊥) → length rs ≤ n
-    → IsFreeOf rs NestedParallel
-free_of_nested rs n none all i has =
+    not_begun : (b : Body) (task : ℕ) (p : ℕ × ℕ) → begun_root b ≡ Some task → forked b ≡ Some p → ⊥
+    not_begun (ImplicitTask Begin actual index flags parallel own) task p begins forks = none-some p forks
+    not_begun _ task p begins forks = none-some task begins
+
+    not_ended : (b : Body) (task : ℕ) (p : ℕ × ℕ) → ended_root b ≡ Some task → forked b ≡ Some p → ⊥
+    not_ended (ImplicitTask End actual index flags parallel own) task p ends forks = none-some p forks
+    not_ended _ task p ends forks = none-some task ends
+
+    roots : (event : ThreadEvent) → IsRootEvent run i event → ⊥
+    roots (RootBegin index) is =
+        let (task, begins, stands) =
+        call_task run.family.tasks (at begun_root run.records i) (Some index) index is refl in
+        let (r, there, forks) = get_at forked run.records i says.0 says.1 in
+        not_begun r.body task says.0 (sym (at_get begun_root run.records i r there) ∙ begins) forks
+    roots (RootEnd index) is =
+        let (task, ends, stands) =
+        call_task run.family.tasks (at ended_root run.records i) (Some index) index is refl in
+        let (r, there, forks) = get_at forked run.records i says.0 says.1 in
+        not_ended r.body task says.0 (sym (at_get ended_root run.records i r there) ∙ ends) forks
+    roots (Scheduled event) is = absurd is
+    roots (Running index) is = absurd is
+
+-- the places that were found up to the end are all
+pub all_nested : (rs : List Record) (n : ℕ) (places : List ℕ) → length rs ≡ n
+    → AreAllBelow (IsNested rs) n places → AreAllWith rs NestedParallel places
+all_nested rs n places all are =
+    all_with rs NestedParallel (IsNested rs) n places all (λ i here. nested_parallel here)
+    (λ i has.
     let here = is_nested rs i has in
-    none i (let inside = nested_within rs i here in omega arith) here
+    let inside = nested_within rs i here in (omega (arith, inside, all), here))
+    are

@@ -1,13 +1,15 @@
 -- How the records of each thread are counted, and when one breaks its thread's count.
 use Rattle.std.proofs.Common.{◌≡◌, ◌≢◌, ◌∙◌, ℕ, ◌<◌, ◌≤◌, ◌+◌, ◌==◌, List, length, take, get_or, set, arith}
 use Rattle.std.proofs.Common.{sym, ap, subst, get_or-set_other, get_or-set_same, eq-eqb, inl, inr}
-use Rattle.std.specs.Prelude.{count_by}
-use Rattle.std.proofs.lemmas.Bool.{cases_eq, ne_eqb}
+use Rattle.std.specs.Prelude.{◌↔◌, IsTrue, not, count_by}
+use Rattle.std.proofs.lemmas.Bool.{cases_eq, ne_eqb, false≢true}
 use Rattle.std.proofs.lemmas.List.Sums.{count_by_more_yes, count_by_more_no}
 use Rattle.std.proofs.lemmas.Option.{slice_get_within, same_Some}
 use Rattle.ompt_events.specs.declared.records.Record.{Record}
 use Rattle.ompt_events.proofs.PlaceLemmas.{read_get}
 use Rattle.ompt_events.specs.declared.cause.Cause.TheVariants.{SeqGap}
+use Rattle.ompt_events.specs.Shown.{AreAllBelow, AreAllWith}
+use Rattle.ompt_events.proofs.ShownLemmas.{all_with}
 use Rattle.ompt_events.specs.Causes.{HasCause, HasSeqGap, seq_gap, IsFirstWith, IsFreeOf}
 
 -- how many records of the thread stand before i
@@ -68,3 +70,28 @@ free_of_gaps rs i free end k has =
     let gap = is_seq_gap rs k has in
     let within : k < length rs = slice_get_within rs k gap.0 gap.1 in
     free k (omega arith) gap
+
+-- whether the record that was read has another number
+pub other_number : (rs : List Record) (i : ℕ) (r : Record) (seq count : ℕ) → i < length rs
+    → r ≡ get_or rs i r → r.seq ≡ seq → count ≡ thread_records_before rs i r.thread
+    → IsTrue (not (seq == count)) ↔ HasSeqGap rs i
+other_number rs i r seq count within read number counted = (
+  λ yes. (
+    r,
+    read_get rs i r within read,
+    λ same.
+        false≢true
+        (sym (ap not (eq-eqb seq count (sym number ∙ same ∙ sym counted))) ∙ yes),
+  ),
+  λ has. ap not (ne_eqb seq count (λ same. no_seq_gap rs i r within read (number ∙ same ∙ counted) has)),
+)
+
+-- the places that were found up to the end are all
+pub all_gaps : (rs : List Record) (n : ℕ) (places : List ℕ) → length rs ≡ n
+    → AreAllBelow (HasSeqGap rs) n places → AreAllWith rs SeqGap places
+all_gaps rs n places all are =
+    all_with rs SeqGap (HasSeqGap rs) n places all (λ i gap. seq_gap gap)
+    (λ i has.
+    let gap = is_seq_gap rs i has in
+    let inside = slice_get_within rs i gap.0 gap.1 in (omega (arith, inside, all), gap))
+    are

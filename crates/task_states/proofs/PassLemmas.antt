@@ -1,13 +1,16 @@
 -- What a pass over the records has read, one record on.
 use Rattle.std.proofs.Common.{◌≡◌, ◌∙◌, ℕ, zero, suc, ◌+◌, List, [], ◌∷◌, ◌++◌, length, Option, Some, None}
-use Rattle.std.proofs.Common.{Bool, true, false, cond, take, refl, sym, ap, subst, arith, inl, inr, ◌<◌}
+use Rattle.std.proofs.Common.{Bool, true, false, cond, take, get_or, refl, sym, ap, subst, arith, inl, inr}
+use Rattle.std.proofs.Common.{◌<◌}
 use Rattle.std.proofs.lemmas.Option.{slice_get-map, slice_get_within, get_or_from_slice_get, none-some}
 use Rattle.std.proofs.lemmas.Option.{same_Some}
 use Rattle.std.proofs.lemmas.Bool.{cases_eq, false≢true}
-use Rattle.std.proofs.lemmas.List.{length-map, append-nil, append_assoc, take_more}
+use Rattle.std.proofs.lemmas.List.{length-replicate, get_or-replicate, length-map, append-nil, append_assoc}
+use Rattle.std.proofs.lemmas.List.{take_more}
 use Rattle.std.proofs.lemmas.List.Elements.{All-push, filter-append}
 use Rattle.std.proofs.lemmas.Grind.{flat_map-append}
-use Rattle.std.specs.Prelude.{◌==◌, ◌&&◌, not, map, option_map, filter, slice_get, option_and_then, is_some}
+use Rattle.std.specs.Prelude.{replicate, ◌==◌, ◌&&◌, not, map, option_map, filter, slice_get, option_and_then}
+use Rattle.std.specs.Prelude.{is_some}
 use Rattle.std.specs.List.{flat_map, range_with_len}
 use Rattle.std.specs.Option.{option_map_or}
 use Rattle.ompt_events.specs.declared.records.Record.{Record}
@@ -494,9 +497,11 @@ state_at_first nature = Some (first_state (the_nature nature))
 
 -- before any move each task has its first state
 pub come_new : (rs : List Record) (tasks : List ℕ) (natures : List code.Nature) (states : List (Option State))
+    (marks : List Bool) (count : ℕ)
     → states ≡ map state_at_first natures → length natures ≡ length tasks → AreNatures rs tasks natures
-    → HasCome rs tasks (λ _. []) (record { states = states; refused = None })
-come_new rs tasks natures states is all are = record {
+    → marks ≡ replicate count false
+    → HasCome rs tasks (λ _. []) (record { states = states; refused = None; marks = marks })
+come_new rs tasks natures states marks count is all are unmarked = record {
   all = ap length is ∙ length-map natures state_at_first ∙ all;
   each = λ i task stands.
       let (nature, there, same) = are i task stands in
@@ -504,4 +509,13 @@ come_new rs tasks natures states is all are = record {
       ∙ ap (option_map state_at_first) there ∙ ap (λ k. Some (Some (first_state k))) same;
   found = λ i says. absurd (none-some i says);
   least = λ task i known refuses. absurd (none-some (i, refuses.move) refuses.made_there);
+  marked = λ i within. (
+    λ so.
+        let low : i < count =
+        subst (λ n. i < n) (ap length unmarked ∙ length-replicate count false) within in
+        absurd
+        (false≢true
+        (sym (ap (λ l. get_or l i false) unmarked ∙ get_or-replicate count i false false low) ∙ so)),
+    λ (task, known, refuses). absurd (none-some (i, refuses.move) refuses.made_there),
+  );
 }

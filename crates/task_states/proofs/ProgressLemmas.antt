@@ -5,22 +5,22 @@ use Rattle.std.proofs.Common.{inr, ◌⊎◌}
 use Rattle.std.proofs.lemmas.Bool.{cases_eq, cases_lt, eq-eqb, ne_eqb, false≢true, lt-ltb, le-ltb}
 use Rattle.std.proofs.lemmas.Option.{none-some, same_Some, slice_get_within, get_or_from_slice_get}
 use Rattle.std.proofs.lemmas.List.{get_or_default, append-nil, length-set, length_push, take-append-le}
-use Rattle.std.proofs.lemmas.List.{take_all}
+use Rattle.std.proofs.lemmas.List.{take_all, get_or-set_same, get_or-set_other}
 use Rattle.std.proofs.Math.Seq.{take-length}
 use Rattle.std.proofs.lemmas.List.Sums.{fold_push}
 use Rattle.std.proofs.Math.ListN.{set}
-use Rattle.std.specs.Prelude.{◌==◌, ◌&&◌, is_some, slice_get, Contains, IsSomeAnd}
+use Rattle.std.specs.Prelude.{◌==◌, ◌&&◌, IsTrue, is_some, slice_get, Contains, IsSomeAnd}
 use Rattle.ompt_events.specs.declared.records.Record.{Record}
 use Rattle.ompt_events.specs.declared.state.State.{State}
 use Rattle.ompt_events.specs.States.{Move, Nature, nature_of, state_of, state_after}
-use Rattle.ompt_events.proofs.ListLemmas.{get_pushed, get_last, pushed_cases}
+use Rattle.ompt_events.proofs.ListLemmas.{get_pushed, get_last, pushed_cases, get_contains}
 use Rattle.task_states.specs.declared.progress.Pass.{Pass}
 use Rattle.index_tables.specs.Numbering.{AreApart}
 use Rattle.task_tree.proofs.LinkLemmas.{get_set_same, get_set_other}
 use Rattle.task_states.specs.declared.moves.Nature as code
 use Rattle.task_states.specs.declared.moves.Move as steps
 use Rattle.task_states.specs.Progress.{the_nature, the_move, is_read, and_move, ProgressView, HasCome}
-use Rattle.task_states.specs.Progress.{IsMoveRefused, earlier_of, refused_after}
+use Rattle.task_states.specs.Progress.{IsMoveRefused, earlier_of, refused_after, marks_after}
 
 -- ---- the first move that is refused
 
@@ -154,6 +154,44 @@ after_new refused None after at is none = absurd (false≢true is)
 after_new refused (Some state) (Some next) at is none = absurd (none-some next (sym none))
 after_new refused (Some state) None at is none = earlier_at refused at
 
+-- ---- the marks
+
+mark_long : (marks : List Bool) (before after : Option State) (at : ℕ)
+    → length (marks_after marks before after at) ≡ length marks
+mark_long marks None after at = refl
+mark_long marks (Some state) (Some next) at = refl
+mark_long marks (Some state) None at = length-set marks at true
+
+-- what is marked stays so
+mark_kept : (marks : List Bool) (before after : Option State) (at i : ℕ) → i < length marks
+    → IsTrue (get_or marks i false) → IsTrue (get_or (marks_after marks before after at) i false)
+mark_kept marks None after at i within so = so
+mark_kept marks (Some state) (Some next) at i within so = so
+mark_kept marks (Some state) None at i within so = elim (cases_eq i at) [
+  | inl same ↦
+      ap (λ k. get_or (set marks at true) k false) same
+      ∙ get_or-set_same marks at true false (subst (λ k. k < length marks) same within)
+  | inr apart ↦ get_or-set_other marks at i true false apart ∙ so
+]
+
+-- a move that is refused is marked
+mark_new : (marks : List Bool) (before after : Option State) (at : ℕ) → at < length marks
+    → is_some before ≡ true → after ≡ None → IsTrue (get_or (marks_after marks before after at) at false)
+mark_new marks None after at within is none = absurd (false≢true is)
+mark_new marks (Some state) (Some next) at within is none = absurd (none-some next (sym none))
+mark_new marks (Some state) None at within is none = get_or-set_same marks at true false within
+
+-- and nothing else
+mark_cases : (marks : List Bool) (before after : Option State) (at i : ℕ)
+    → IsTrue (get_or (marks_after marks before after at) i false)
+    → IsTrue (get_or marks i false) ⊎ ((at ≡ i) × (is_some before ≡ true) × (after ≡ None))
+mark_cases marks None after at i so = inl so
+mark_cases marks (Some state) (Some next) at i so = inl so
+mark_cases marks (Some state) None at i so = elim (cases_eq at i) [
+  | inl same ↦ inr (same, refl, refl)
+  | inr apart ↦ inl (sym (get_or-set_other marks at i true false (λ e. apart (sym e))) ∙ so)
+]
+
 -- ---- all tasks
 
 -- the moves, and one more of this task
@@ -177,8 +215,11 @@ pub went_on : (rs : List Record) (tasks : List ℕ) (index task at : ℕ) (natur
     → new.refused
     ≡ refused_after old.refused (get_or old.states index None)
     (state_after nature (get_or old.states index None) (at, move)) at
+    → new.marks
+    ≡ marks_after old.marks (get_or old.states index None)
+    (state_after nature (get_or old.states index None) (at, move)) at
     → HasCome rs tasks moves old → HasCome rs tasks (and_one task (at, move) moves) new
-went_on rs tasks index task at nature move moves old new alone stands is states refused come = record {
+went_on rs tasks index task at nature move moves old new alone stands is states refused marks come = record {
   all = ap length states ∙ length-set old.states index after ∙ come.all;
   each = λ n other is_other. elim (cases_eq n index) [
     | inl same ↦
@@ -226,6 +267,24 @@ went_on rs tasks index task at nature move moves old new alone stands is states 
         (subst (λ l. IsMoveRefused (nature_of rs other) l i)
         (others task other (at, move) moves apart) refuses)))
   ];
+  marked = λ i within.
+      let low : i < length old.marks =
+      subst (λ n. i < n) (ap length marks ∙ mark_long old.marks before after at) within in (
+        λ so. elim (mark_cases old.marks before after at i (sym (ap (λ l. get_or l i false) marks) ∙ so)) [
+          | inl still ↦
+              let (other, known, refuses) = (come.marked i low).0 still in
+              (other, known, kept other i refuses)
+          | inr (here, was, none) ↦ (
+            task,
+            get_contains tasks task index stands,
+            subst (λ l. IsMoveRefused (nature_of rs task) l i) (sym (own task (at, move) moves))
+                (subst (λ k. IsMoveRefused (nature_of rs task) (moves task ++ (at, move) ∷ []) k) here
+                (last i here was none)),
+          )
+        ],
+        λ (other, known, refuses).
+            ap (λ l. get_or l i false) marks ∙ marked_there i low other known refuses,
+      );
 }
   where
     before : Option State
@@ -258,6 +317,34 @@ went_on rs tasks index task at nature move moves old new alone stands is states 
     last i here was none =
         refused_last (nature_of rs task) (moves task) at move (sym (ap is_some stood) ∙ was)
         (sym afterwards ∙ none)
+
+    marked_there : (i : ℕ) → i < length old.marks → (other : ℕ) → Contains tasks other
+        → IsMoveRefused (nature_of rs other) (and_one task (at, move) moves other) i
+        → IsTrue (get_or (marks_after old.marks before after at) i false)
+    marked_there i low other known refuses = elim (cases_eq task other) [
+      | inl same ↦
+          elim
+          (refused_cases (nature_of rs task) (moves task) i at move
+          (subst (λ l. IsMoveRefused (nature_of rs task) l i) (own task (at, move) moves)
+          (subst (λ t. IsMoveRefused (nature_of rs t) (and_one task (at, move) moves t) i) (sym same)
+          refuses))) [
+            | inl before_it ↦
+                mark_kept old.marks before after at i low
+                ((come.marked i low).1 (task, subst (Contains tasks) (sym same) known, before_it))
+            | inr (here, was, none) ↦
+                subst (λ k. IsTrue (get_or (marks_after old.marks before after at) k false)) (sym here)
+                (mark_new old.marks before after at (subst (λ k. k < length old.marks) here low)
+                (ap is_some stood ∙ was) (afterwards ∙ none))
+          ]
+      | inr apart ↦
+          mark_kept old.marks before after at i low
+          ((come.marked i low).1 (
+            other,
+            known,
+            subst (λ l. IsMoveRefused (nature_of rs other) l i)
+                (others task other (at, move) moves apart) refuses,
+          ))
+    ]
 
     kept : (other i : ℕ) → IsMoveRefused (nature_of rs other) (moves other) i
         → IsMoveRefused (nature_of rs other) (and_one task (at, move) moves other) i
@@ -301,6 +388,19 @@ refused_gone nature step states index at state after inside now before is same f
     ∙ ap (λ a. refused_after now (Some state) a at) is
     ∙ ap (λ s. refused_after now s (state_after (the_nature nature) s (at, the_move step)) at) (sym before)
 
+pub marks_gone : (nature : code.Nature) (step : steps.Move) (states : List (Option State)) (index at : ℕ)
+    (state : State) (after : Option State) (inside now : List Bool) {result : List Bool}
+    → get_or states index None ≡ Some state
+    → after ≡ state_after (the_nature nature) (Some state) (at, the_move step) → inside ≡ now
+    → result ≡ marks_after inside (Some state) after at
+    → result
+    ≡ marks_after now (get_or states index None)
+    (state_after (the_nature nature) (get_or states index None) (at, the_move step)) at
+marks_gone nature step states index at state after inside now before is same first =
+    first ∙ ap (λ r. marks_after r (Some state) after at) same
+    ∙ ap (λ a. marks_after now (Some state) a at) is
+    ∙ ap (λ s. marks_after now s (state_after (the_nature nature) s (at, the_move step)) at) (sym before)
+
 -- ---- what a pass reads
 
 -- the same moves, the same progress
@@ -320,6 +420,14 @@ come_same rs tasks moves moves' progress same come = record {
   least =
       λ task i known refuses.
       come.least task i known (subst (λ l. IsMoveRefused (nature_of rs task) l i) (same task) refuses);
+  marked = λ i within. (
+    λ so.
+        let (task, known, refuses) = (come.marked i within).0 so in
+        (task, known, subst (λ l. IsMoveRefused (nature_of rs task) l i) (sym (same task)) refuses),
+    λ (task, known, refuses).
+        (come.marked i within).1
+        (task, known, subst (λ l. IsMoveRefused (nature_of rs task) l i) (same task) refuses),
+  );
 }
 
 read_on : (pass : Pass) (rs : List Record) (at task : ℕ) (step : steps.Move) (moves : ℕ → List (ℕ × Move))
@@ -371,12 +479,16 @@ pub come_read : (pass : Pass) (rs : List Record) (tasks : List ℕ) (index task 
     → new.refused
     ≡ refused_after old.refused (get_or old.states index None)
     (state_after (the_nature nature) (get_or old.states index None) (at, the_move step)) at
+    → new.marks
+    ≡ marks_after old.marks (get_or old.states index None)
+    (state_after (the_nature nature) (get_or old.states index None) (at, the_move step)) at
     → HasCome rs tasks moves old → HasCome rs tasks (and_move pass rs at (Some task) step moves) new
-come_read pass rs tasks index task at nature step moves old new apart stands same reads states refused come =
+come_read pass rs tasks index task at nature step moves old new apart stands same reads states refused marks
+    come =
     come_same rs tasks (and_one task (at, the_move step) moves) (and_move pass rs at (Some task) step moves)
     new (read_on pass rs at task step moves reads)
     (went_on rs tasks index task at (the_nature nature) (the_move step) moves old new
-    (λ k at_k. apart k index task at_k stands) stands same states refused come)
+    (λ k at_k. apart k index task at_k stands) stands same states refused marks come)
 
 -- one that it does not read leaves all as it is
 pub come_unread : (pass : Pass) (rs : List Record) (tasks : List ℕ) (task at : ℕ) (step : steps.Move)
@@ -386,3 +498,16 @@ pub come_unread : (pass : Pass) (rs : List Record) (tasks : List ℕ) (task at :
 come_unread pass rs tasks task at step moves progress reads come =
     come_same rs tasks moves (and_move pass rs at (Some task) step moves) progress
     (read_off pass rs at task step moves reads) come
+
+-- nor does a record of no task
+pub come_none : (pass : Pass) (rs : List Record) (tasks : List ℕ) (at : ℕ) (step : steps.Move)
+    (moves : ℕ → List (ℕ × Move)) (progress : ProgressView)
+    → HasCome rs tasks moves progress → HasCome rs tasks (and_move pass rs at None step moves) progress
+come_none pass rs tasks at step moves progress come =
+    come_same rs tasks moves (and_move pass rs at None step moves) progress
+    (λ task. none (moves task) (is_read pass rs task at)) come
+  where
+    none : (before : List (ℕ × Move)) (reads : Bool)
+        → before ++ cond (reads && false) ((at, the_move step) ∷ []) [] ≡ before
+    none before true = append-nil before
+    none before false = append-nil before

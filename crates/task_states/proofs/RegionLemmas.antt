@@ -5,8 +5,10 @@ use Rattle.std.proofs.Common.{None, true, false, refl, sym, ap, subst, arith, in
 use Rattle.std.proofs.Math.Nat.{min-le_left, min-le_right, min-eq_left, min-eq_right}
 use Rattle.std.proofs.lemmas.Bool.{cases_eq, cases_lt, false≢true}
 use Rattle.std.proofs.lemmas.Option.{none-some, same_Some, slice_get_within, slice_get-get_or}
+use Rattle.std.proofs.lemmas.Option.{get_or_from_slice_get}
+use Rattle.std.proofs.lemmas.List.Elements.{All-nil}
 use Rattle.std.proofs.lemmas.List.{length-set, get_or-set_same, get_or-set_other}
-use Rattle.std.specs.Prelude.{◌↔◌, IsTrue, MatchOption, slice_get, slice_index_or}
+use Rattle.std.specs.Prelude.{◌↔◌, IsTrue, All, MatchOption, slice_get, slice_index_or}
 use Rattle.ompt_events.specs.declared.records.Record.{Record}
 use Rattle.ompt_events.specs.declared.names.Endpoint.{Endpoint}
 use Rattle.ompt_events.specs.declared.names.Endpoint.TheVariants.{Begin, End, BeginEnd}
@@ -19,17 +21,21 @@ use Rattle.ompt_events.specs.Tree.{IsExplicit}
 use Rattle.ompt_events.specs.Regions.{after_region, open_regions, kind_at, is_called_barrier, EndsRegion}
 use Rattle.ompt_events.specs.Regions.{IsRegion, ended, at_once}
 use Rattle.ompt_events.specs.Causes.{HasCause, region_order, barrier_order, IsFreeOf}
+use Rattle.ompt_events.specs.Shown.{AreAllBelow}
+use Rattle.ompt_events.proofs.ShownLemmas.{none_below}
 use Rattle.ompt_events.proofs.RegionLemmas.{open_none, open_other, open_own, same_says}
 use Rattle.ompt_events.proofs.PlaceLemmas.{at_within}
 use Rattle.index_tables.specs.Numbering.{AreApart}
 use Rattle.task_tree.proofs.LinkLemmas.{get_set_same, get_set_other}
 use Rattle.task_tree.specs.OwnOrder.{AreAllPlaces}
-use Rattle.task_tree.specs.Own.{OwnView, HasCauseAt, IsFirstPlaceWith}
+use Rattle.task_tree.specs.Own.{OwnView, HasCauseAt, IsFirstPlaceWith, AreAllPlacesWith}
+use Rattle.task_tree.specs.Own.{FindsFirstPlace}
 use Rattle.task_tree.specs.Runs.{RunView, IsRegionEvent}
 use Rattle.task_tree.proofs.RenamedCauseLemmas.{order_within}
 use Rattle.task_states.specs.Regions.{RegionsView, AreRegions, IsEndLinked, IsRegionBegin, below_of}
 use Rattle.task_states.specs.Regions.{top_after}
 use Rattle.task_states.specs.Regions.{IsStack, IsInnermost, IsInPlace, IsPlaceJudged, AreLinkedOrNot}
+use Rattle.task_states.specs.Regions.{AreOpened, AreLinked}
 use Rattle.task_states.specs.Regions.{IsEarliestPlace, IsEarliest}
 
 -- a stack stays when one more link is written, or none
@@ -61,6 +67,7 @@ pub record AreOpen (rs : List Record) (n : ℕ) (tasks : List ℕ) (innermost li
     pub stacks : (index task : ℕ) → slice_get tasks index ≡ Some task
         → IsStack links n (top_of innermost index) (open_regions rs task n)
     pub linked : AreLinkedOrNot rs n links
+    pub opened : AreOpened rs n links
 
 -- the innermost open region of a task is at the top of its stack
 top_first : (links : List (Option ℕ)) (n : ℕ) (top : Option ℕ) (stack : List ℕ) → IsStack links n top stack
@@ -104,6 +111,34 @@ linked_still rs n links linked none i task kind below ends = elim (cases_eq i n)
   | inr apart ↦ linked i task kind (omega arith) ends
 ]
 
+-- the region that is open before the record at n is noted there
+opened_more : (run : RunView) (n index : ℕ) (kind : SyncKind) (endpoint : Endpoint) (links : List (Option ℕ))
+    (link : Option ℕ)
+    → n < length links → IsRegionEvent run n index kind endpoint → IsInnermost run n index link
+    → AreOpened run.records n links → AreOpened run.records (n + 1) (set links n link)
+opened_more run n index kind endpoint links link low own top opened i task kind' endpoint' below says =
+    elim (cases_eq i n) [
+      | inl same ↦
+          let is_task : own.task ≡ task =
+          ap (λ (p : ℕ × SyncKind × Endpoint). p.0)
+          (same_Some (own.task, kind, endpoint) (task, kind', endpoint')
+          (sym own.says ∙ ap (at region run.records) (sym same) ∙ says)) in
+          ap (slice_get (set links n link)) same ∙ get_set_same links n link low
+          ∙ ap Some
+          (top own.task own.indexed ∙ ap (λ t. slice_get (open_regions run.records t n) 0) is_task
+          ∙ ap (λ j. slice_get (open_regions run.records task j) 0) (sym same))
+      | inr apart ↦
+          get_set_other links n i link apart
+          ∙ opened i task kind' endpoint' (omega (arith, below, apart)) says
+    ]
+
+opened_still : (rs : List Record) (n : ℕ) (links : List (Option ℕ)) → AreOpened rs n links
+    → at region rs n ≡ None → AreOpened rs (n + 1) links
+opened_still rs n links opened none i task kind endpoint below says = elim (cases_eq i n) [
+  | inl same ↦ absurd (none-some (task, kind, endpoint) (sym none ∙ ap (at region rs) (sym same) ∙ says))
+  | inr apart ↦ opened i task kind endpoint (omega (arith, below, apart)) says
+]
+
 -- a record of no region
 pub open_more_none : (rs : List Record) (n : ℕ) (tasks : List ℕ) (innermost links : List (Option ℕ))
     → AreOpen rs n tasks innermost links → at region rs n ≡ None → AreOpen rs (n + 1) tasks innermost links
@@ -116,6 +151,7 @@ open_more_none rs n tasks innermost links are none = record {
       (stack_still links n (top_of innermost index) (open_regions rs task n)
       (are.stacks index task is));
   linked = linked_still rs n links are.linked none;
+  opened = opened_still rs n links are.opened none;
 }
 
 -- the stack of a task after its own record
@@ -166,6 +202,9 @@ open_more_own run n index kind endpoint innermost links link misplaced apart_all
             (are.stacks other task is))
       ];
       linked = linked_more run.records n links link misplaced low are.linked judged;
+      opened =
+          opened_more run n index kind endpoint links link low own
+          (innermost_here run n index innermost links link are is_top) are.opened;
     }
   where
     low : n < length links
@@ -243,12 +282,12 @@ placed_here run n index kind endpoint link own top found unbarred = record { lin
         unbarred (ap is_called_barrier is_kind ∙ called, subst P is_task explicit)
 
 -- a record of no region
-no_region_here : (rs : List Record) (n : ℕ) → at region rs n ≡ None → HasCause rs n RegionOrder → ⊥
+pub no_region_here : (rs : List Record) (n : ℕ) → at region rs n ≡ None → HasCause rs n RegionOrder → ⊥
 no_region_here rs n none (region_order (task, kind, h)) = none-some (task, kind, End) (sym none ∙ h.ends)
 no_region_here rs n none (barrier_order (task, kind, endpoint, says, called, explicit)) =
     none-some (task, kind, endpoint) (sym none ∙ says)
 
-pub free_of_order : (rs : List Record) (n : ℕ) → ((k : ℕ) → k < n → HasCause rs k RegionOrder → ⊥)
+free_of_order : (rs : List Record) (n : ℕ) → ((k : ℕ) → k < n → HasCause rs k RegionOrder → ⊥)
     → length rs ≤ n → IsFreeOf rs RegionOrder
 free_of_order rs n free all i has = free i (let inside = order_within rs i has in omega arith) has
 
@@ -305,7 +344,7 @@ earlier_other own cause n before place stands has is = record {
 }
 
 -- once all records are gone over, it is the first in the file
-pub earliest_first : (own : OwnView) (cause : Cause) (n place : ℕ)
+earliest_first : (own : OwnView) (cause : Cause) (n place : ℕ)
     → AreAllPlaces own.places (length own.run.records) → length own.run.records ≤ n
     → IsEarliestPlace own cause n place → IsFirstPlaceWith own cause place
 earliest_first own cause n place all last is = record {
@@ -316,6 +355,71 @@ earliest_first own cause n place all last is = record {
       let least = is.least there.0 k (omega (arith, inside, long, last)) there.1 there.2 in
       omega (arith, below, least);
 }
+
+pub found_first : (own : OwnView) (n : ℕ) (found : Option ℕ)
+    → AreAllPlaces own.places (length own.run.records) → length own.run.records ≤ n
+    → IsEarliest own RegionOrder n found → FindsFirstPlace own RegionOrder found
+found_first own n None all last free = free_of_order own.run.records n free last
+found_first own n (Some place) all last is = earliest_first own RegionOrder n place all last is
+
+-- where no record has the cause, each end has its begin
+pub linked_all : (rs : List Record) (n : ℕ) (links : List (Option ℕ)) → IsFreeOf rs RegionOrder
+    → AreLinkedOrNot rs n links → AreLinked rs n links
+linked_all rs n links free linked i task kind below ends = elim (linked i task kind below ends) [
+  | inl has ↦ absurd (free i has)
+  | inr is ↦ is
+]
+
+-- ---- all places
+
+-- the innermost region that is open before the record stands in the table
+pub opened_here : (run : RunView) (n index : ℕ) (kind : SyncKind) (endpoint : Endpoint)
+    (links : List (Option ℕ)) (found : Option ℕ)
+    → n < length run.records → AreOpened run.records (length run.records) links
+    → IsRegionEvent run n index kind endpoint → found ≡ slice_index_or links n None
+    → IsInnermost run n index found
+opened_here run n index kind endpoint links found within opened own read task stands =
+    let rs = run.records in
+    let is_task : own.task ≡ task = same_Some own.task task (sym own.indexed ∙ stands) in
+    let first = slice_get (open_regions rs own.task n) 0 in
+    let there = opened n own.task kind endpoint within own.says in
+    read ∙ get_or_from_slice_get links n first None there
+    ∙ ap (λ t. slice_get (open_regions rs t n) 0) is_task
+
+-- the record that has a place in the file is the only one that does
+pub at_its_place : (own : OwnView) (cause : Cause) (number place : ℕ) (has : Bool)
+    → AreAllPlaces own.places (length own.run.records) → slice_get own.places number ≡ Some place
+    → IsTrue has ↔ HasCause own.run.records number cause → IsTrue has ↔ HasCauseAt own cause place
+at_its_place own cause number place has all stands is = (
+  λ so. (number, stands, is.0 so),
+  λ (other, there, causes).
+      let P : ℕ → Type 0 = λ n. HasCause own.run.records n cause in
+      is.1 (subst P (all.apart other number place there stands) causes),
+)
+
+-- the places that were found up to the end are all
+pub all_places : (own : OwnView) (cause : Cause) (n : ℕ) (places : List ℕ)
+    → AreAllPlaces own.places (length own.run.records) → length own.run.records ≡ n
+    → AreAllBelow (HasCauseAt own cause) n places → AreAllPlacesWith own cause places
+all_places own cause n places order all are = record {
+  rising = are.rising;
+  within = subst (λ m. All (λ place. place < m) places) (sym all) are.within;
+  hold = are.hold;
+  complete = λ place has.
+      are.complete place (let below = order.below has.0 place has.1 in omega (arith, below, all)) has;
+}
+
+-- where no record has the cause there are none
+pub no_places_with : (own : OwnView) (cause : Cause) (places : List ℕ) → places ≡ []
+    → IsFreeOf own.run.records cause → AreAllPlacesWith own cause places
+no_places_with own cause places empty free =
+    let P : List ℕ → Type 0 = AreAllPlacesWith own cause in
+    subst P (sym empty) (record {
+      rising = (none_below (HasCauseAt own cause)).rising;
+      within = All-nil (λ place. place < length own.run.records);
+      hold = All-nil (HasCauseAt own cause);
+      complete = λ place has. absurd (free has.0 has.2);
+    })
 
 -- ---- where a region began
 

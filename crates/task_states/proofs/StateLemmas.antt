@@ -1,9 +1,11 @@
 -- What the states after all records say, and the causes that they exclude.
 use Rattle.std.proofs.Common.{◌≡◌, ◌∙◌, ℕ, zero, suc, ◌<◌, ◌≤◌, List, [], ◌∷◌, ◌++◌, length, Option, Some}
+use Rattle.std.proofs.Common.{get_or}
 use Rattle.std.proofs.Common.{None, Bool, true, false, cond, refl, sym, ap, subst, arith, inl, inr, ◌⊎◌}
 use Rattle.std.proofs.lemmas.Bool.{eqb-true, and_parts, false≢true}
 use Rattle.std.proofs.lemmas.Option.{none-some, same_Some, slice_get_within}
-use Rattle.std.specs.Prelude.{◌==◌, ◌↔◌, map, filter, slice_get, Contains, IsSomeAnd, option_and_then}
+use Rattle.std.specs.Prelude.{All, IsTrue, ◌==◌, ◌↔◌, map, filter, slice_get, Contains, IsSomeAnd}
+use Rattle.std.specs.Prelude.{option_and_then}
 use Rattle.std.specs.Option.{option_map_or}
 use Rattle.std.specs.List.{flat_map, range_with_len}
 use Rattle.std.proofs.lemmas.List.Elements.{Contains-append_cases, Contains-append_left}
@@ -16,6 +18,7 @@ use Rattle.ompt_events.specs.declared.cause.Cause.TheVariants.{NotCurrent, Moved
 use Rattle.ompt_events.specs.declared.cause.Cause.TheVariants.{RegionOrder}
 use Rattle.ompt_events.specs.CauseNames.{cause_number}
 use Rattle.ompt_events.specs.Causes.{HasCause, status_order, HasNoState, IsFirstWith, IsFreeOf}
+use Rattle.ompt_events.specs.Shown.{AreAllBelow, AreAllWith}
 use Rattle.ompt_events.specs.Turns.{is_turn, turns_in}
 use Rattle.ompt_events.specs.Flags as flag
 use Rattle.ompt_events.specs.Flags.{has_flag}
@@ -359,6 +362,27 @@ pub refused_first : (rs : List Record) (family : FamilyView) (progress : Progres
 refused_first rs family progress None are come same = none_refused rs family progress are come (sym same)
 refused_first rs family progress (Some i) are come same =
     first_refused rs family progress i are come (sym same)
+
+-- the places that are marked are those of all such records
+pub refused_all : (rs : List Record) (family : FamilyView) (progress : ProgressView) (places : List ℕ)
+    → IsFamilyOf rs family → HasCome rs family.tasks (all_moves_of rs) progress
+    → length progress.marks ≡ length rs
+    → AreAllBelow (λ i. IsTrue (get_or progress.marks i false)) (length progress.marks) places
+    → AreAllWith rs StatusOrder places
+refused_all rs family progress places are come all found = record {
+  rising = found.rising;
+  within = subst (λ n. All (λ place. place < n) places) all found.within;
+  hold = λ k d inside.
+      let (task, known, refused) =
+      (come.marked (get_or places k d) (found.within k d inside)).0 (found.hold k d inside) in
+      status_order (no_state_of rs task (get_or places k d) refused);
+  complete = λ i has.
+      let h = state_of_cause rs i has in
+      let refused = refused_of rs i h in
+      let (inside, known) = refused_there rs family h.task i are refused in
+      let within : i < length progress.marks = omega (arith, inside, all) in
+      found.complete i within ((come.marked i within).1 (h.task, known, refused));
+}
 
 -- ---- the least of the five
 

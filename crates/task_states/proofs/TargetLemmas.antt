@@ -12,6 +12,8 @@ use Rattle.ompt_events.specs.Flags.{has_flag}
 use Rattle.ompt_events.specs.Places.{at, nests_at}
 use Rattle.ompt_events.specs.Records.{flags, made}
 use Rattle.ompt_events.specs.Causes.{HasCause, MakesTarget, target_task, IsFirstWith, IsFreeOf}
+use Rattle.ompt_events.specs.Shown.{AreAllBelow, AreAllWith}
+use Rattle.ompt_events.proofs.ShownLemmas.{all_with}
 use Rattle.ompt_events.proofs.PlaceLemmas.{at_get, at_within}
 use Rattle.packed_trace.specs.Packed.{made_with, makes_with}
 use Rattle.task_states.proofs.NestingLemmas.{nests_all}
@@ -35,6 +37,16 @@ free_of_targets rs i free end k has =
     let makes = makes_target_task rs k has in
     let within : k < length rs = at_within made rs k makes.0 makes.3 in
     free k (omega arith) makes
+
+-- the places that were found up to the end are all
+pub all_targets : (rs : List Record) (n : ℕ) (places : List ℕ) → length rs ≡ n
+    → AreAllBelow (MakesTarget rs) n places → AreAllWith rs TargetTask places
+all_targets rs n places all are =
+    all_with rs TargetTask (MakesTarget rs) n places all (λ i makes. target_task makes)
+    (λ i has.
+    let makes = makes_target_task rs i has in
+    let inside = at_within made rs i makes.0 makes.3 in (omega (arith, inside, all), makes))
+    are
 
 -- where regions may lie inside others none does
 pub none_where_all_nest : (rs : List Record) → All (λ (r : Record). r.nests ≡ true) rs

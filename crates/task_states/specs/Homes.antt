@@ -30,6 +30,12 @@ home_after Nowhere thread told = Some (On thread)
 home_after (On before) thread told = if before == thread then Some (On before) else told_move told
 home_after Many thread told = told_move told
 
+-- where a task runs that now runs on this thread, whether or not it may
+abbrev pub met_home : Home → ℕ → Home
+met_home Nowhere thread = On thread
+met_home (On before) thread = if before == thread then On before else Many
+met_home Many thread = Many
+
 -- the task with this index is explicit, and runs next at the place i
 pub record IsExplicitStart (rs : List Record) (tasks : List ℕ) (i index : ℕ) : Type 0 where
   pub task : ℕ

@@ -1,7 +1,7 @@
 -- The state that each task has reached while passes go over the records.
 use Rattle.std.specs.Prelude.{ℕ, ◌≡◌, ◌<◌, ◌≤◌, ◌+◌, ◌++◌, ◌∷◌, ◌&&◌, ◌==◌, ltb, not, Bool, true, false, List}
 use Rattle.std.specs.Prelude.{[], length, Option, Some, None, All, Contains, IsSomeAnd, is_some}
-use Rattle.std.specs.Prelude.{if◌then◌else◌, filter, find, take, slice_get}
+use Rattle.std.specs.Prelude.{if◌then◌else◌, filter, find, take, slice_get, set, get_or, IsTrue, ◌↔◌}
 use Rattle.std.specs.List.{flat_map, range_with_len}
 use Rattle.ompt_events.specs.declared.records.Record.{Record}
 use Rattle.ompt_events.specs.declared.state.State.{State}
@@ -98,11 +98,12 @@ pub record IsMoveRefused (nature : states.Nature) (moves : List (ℕ × states.M
   pub allowed : is_some (state_of nature (take number moves)) ≡ true
   pub not_allowed : state_of nature (take (number + 1) moves) ≡ None
 
--- what is known by index of each task: its state, if its moves were allowed, and the first place at which
--- a move was not
+-- what is known by index of each task: its state, if its moves were allowed; the first place at which a move
+-- was not, and all such places as far as there are marks
 pub record ProgressView : Type 0 where
   pub states : List (Option State)
   pub refused : Option ℕ
+  pub marks : List Bool
 
 -- the earlier of the two, where there are two
 abbrev pub earlier_of : Option ℕ → ℕ → ℕ
@@ -115,6 +116,16 @@ abbrev pub refused_after : Option ℕ → Option State → Option State → ℕ 
 refused_after refused (Some state) None at = Some (earlier_of refused at)
 refused_after refused _ _ at = refused
 
+-- the marks after the same move: its place is marked, if there is a mark for it
+abbrev pub marks_after : List Bool → Option State → Option State → ℕ → List Bool
+marks_after marks (Some state) None at = set marks at true
+marks_after marks _ _ at = marks
+
+-- a move of one of the tasks at i is the first that its state does not allow
+abbrev pub IsRefusedOf : List Record → List ℕ → (ℕ → List (ℕ × states.Move)) → ℕ → Type 0
+IsRefusedOf rs tasks moves i =
+    (task : ℕ) × Contains tasks task × IsMoveRefused (nature_of rs task) (moves task) i
+
 -- each task has the state after these moves
 pub record HasCome (rs : List Record) (tasks : List ℕ) (moves : ℕ → List (ℕ × states.Move))
     (progress : ProgressView) : Type 0 where
@@ -125,6 +136,8 @@ pub record HasCome (rs : List Record) (tasks : List ℕ) (moves : ℕ → List (
       → (task : ℕ) × IsMoveRefused (nature_of rs task) (moves task) i
   pub least : (task i : ℕ) → Contains tasks task → IsMoveRefused (nature_of rs task) (moves task) i
       → IsSomeAnd progress.refused (λ first. first ≤ i)
+  pub marked : (i : ℕ) → i < length progress.marks
+      → IsTrue (get_or progress.marks i false) ↔ IsRefusedOf rs tasks moves i
 
 -- the moves of a task and, where the pass reads it for the task that was found, one more at n
 abbrev pub and_move : Pass → List Record → ℕ → Option ℕ → Move → (ℕ → List (ℕ × states.Move)) → ℕ

@@ -82,6 +82,14 @@ AreLinkedOrNot rs n links =
     (i task : ℕ) (kind : SyncKind) → i < n → at region rs i ≡ Some (task, kind, End)
     → HasCause rs i RegionOrder ⊎ IsEndLinked rs i task kind (slice_get links i)
 
+-- each of the first n records that begins or ends a region has the innermost one of its task that is open
+-- before it
+abbrev pub AreOpened : List Record → ℕ → List (Option ℕ) → Type 0
+AreOpened rs n links =
+    (i task : ℕ) (kind : SyncKind) (endpoint : Endpoint) → i < n
+    → at region rs i ≡ Some (task, kind, endpoint)
+    → slice_get links i ≡ Some (slice_get (open_regions rs task i) 0)
+
 -- this is the first place in the file of those of the first n records that have the cause
 pub record IsEarliestPlace (own : OwnView) (cause : Cause) (n place : ℕ) : Type 0 where
   pub has : HasCauseAt own cause place

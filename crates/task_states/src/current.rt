@@ -1,36 +1,56 @@
-//! Whether each record is of the task that its thread runs.
-ghost use Rattle.std.specs.Prelude.{ℕ, ◌<◌, ◌↔◌, ◌∷◌, [], IsTrue, IfSome, IfErr, OnOk, length};
+//! Whether each record is of a task that its thread runs.
+ghost use Rattle.std.specs.Prelude.{ℕ, ◌≡◌, ◌<◌, ◌^◌, ◌++◌, ◌∷◌, ◌&&◌, ◌||◌, ◌↔◌, [], not, IsTrue, IfSome, IfOk, OnOk, length, if◌then◌else◌};
 ghost use Rattle.ompt_events.specs.declared.cause.Cause.TheVariants.{NotCurrent};
-ghost use Rattle.ompt_events.specs.Causes.{IsFreeOf};
-ghost use Rattle.ompt_events.specs.Faults.{IsFault};
+ghost use Rattle.ompt_events.specs.Shown.{AreAllWith};
 ghost use Rattle.task_tree.specs.Runs.{IsThreadEvent};
 ghost use Rattle.task_states.specs.Walks.{PriorMisfits, NextMisfits, ParentMisfits, EndMisfits, EventMisfits};
 
 use crate::walk::{ThreadWalk, new_walks};
-use ompt_events::{Cause, Fault, Status};
-use std::alloc::Global;
+use ompt_events::{Shown, Status};
+use std::alloc::{AllocError, Global};
 use task_tree::{Run, Schedule, ThreadEvent};
 
-/// Excludes NotCurrent. Fails with the first record that speaks for a task which its thread does not run
-/// (OpenMP 5.2, 12.9).
-pub(crate) fn find_misfit(alloc: Global, run: &Run) -> Result<(), Fault>
-    ensures free { OnOk result (IsFreeOf run.now.records NotCurrent) }
-    ensures fault { IfErr result (IsFault run.now.records (NotCurrent ∷ [])) }
+/// Returns for each thread its first record that speaks for a task which the thread does not run (OpenMP
+/// 5.2, 12.9), if it has one. Where a thread stands after that is not known, so its later records count for
+/// nothing. Takes one step for each record.
+pub fn find_misfits(alloc: Global, run: &Run) -> Result<Shown, AllocError>
+    ensures { IfOk result (AreAllWith run.now.records NotCurrent) }
 {
     let nests = run.nests();
+    let mut shown = Shown::none(alloc);
     let mut walks = new_walks(alloc)?;
+    let mut have_misfits = [false; 256];
     for at in 0..run.len() {
         let Some(event) = run.thread_event(at) else {
             continue;
         };
-        let walk = &mut walks[run.thread(at) as usize];
-        if misfits(run, walk, event) {
-            return Err(Fault::Malformed {
-                at,
-                cause: Cause::NotCurrent,
-            });
-        }
+        let thread = run.thread(at) as usize;
+        let walk = &mut walks[thread];
+        let misfit = misfits(run, walk, event);
+        note_first(&mut shown, &mut have_misfits[thread], at, misfit)?;
         walk.advance(event, nests)?;
+    }
+    Ok(shown)
+}
+
+/// Notes the place of a record if it misfits, and no earlier record of its thread does. Fails only when out
+/// of memory.
+#[inline(always)]
+fn note_first(
+    shown: &mut Shown,
+    has_misfit: &mut bool,
+    at: usize,
+    misfit: bool,
+) -> Result<(), AllocError>
+    requires { at < 2 ^ 32 }
+    ensures shown { OnOk result (shown.new
+        ≡ (if misfit && not has_misfit.old then shown.old ++ at ∷ [] else shown.old)) }
+    ensures marked { OnOk result (has_misfit.new ≡ (has_misfit.old || misfit)) }
+{
+    if misfit {
+        let is_first = !*has_misfit;
+        *has_misfit = true;
+        shown.note(at, is_first)?;
     }
     Ok(())
 }

@@ -3,13 +3,14 @@ ghost use Rattle.std.specs.Prelude.{ℕ, ◌≡◌, ◌<◌, ◌↔◌, ◌∷�
 ghost use Rattle.ompt_events.specs.declared.cause.Cause.TheVariants.{Moved};
 ghost use Rattle.ompt_events.specs.Causes.{IsFreeOf};
 ghost use Rattle.ompt_events.specs.Faults.{IsFault};
+ghost use Rattle.ompt_events.specs.Shown.{AreAllWith};
 ghost use Rattle.ompt_events.specs.Tree.{IsExplicit};
 ghost use Rattle.task_tree.specs.Runs.{IsRun};
 ghost use Rattle.task_states.specs.declared.homes.Home.TheVariants.{Nowhere};
-ghost use Rattle.task_states.specs.Homes.{home_after, home_at, told_move, IsExplicitStart, IsNeverEarly};
+ghost use Rattle.task_states.specs.Homes.{home_after, home_at, met_home, told_move, IsExplicitStart, IsNeverEarly};
 
 use crate::moves::fulfils_early;
-use ompt_events::{Cause, Fault};
+use ompt_events::{Cause, Fault, Shown};
 use std::alloc::{AllocError, Global};
 use std::marker::Model;
 use task_tree::Run;
@@ -101,6 +102,26 @@ pub(crate) fn find_moved<'a>(alloc: Global, run: &Run<'a>) -> Result<Schedules<'
     })
 }
 
+/// Returns all records without turns after which an explicit task runs that ran before on another thread.
+/// `find_moved` fails with the first of them. Takes a few steps for each record.
+pub fn find_moves(alloc: Global, run: &Run) -> Result<Shown, AllocError>
+    ensures { IfOk result (AreAllWith run.now.records Moved) }
+{
+    let mut shown = Shown::none(alloc);
+    let mut homes = no_homes(alloc, run.task_count())?;
+    for at in 0..run.len() {
+        let Some(index) = explicit_start(run, at) else {
+            continue;
+        };
+        let home = homes[index];
+        let thread = run.thread(at);
+        let moves = home_after(home, thread, run.tells_turns(at)).is_none();
+        shown.note(at, moves)?;
+        homes[index] = met_home(home, thread);
+    }
+    Ok(shown)
+}
+
 /// Returns the table in which no task runs. Fails only when out of memory.
 fn no_homes(alloc: Global, tasks: usize) -> Result<Vec<Home>, AllocError>
     ensures { IfOk result (λ homes. homes.items ≡ replicate tasks Nowhere) }
@@ -138,6 +159,17 @@ fn home_after(home: Home, thread: u8, told: bool) -> Option<Home>
             }
         }
         Home::Many => told_move(told),
+    }
+}
+
+/// Returns where a task runs that now runs on this thread, whether or not it may.
+fn met_home(home: Home, thread: u8) -> Home
+    ensures { result ≡ met_home home thread }
+{
+    match home {
+        Home::Nowhere => Home::On(thread),
+        Home::On(before) => { if before == thread { home } else { Home::Many } }
+        Home::Many => Home::Many,
     }
 }
 

@@ -1,40 +1,41 @@
 //! Whether a root begins inside another one, of a region that the task there has not begun.
 ghost use Rattle.std.specs.Prelude.{◌<◌, ◌↔◌, IsTrue, IfSome, IfOk, length};
 ghost use Rattle.ompt_events.specs.declared.cause.Cause.TheVariants.{RegionNesting};
-ghost use Rattle.ompt_events.specs.Faults.{FindsFirst};
+ghost use Rattle.ompt_events.specs.Shown.{AreAllWith};
 ghost use Rattle.task_tree.specs.Runs.{IsRun};
 ghost use Rattle.task_states.specs.Misnesting.{HaveBegun, BeginsMisnested, JoinsOther, LeadsOther};
 
 use crate::begun::Begun;
 use crate::walk::{ThreadWalk, new_walks};
+use ompt_events::Shown;
 use std::alloc::{AllocError, Global};
 use task_tree::Run;
 
-/// Returns the first record at which a root begins inside another one, on a thread whose current task has not
+/// Returns the records at which a root begins inside another one, on a thread whose current task has not
 /// begun its region there (OpenMP 5.2, 10.1: the thread that encounters a parallel construct becomes the
-/// primary thread of its team), in a trace where regions may lie inside others; none in any other trace. For an
-/// initial task any region of the current task counts. Takes a few steps for each record, and 32 bytes for each
-/// task beside what it notes of each region.
-pub fn find_misnested(alloc: Global, run: &Run) -> Result<Option<usize>, AllocError>
-    ensures { IfOk result (FindsFirst run.now.records RegionNesting) }
+/// primary thread of its team), in a trace where regions may lie inside others; none in any other trace. For
+/// an initial task any region of the current task counts. Such a root is open from there on, as any other.
+/// Takes a few steps for each record, and 32 bytes for each task beside what it notes of each region.
+pub fn find_misnested(alloc: Global, run: &Run) -> Result<Shown, AllocError>
+    ensures { IfOk result (AreAllWith run.now.records RegionNesting) }
 {
+    let mut shown = Shown::none(alloc);
     if !run.nests() {
-        return Ok(None);
+        return Ok(shown);
     }
     let mut walks = new_walks(alloc)?;
     let mut begun = Begun::new(alloc, run)?;
     for at in 0..run.len() {
         let thread = run.thread(at) as usize;
-        if is_misnested(run, &walks[thread], &begun, at) {
-            return Ok(Some(at));
-        }
+        let misnested = is_misnested(run, &walks[thread], &begun, at);
+        shown.note(at, misnested)?;
         begun.note(run, at)?;
         let Some(event) = run.thread_event(at) else {
             continue;
         };
         walks[thread].advance(event, true)?;
     }
-    Ok(None)
+    Ok(shown)
 }
 
 /// Returns whether a root begins inside another one, of a region that the current task of its thread, by the

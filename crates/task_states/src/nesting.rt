@@ -2,39 +2,40 @@
 ghost use Rattle.std.specs.Prelude.{ℕ, ◌≡◌, ◌<◌, ◌↔◌, Some, IsTrue, IsSomeAnd, IfSome, IfOk, MatchOption, length, slice_get};
 ghost use Rattle.ompt_events.specs.declared.cause.Cause.TheVariants.{NestedParallel};
 ghost use Rattle.ompt_events.specs.Teams.{IsInitial};
-ghost use Rattle.ompt_events.specs.Faults.{FindsFirst};
+ghost use Rattle.ompt_events.specs.Shown.{AreAllWith};
 ghost use Rattle.task_tree.specs.Runs.{IsRun};
 ghost use Rattle.task_states.specs.Nesting.{IsRootEvent, IsNoRootEvent, IsMemberIndex, ForksInside, JoinsInside, InitialInside, BeginsInside};
 
 use crate::walk::{ThreadWalk, new_walks};
+use ompt_events::Shown;
 use std::alloc::{AllocError, Global};
 use task_tree::{Run, ThreadEvent};
 
-/// Returns the first record at which a parallel region lies inside another (OpenMP 5.2, 10.1), in a trace where
+/// Returns the records at which a parallel region lies inside another (OpenMP 5.2, 10.1), in a trace where
 /// none may: a task that is not initial begins one, a member of a team begins inside another member, or an
-/// initial task begins inside any root. Takes one step for each record.
-pub fn find_nested(alloc: Global, run: &Run) -> Result<Option<usize>, AllocError>
-    ensures { IfOk result (FindsFirst run.now.records NestedParallel) }
+/// initial task begins inside any root. Such a root is open from there on, as any other. Takes one step for
+/// each record.
+pub fn find_nested(alloc: Global, run: &Run) -> Result<Shown, AllocError>
+    ensures { IfOk result (AreAllWith run.now.records NestedParallel) }
 {
+    let mut shown = Shown::none(alloc);
     if run.nests() {
-        return Ok(None);
+        return Ok(shown);
     }
     // The walks are kept for their open roots alone: the tasks that run are not followed.
     let mut walks = new_walks(alloc)?;
     for at in 0..run.len() {
-        if forks_inside(run, at) {
-            return Ok(Some(at));
-        }
         let Some(event) = root_event(run, at) else {
+            let nested = forks_inside(run, at);
+            shown.note(at, nested)?;
             continue;
         };
         let walk = &mut walks[run.thread(at) as usize];
-        if begins_inside(run, walk, at) {
-            return Ok(Some(at));
-        }
+        let nested = begins_inside(run, walk, at);
+        shown.note(at, nested)?;
         walk.advance(event, false)?;
     }
-    Ok(None)
+    Ok(shown)
 }
 
 /// Returns the begin or end of a root, if the record is one. No other record changes which roots are open.

@@ -1,5 +1,5 @@
 //! The state that each task reaches by the moves that its states allow.
-ghost use Rattle.std.specs.Prelude.{ℕ, ◌≡◌, ◌<◌, ◌++◌, List, Some, None, [], true, IsTrue, IfOk, OnOk, MatchOption, All, length, set, get_or, slice_get};
+ghost use Rattle.std.specs.Prelude.{ℕ, ◌≡◌, ◌<◌, ◌++◌, List, Some, None, [], true, false, replicate, IsTrue, IfOk, OnOk, MatchOption, All, length, set, get_or, slice_get};
 ghost use Rattle.std.specs.List.{flat_map};
 ghost use Rattle.ompt_events.specs.declared.cause.Cause.TheVariants.{NotCurrent, StatusOrder};
 ghost use Rattle.ompt_events.specs.Causes.{IsFreeOf};
@@ -11,7 +11,7 @@ ghost use Rattle.ompt_events.specs.States.{first_state, state_after, all_moves_o
 ghost use Rattle.task_tree.specs.Runs.{IsRun, IsIndexOf};
 ghost use Rattle.task_states.specs.TurnEdges.{is_edge, edge_moves, IsNoEdge, IsEdgeMove};
 ghost use Rattle.task_states.specs.declared.progress.Pass.TheVariants.{Early, Home, Rest};
-ghost use Rattle.task_states.specs.Progress.{the_nature, the_move, earlier_of, refused_after, reads, is_read, is_read_for, and_move, and_record, moves_before, IsMoveOf, IsReadWhole, AreLeft, HasCome};
+ghost use Rattle.task_states.specs.Progress.{the_nature, the_move, earlier_of, refused_after, marks_after, reads, is_read, is_read_for, and_move, and_record, moves_before, IsMoveOf, IsReadWhole, AreLeft, HasCome};
 
 use crate::homes::Schedules;
 use crate::moves::{Move, Nature, after_move, fulfils_early, is_early_move};
@@ -42,11 +42,13 @@ struct TaskMove {
 }
 
 /// The state of each task, by its index, as long as its moves are allowed, and the first record at which a
-/// move is not.
+/// move is not. Where all such records are wanted, each record has a mark: the passes do not find them in file
+/// order. Else none has.
 #[derive(Drop)]
 pub(crate) struct Progress {
     states: Vec<Option<State>>,
     refused: Option<usize>,
+    marks: Vec<bool>,
 }
 
 impl Model for Progress {
@@ -54,7 +56,11 @@ impl Model for Progress {
 
     ghost Value = { ProgressView };
 
-    ghost view = { λ progress. record { states = progress.states.items; refused = progress.refused } };
+    ghost view = { λ progress. record {
+      states = progress.states.items;
+      refused = progress.refused;
+      marks = progress.marks.items;
+    } };
 }
 
 impl Progress {
@@ -68,10 +74,15 @@ impl Progress {
             (get_or self.old.states moved.index None)
             (state_after (the_nature nature) (get_or self.old.states moved.index None)
             (moved.at, the_move moved.step)) moved.at }
+        ensures marks { self.new.marks ≡ marks_after self.old.marks
+            (get_or self.old.states moved.index None)
+            (state_after (the_nature nature) (get_or self.old.states moved.index None)
+            (moved.at, the_move moved.step)) moved.at }
     {
         if let Some(state) = self.states[moved.index] {
             let after = after_move(nature, state, moved.step);
             note_refused(&mut self.refused, after, moved.at);
+            mark_refused(&mut self.marks, after, moved.at);
             self.states[moved.index] = after;
         }
     }
@@ -91,6 +102,7 @@ impl Progress {
             (and_move pass origins.now.records moved.at (Some task) moved.step moves) self.new }
         ensures read { (task : ℕ) → slice_get origins.now.family.tasks moved.index ≡ Some task
             → result ≡ is_read pass origins.now.records task moved.at }
+        ensures marks { length self.new.marks ≡ length self.old.marks }
     {
         let home = origins.home(moved.index);
         let is_home = is_at(home, origins.run().thread(moved.at));
@@ -116,6 +128,7 @@ impl Progress {
             (says_at started origins.now.records at) Move.Started moves) self.new }
         ensures read { result
             ≡ is_read_for pass origins.now.records (says_at started origins.now.records at) at }
+        ensures marks { length self.new.marks ≡ length self.old.marks }
     {
         let Some(index) = next else {
             return true;
@@ -136,6 +149,7 @@ impl Progress {
             → HasCome origins.now.records origins.now.family.tasks
             (and_record pass origins.now.records at moves) self.new }
         ensures whole { IsTrue result → IsReadWhole pass origins.now.records at }
+        ensures marks { length self.new.marks ≡ length self.old.marks }
     {
         let run = origins.run();
         if let Some(event) = run.schedule(at) {
@@ -159,8 +173,9 @@ impl Progress {
     fn read_early(&mut self, origins: &Origins)
         requires { HasCome origins.now.records origins.now.family.tasks
             (moves_before Early origins.now.records 0) self.old }
-        ensures { HasCome origins.now.records origins.now.family.tasks
+        ensures come { HasCome origins.now.records origins.now.family.tasks
             (moves_before Early origins.now.records (length origins.now.records)) self.new }
+        ensures marks { length self.new.marks ≡ length self.old.marks }
     {
         let run = origins.run();
         for at in 0..run.len() {
@@ -179,6 +194,7 @@ impl Progress {
             (moves_before Home origins.now.records (length origins.now.records)) self.new) }
         ensures left { IfOk result (λ left.
             AreLeft origins.now.records (length origins.now.records) left.items) }
+        ensures marks { OnOk result (length self.new.marks ≡ length self.old.marks) }
     {
         let mut left = Vec::new(alloc);
         for at in 0..origins.run().len() {
@@ -195,8 +211,9 @@ impl Progress {
     fn read_turns(&mut self, alloc: Global, origins: &Origins) -> Result<(), AllocError>
         requires { HasCome origins.now.records origins.now.family.tasks
             (moves_before Home origins.now.records (length origins.now.records)) self.old }
-        ensures { OnOk result (HasCome origins.now.records origins.now.family.tasks
+        ensures come { OnOk result (HasCome origins.now.records origins.now.family.tasks
             (moves_before Rest origins.now.records 0) self.new) }
+        ensures marks { OnOk result (length self.new.marks ≡ length self.old.marks) }
     {
         let turns = turn_count(origins.run());
         let begins = find_edges(alloc, origins, Edge::Begins, turns)?;
@@ -219,6 +236,7 @@ impl Progress {
             → HasCome origins.now.records origins.now.family.tasks moves self.old
             → HasCome origins.now.records origins.now.family.tasks (λ task. moves task
             ++ flat_map (edge_moves edge origins.now.records task turn) places.now) self.new }
+        ensures marks { length self.new.marks ≡ length self.old.marks }
     {
         for at in places {
             self.read_edge(origins, edge, *at as usize);
@@ -235,6 +253,7 @@ impl Progress {
             → HasCome origins.now.records origins.now.family.tasks moves self.old
             → HasCome origins.now.records origins.now.family.tasks
             (λ task. moves task ++ edge_moves edge origins.now.records task turn at) self.new }
+        ensures marks { length self.new.marks ≡ length self.old.marks }
     {
         let Some((index, step)) = edge_move(origins.run(), edge, at) else {
             return;
@@ -247,18 +266,20 @@ impl Progress {
         requires left { AreLeft origins.now.records (length origins.now.records) left.now }
         requires come { HasCome origins.now.records origins.now.family.tasks
             (moves_before Rest origins.now.records 0) self.old }
-        ensures { HasCome origins.now.records origins.now.family.tasks
+        ensures come { HasCome origins.now.records origins.now.family.tasks
             (moves_before Rest origins.now.records (length origins.now.records)) self.new }
+        ensures marks { length self.new.marks ≡ length self.old.marks }
     {
         for at in left {
             self.read(origins, Pass::Rest, *at);
         }
     }
 
-    /// Returns the progress before any move.
-    fn new(alloc: Global, origins: &Origins) -> Result<Progress, AllocError>
-        ensures { IfOk result
+    /// Returns the progress before any move, in which this many records have a mark.
+    fn new(alloc: Global, origins: &Origins, marked: usize) -> Result<Progress, AllocError>
+        ensures come { IfOk result
             (HasCome origins.now.records origins.now.family.tasks (λ _. [])) }
+        ensures marks { IfOk result (λ progress. length progress.marks ≡ marked) }
     {
         let natures = origins.natures();
         let mut states = Vec::with_capacity(alloc, natures.len())?;
@@ -268,6 +289,7 @@ impl Progress {
         Ok(Progress {
             states,
             refused: None,
+            marks: no_marks(alloc, marked)?,
         })
     }
 }
@@ -280,6 +302,13 @@ impl Progress {
         self.refused
     }
 
+    /// Returns of each record that has a mark whether it makes a move that was not allowed.
+    pub(crate) fn marks(&self) -> &[bool]
+        ensures { result.now ≡ self.now.marks }
+    {
+        self.marks.as_slice()
+    }
+
     /// Returns the states.
     pub(crate) fn into_states(self) -> Vec<Option<State>>
         ensures { result.items ≡ self.states }
@@ -288,16 +317,22 @@ impl Progress {
     }
 }
 
-/// Returns the state that each task reaches by all its moves.
-pub(crate) fn find_progress(alloc: Global, schedules: &Schedules) -> Result<Progress, AllocError>
+/// Returns the state that each task reaches by all its moves. Marks each record that makes a move which is not
+/// allowed, of the first `marked` records: all of them, or none.
+pub(crate) fn find_progress(
+    alloc: Global,
+    schedules: &Schedules,
+    marked: usize,
+) -> Result<Progress, AllocError>
     requires { IsFreeOf schedules.now.records NotCurrent }
     ensures come { IfOk result (HasCome schedules.now.records schedules.now.family.tasks
         (all_moves_of schedules.now.records)) }
     ensures refused { IfOk result (λ progress.
         FindsFirst schedules.now.records StatusOrder progress.refused) }
+    ensures marks { IfOk result (λ progress. length progress.marks ≡ marked) }
 {
     let origins = Origins::find(alloc, schedules)?;
-    let mut progress = Progress::new(alloc, &origins)?;
+    let mut progress = Progress::new(alloc, &origins, marked)?;
     if schedules.any_early() {
         progress.read_early(&origins);
     }
@@ -359,6 +394,32 @@ fn note_refused(refused: &mut Option<usize>, after: Option<State>, at: usize)
     if after.is_none() {
         *refused = Some(earlier(*refused, at));
     }
+}
+
+/// Marks the record at this place, if there is a mark for it, after a move there that led to this state, or
+/// was not allowed.
+fn mark_refused(marks: &mut Vec<bool>, after: Option<State>, at: usize)
+    ensures { (before : State) → marks.new.items ≡ marks_after marks.old.items (Some before) after at }
+{
+    if after.is_none() {
+        mark(marks, at);
+    }
+}
+
+/// Marks the record at this place, if there is a mark for it.
+fn mark(marks: &mut Vec<bool>, at: usize)
+    ensures { marks.new.items ≡ set marks.old.items at true }
+{
+    if at < marks.len() {
+        marks[at] = true;
+    }
+}
+
+/// Returns the table in which no record is marked. Fails only when out of memory.
+fn no_marks(alloc: Global, count: usize) -> Result<Vec<bool>, AllocError>
+    ensures { IfOk result (λ marks. marks.items ≡ replicate count false) }
+{
+    vec![in alloc; false; count]
 }
 
 /// Returns the earlier of the two places, or the second one where there is no first.

@@ -7,11 +7,11 @@ ghost use Rattle.ompt_events.specs.declared.names.SyncKind.{SyncKind};
 ghost use Rattle.ompt_events.specs.Regions.{kind_at, is_called_barrier, IsRegion};
 ghost use Rattle.ompt_events.specs.Causes.{HasCause, IsFreeOf};
 ghost use Rattle.task_tree.specs.Runs.{IsRegionEvent};
-ghost use Rattle.task_tree.specs.Own.{IsOwnFault};
-ghost use Rattle.task_states.specs.Regions.{AreLinked, AreRegions, IsRegionBegin, IsEarliest, IsInnermost, IsPlaceJudged, top_after};
+ghost use Rattle.task_tree.specs.Own.{AreAllPlacesWith, FindsFirstPlace, IsOwnFault};
+ghost use Rattle.task_states.specs.Regions.{AreLinked, AreLinkedOrNot, AreOpened, AreRegions, IsRegionBegin, IsEarliest, IsInnermost, IsPlaceJudged, top_after};
 
 use index_tables::Slot;
-use ompt_events::{Cause, Endpoint, Fault, SyncKind};
+use ompt_events::{Cause, Endpoint, Fault, Shown, SyncKind};
 use std::alloc::{AllocError, Global};
 use std::marker::Model;
 use task_tree::{Own, RegionEvent, Run};
@@ -78,15 +78,62 @@ impl<'a> Regions<'a> {
     }
 }
 
+/// Returns all places in the file at which a region ends without its begin, or an explicit task begins or
+/// ends a barrier. `Regions::in_own` fails with the first of them. Takes a few steps for each record, and
+/// memory linear in the records.
+pub fn misplaced_regions(alloc: Global, own: &Own) -> Result<Shown, AllocError>
+    ensures { IfOk result (AreAllPlacesWith own.now RegionOrder) }
+{
+    let run = own.run();
+    let links = link_regions(alloc, own)?;
+    let mut shown = Shown::none(alloc);
+    if links.earliest.is_none() {
+        return Ok(shown);
+    }
+    for place in 0..run.len() {
+        let misplaced = is_misplaced_by(run, links.opened.as_slice(), own.number(place));
+        shown.note(place, misplaced)?;
+    }
+    Ok(shown)
+}
+
 /// Returns for each record the begin that an end belongs to, or the innermost region of the task that is
 /// open when a begin opens another. Fails with the first place in the file of an end that belongs to no
-/// begin, or of a begin or end of a barrier by an explicit task. Such a record opens or closes a region as
-/// any other.
+/// begin, or of a begin or end of a barrier by an explicit task.
 fn find_links(alloc: Global, own: &Own) -> Result<Vec<Slot>, Fault>
     ensures linked { IfOk result (λ links.
         AreLinked own.now.run.records (length own.now.run.records) links.items) }
     ensures free { OnOk result (IsFreeOf own.now.run.records RegionOrder) }
     ensures fault { IfErr result (IsOwnFault own.now RegionOrder) }
+{
+    let links = link_regions(alloc, own)?;
+    match links.earliest {
+        Some(at) => Err(Fault::Malformed {
+            at,
+            cause: Cause::RegionOrder,
+        }),
+        None => Ok(links.opened),
+    }
+}
+
+/// The regions of a run in its tasks' own order, whether or not each may begin or end where it does.
+#[derive(Drop)]
+struct Links {
+    /// For each record that begins or ends a region, the innermost one of its task that is open before it.
+    opened: Vec<Slot>,
+    /// The first place in the file at which a region may not begin or end.
+    earliest: Option<usize>,
+}
+
+/// Returns the region that is open before each record that begins or ends one, and the first place in the
+/// file at which a region may not begin or end. A record that may not opens or closes a region as any other.
+/// Fails only when out of memory.
+fn link_regions(alloc: Global, own: &Own) -> Result<Links, AllocError>
+    ensures opened { IfOk result (λ links.
+        AreOpened own.now.run.records (length own.now.run.records) links.opened.items) }
+    ensures linked { IfOk result (λ links.
+        AreLinkedOrNot own.now.run.records (length own.now.run.records) links.opened.items) }
+    ensures earliest { IfOk result (λ links. FindsFirstPlace own.now RegionOrder links.earliest) }
 {
     let run = own.run();
     let mut innermost = no_places(alloc, run.task_count())?;
@@ -102,13 +149,10 @@ fn find_links(alloc: Global, own: &Own) -> Result<Vec<Slot>, Fault>
         innermost[event.task] = next_top(&links, opened, number, event.endpoint);
         links[number] = opened;
     }
-    match earliest {
-        Some(at) => Err(Fault::Malformed {
-            at,
-            cause: Cause::RegionOrder,
-        }),
-        None => Ok(links),
-    }
+    Ok(Links {
+        opened: links,
+        earliest,
+    })
 }
 
 /// Returns the earlier in the file of two places: the earliest so far, if there is one, and that of the
@@ -125,6 +169,19 @@ fn earlier(own: &Own, earliest: Option<usize>, number: usize, has: bool) -> Opti
     match earliest {
         Some(before) => Some(before.min(place)),
         None => Some(place),
+    }
+}
+
+/// Returns whether the record with this number begins or ends a region that may not, by the regions that are
+/// open before each record.
+fn is_misplaced_by(run: &Run, opened: &[Slot], number: usize) -> bool
+    requires within { number < length run.now.records }
+    requires opened { AreOpened run.now.records (length run.now.records) opened.now }
+    ensures { IsTrue result ↔ HasCause run.now.records number RegionOrder }
+{
+    match run.region(number) {
+        Some(event) => is_misplaced(run, number, link_at(opened, number).get(), event),
+        None => false,
     }
 }
 

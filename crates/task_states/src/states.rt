@@ -6,7 +6,7 @@ ghost use Rattle.ompt_events.specs.Faults.{FindsFirst, IsFault, IsShownFault};
 ghost use Rattle.task_tree.specs.Families.{IsOwnOf};
 ghost use Rattle.task_states.specs.States.{AreStates, IsStates, IsLastState};
 
-use crate::current::find_misfit;
+use crate::current::find_misfits;
 use crate::homes::{Schedules, find_moved};
 use crate::progress::find_progress;
 use crate::regions::Regions;
@@ -69,7 +69,8 @@ impl<'a> States<'a> {
             (IsShownFault run.now.records (NotCurrent ∷ Moved ∷ TurnGap ∷ StatusOrder ∷ RegionOrder ∷ [])) }
     {
         let _records = own.run();
-        find_misfit(alloc, run)?;
+        let misfits = find_misfits(alloc, run)?;
+        exclude(Cause::NotCurrent, misfits.first())?;
         let schedules = find_moved(alloc, run)?;
         exclude(Cause::TurnGap, gap)?;
         let states = find_states(alloc, &schedules)?;
@@ -118,7 +119,7 @@ fn find_states(alloc: Global, schedules: &Schedules) -> Result<Vec<Option<State>
     ensures ordered { OnOk result (IsFreeOf schedules.now.records StatusOrder) }
     ensures fault { IfErr result (IsFault schedules.now.records (StatusOrder ∷ [])) }
 {
-    let progress = find_progress(alloc, schedules)?;
+    let progress = find_progress(alloc, schedules, 0)?;
     exclude(Cause::StatusOrder, progress.refused())?;
     Ok(progress.into_states())
 }

@@ -47,5 +47,5 @@ pub fn nested(alloc: Global, trace: &Trace, tree: &Tree) -> Result<Option<usize>
         (IsFreeOf trace.now.records NestedParallel) (IsFirstWith trace.now.records NestedParallel)) }
     ensures memory_alone { IfErr result (λ fault. fault ≡ Memory) }
 {
-    Ok(find_nested(alloc, &tree.families().run(tree.trace()))?)
+    Ok(find_nested(alloc, &tree.families().run(tree.trace()))?.first())
 }

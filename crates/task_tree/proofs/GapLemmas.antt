@@ -17,8 +17,9 @@ use Rattle.ompt_events.specs.Turns.{turn_at}
 use Rattle.ompt_events.specs.Tree.{IsRoot}
 use Rattle.ompt_events.specs.Causes.{HasTurnGap, other_turn, begun_again, falling, of_root, missing}
 use Rattle.ompt_events.specs.Causes.{BeginsTurn, runs, is_root, TellsStart, HasCause, turn_gap, IsFreeOf}
-use Rattle.ompt_events.specs.Causes.{IsFirstWith}
+use Rattle.ompt_events.specs.Shown.{AreAllBelow, AreAllWith}
 use Rattle.ompt_events.proofs.PlaceLemmas.{at_within}
+use Rattle.ompt_events.proofs.ShownLemmas.{all_with}
 use Rattle.task_tree.specs.declared.gap_search.Begins.{Begins}
 use Rattle.task_tree.specs.declared.gap_search.Start.{Start}
 use Rattle.task_tree.specs.GapSearch.{pair_cmp, kept_turn}
@@ -343,13 +344,12 @@ free_of_gap rs n past free i has =
     let gap = has_gap_of rs i has in
     free i (let within = gap_within rs i gap in omega (arith, within, past)) gap
 
-pub first_gap : (rs : List Record) (i : ℕ) → HasTurnGap rs i → ((k : ℕ) → k < i → HasTurnGap rs k → ⊥)
-    → IsFirstWith rs TurnGap i
-first_gap rs i gap free = record {
-  within = gap_within rs i gap;
-  has = turn_gap gap;
-  first = λ k less has. free k less (has_gap_of rs k has);
-}
+pub all_gaps : (rs : List Record) (n : ℕ) (places : List ℕ) → length rs ≡ n
+    → AreAllBelow (HasTurnGap rs) n places → AreAllWith rs TurnGap places
+all_gaps rs n places long are = all_with rs TurnGap (HasTurnGap rs) n places long (λ i gap. turn_gap gap)
+    (λ i has.
+    let gap = has_gap_of rs i has in
+    (let within = gap_within rs i gap in omega (arith, within, long), gap)) are
 
 -- ---- the roots
 

@@ -1,31 +1,29 @@
 -- What the records name is gathered, and when a record makes something again.
 use Rattle.std.proofs.Common.{get_or, ◌≡◌, ◌∙◌, ℕ, ◌<◌, ◌+◌, List, [], ◌∷◌, length, Option, Some, None}
-use Rattle.std.proofs.Common.{Result, Ok, Err, refl, sym, ap, arith, inl, inr, ◌⊎◌, ◌≤◌}
+use Rattle.std.proofs.Common.{Result, Ok, Err, refl, sym, ap, arith, inl, inr, ◌⊎◌, ◌≤◌, Bool, true, false}
 use Rattle.std.proofs.Math.Nat.{min-eq_left, min-eq_right}
-use Rattle.std.proofs.lemmas.Bool.{cases_eq, cases_order, cases_lt}
+use Rattle.std.proofs.lemmas.Bool.{cases_eq, cases_order, cases_lt, false≢true}
 use Rattle.std.proofs.lemmas.Option.{none-some, same_Some, slice_get_within, slice_get-get_or}
 use Rattle.std.proofs.lemmas.List.{length_push, append-nil}
 use Rattle.std.proofs.lemmas.List.Elements.{filter_map-append}
 use Rattle.std.specs.List.{filter_map, range_with_len, cons_option}
 use Rattle.std.specs.Result.{result_err}
-use Rattle.std.specs.Prelude.{◌++◌, slice_get, option_and_then, option_map, IfOk, IfErr}
+use Rattle.std.specs.Prelude.{◌↔◌, ◌++◌, slice_get, option_and_then, option_map, IfOk, IfErr, IsTrue}
 use Rattle.ompt_events.specs.declared.records.Record.{Record}
 use Rattle.ompt_events.specs.declared.records.Body.{Body}
 use Rattle.ompt_events.specs.declared.cause.Cause.TheVariants.{CreatedTwice}
 use Rattle.ompt_events.specs.Records.{made, forked}
 use Rattle.ompt_events.specs.Places.{at}
 use Rattle.ompt_events.specs.Causes.{HasCause, created_twice, forked_twice, IsFirstWith, IsFreeOf}
+use Rattle.ompt_events.specs.Shown.{AreAllBelow, AreAllWith}
 use Rattle.ompt_events.proofs.PlaceLemmas.{at_within, range_more}
+use Rattle.ompt_events.proofs.ShownLemmas.{all_with}
 use Rattle.ompt_events.proofs.ListLemmas.{get_pushed, get_last, get_contains, contains_get, pushed_cases}
 use Rattle.index_tables.specs.Numbering.{AreApart}
 use Rattle.task_tree.specs.declared.makers.Names.{Names}
 use Rattle.task_tree.specs.Makers.{AreNoted, ArePlacesBelow, AreMade, AreGathered, AddsName, IsPlaceAgain}
-use Rattle.task_tree.specs.Makers.{ids_named, least_of}
+use Rattle.task_tree.specs.Makers.{ids_named, least_of, MakesAgain, Repeats}
 use Rattle.packed_trace.specs.Packed.{forked_region}
-
--- an earlier record says the same id
-abbrev pub Repeats : (Body → Option ℕ) → List Record → ℕ → Type 0
-Repeats says rs i = (id k : ℕ) × (k < i) × (at says rs k ≡ Some id) × (at says rs i ≡ Some id)
 
 -- a region that begins is begun by a task
 forked_by : (region : ℕ) (b : Body) → forked_region b ≡ Some region
@@ -329,3 +327,28 @@ region_again rs tasks places regions begins region are begun apart again =
     first_twice rs region (inr (place_again forked_region rs regions begins region begun again))
     (λ k _. never_again made rs tasks places are apart k)
     (not_before forked_region rs regions begins region begun again)
+
+-- ---- all records that do
+
+-- one of two tests says that the record makes something again
+pub again_either : (rs : List Record) (i : ℕ) (task region shows : Bool) → (IsTrue task ↔ Repeats made rs i)
+    → (IsTrue region ↔ Repeats forked_region rs i)
+    → ((task ≡ true) × (shows ≡ task)) ⊎ ((task ≡ false) × (shows ≡ region)) → IsTrue shows ↔ MakesAgain rs i
+again_either rs i task region shows tasks regions (inl (made_it, is)) =
+    (λ _. inl (tasks.0 made_it), λ _. is ∙ made_it)
+again_either rs i task region shows tasks regions (inr (not_made, is)) = (
+  λ shown. inr (regions.0 (sym is ∙ shown)),
+  λ again. elim again [
+    | inl by_task ↦ absurd (false≢true (sym not_made ∙ tasks.1 by_task))
+    | inr by_region ↦ is ∙ regions.1 by_region
+  ],
+)
+
+pub all_again : (rs : List Record) (n : ℕ) (places : List ℕ) → length rs ≡ n
+    → AreAllBelow (MakesAgain rs) n places → AreAllWith rs CreatedTwice places
+all_again rs n places long are =
+    all_with rs CreatedTwice (MakesAgain rs) n places long (λ i again. elim again [
+      | inl task ↦ twice_task rs i task
+      | inr region ↦ twice_region rs i region
+    ]) (λ i has. (let inside = twice_within rs i has in omega (arith, inside, long), twice_cases rs i has))
+    are

@@ -1,22 +1,29 @@
 -- Which records speak of a task without a root.
-use Rattle.std.proofs.Common.{◌≡◌, ◌∙◌, ℕ, ◌<◌, ◌≤◌, ◌+◌, List, [], ◌∷◌, ◌++◌, length, get_or, Option, Some}
+use Rattle.std.proofs.Common.{◌≡◌, ◌∙◌, ℕ, ◌<◌, ◌+◌, List, [], ◌∷◌, ◌++◌, length, get_or, Option, Some}
 use Rattle.std.proofs.Common.{None, refl, sym, ap, subst, arith, inl, inr}
 use Rattle.std.proofs.lemmas.Option.{none-some, same_Some, slice_get_within, slice_get-get_or}
 use Rattle.std.proofs.lemmas.Bool.{false≢true, cases_eq}
+use Rattle.std.proofs.lemmas.List.Elements.{All-nil}
 use Rattle.std.specs.Prelude.{◌↔◌, ◌⊎◌, zero, suc, is_some, true, false, slice_get, Contains, IfSome}
-use Rattle.std.specs.Prelude.{IsSomeAnd}
+use Rattle.std.specs.Prelude.{IsSomeAnd, IsTrue, Bool}
 use Rattle.std.specs.Prelude.{option_map, option_and_then, option_to_list}
 use Rattle.ompt_events.specs.declared.records.Record.{Record}
+use Rattle.ompt_events.specs.declared.cause.Cause.{Cause}
 use Rattle.ompt_events.specs.declared.cause.Cause.TheVariants.{Rootless}
+use Rattle.ompt_events.specs.declared.fault.Fault.{Fault}
+use Rattle.ompt_events.specs.declared.fault.Fault.TheVariants.{Memory, Malformed}
+use Rattle.ompt_events.specs.Faults.{IsFault}
 use Rattle.ompt_events.specs.Records.{made, named, created, creation, claim, region_named}
 use Rattle.ompt_events.specs.Places.{at}
 use Rattle.ompt_events.specs.Tree.{IsRoot, IsRooted, root as root_rooted, child as child_rooted, HasPath, top}
 use Rattle.ompt_events.specs.Tree.{below}
 use Rattle.ompt_events.specs.Causes.{IsMade, IsForked, HasNoRoot, unmade, unrooted, no_region, HasCause}
-use Rattle.ompt_events.specs.Causes.{rootless, IsFirstWith, IsFreeOf}
+use Rattle.ompt_events.specs.Causes.{rootless, IsFreeOf}
+use Rattle.ompt_events.specs.Shown.{AreAllBelow, AreAllWith}
 use Rattle.ompt_events.proofs.PlaceLemmas.{at_get, at_within, none_from_test, some_and, and_some}
 use Rattle.ompt_events.proofs.RecordLemmas.{begun_at_made, created_at_made}
 use Rattle.ompt_events.proofs.TreeLemmas.{child_place}
+use Rattle.ompt_events.proofs.ShownLemmas.{all_with}
 use Rattle.ompt_events.proofs.ListLemmas.{contains_get, get_contains}
 use Rattle.task_tree.specs.Makers.{AreNoted}
 use Rattle.packed_trace.specs.Packed.{forked_region}
@@ -33,6 +40,8 @@ use Rattle.task_tree.specs.Subjects.{Finds, AreFound, IsKnownAt}
 use Rattle.packed_trace.specs.Named.{subject, object}
 use Rattle.task_tree.specs.Rootless.{AreRootsMade, CreatesUnrooted, NamesNoRegion, IsRootless, NamesKnown}
 use Rattle.task_tree.specs.Rootless.{AllNameKnown, IsMissing}
+use Rattle.task_tree.specs.Tables.{AreTablesOf}
+use Rattle.task_tree.specs.declared.tables.Tables.{Tables}
 use Rattle.task_tree.proofs.MakerLemmas.{forked_at, region_at}
 
 -- a task that stands below a root is rooted
@@ -132,19 +141,46 @@ rootless_within rs i (unmade task (r, stands, has) fresh) = slice_get_within rs 
 rootless_within rs i (unrooted task creates none) = at_within created rs i task creates
 rootless_within rs i (no_region region names none) = at_within region_named rs i region names
 
-pub first_rootless : (rs : List Record) (i : ℕ) → ((k : ℕ) → k < i → HasNoRoot rs k → ⊥) → HasNoRoot rs i
-    → IsFirstWith rs Rootless i
-first_rootless rs i before here = record {
-  within = rootless_within rs i here;
-  has = rootless here;
-  first = λ k low has. before k low (no_root_at rs k has);
+-- what decides of the record decides whether its place has the cause
+pub decides_rootless : (rs : List Record) (tables : Tables) (i : ℕ) (r : Record) (shows : Bool)
+    → AreTablesOf rs tables → slice_get rs i ≡ Some r
+    → (IsTrue shows ↔ IsRootless tables.tasks tables.regions tables.roots.items r.body)
+    → IsTrue shows ↔ HasNoRoot rs i
+decides_rootless rs tables i r shows are stands decides = (
+  λ shown.
+      rootless_here rs tables.tasks tables.regions tables.roots.items i r are.noted are.regions are.roots
+      stands
+      (decides.0 shown),
+  λ has.
+      decides.1
+      (here_rootless rs tables.tasks tables.regions tables.roots.items i r are.noted are.regions are.roots
+      stands has),
+)
+
+pub all_rootless : (rs : List Record) (n : ℕ) (places : List ℕ) → length rs ≡ n
+    → AreAllBelow (HasNoRoot rs) n places → AreAllWith rs Rootless places
+all_rootless rs n places long are =
+    all_with rs Rootless (HasNoRoot rs) n places long (λ i here. rootless here) (λ i has.
+    let here = no_root_at rs i has in
+    (let inside = rootless_within rs i here in omega (arith, inside, long), here)) are
+
+pub none_rootless : (rs : List Record) → IsFreeOf rs Rootless → AreAllWith rs Rootless []
+none_rootless rs free = record {
+  rising = λ i j d less within. absurd (omega arith);
+  within = All-nil (λ place. place < length rs);
+  hold = All-nil (λ i. HasCause rs i Rootless);
+  complete = λ i has. absurd (free i has);
 }
 
-pub free_of_rootless : (rs : List Record) (n : ℕ) → ((k : ℕ) → k < n → HasNoRoot rs k → ⊥) → length rs ≤ n
-    → IsFreeOf rs Rootless
-free_of_rootless rs n none all i has =
-    let here = no_root_at rs i has in
-    none i (let inside = rootless_within rs i here in omega arith) here
+-- a search for a cause that does not occur fails for memory alone
+pub free_memory : (rs : List Record) (cause : Cause) (fault : Fault) → IsFreeOf rs cause
+    → IsFault rs (cause ∷ []) fault → fault ≡ Memory
+free_memory rs cause Memory free is = refl
+free_memory rs cause (Malformed i told) free is = absurd (of is.sought_for is.found.has)
+  where
+    of : Contains (cause ∷ []) told → HasCause rs i told → ⊥
+    of (zero, low, same) has = let P : Cause → Type 0 = HasCause rs i in free i (subst P (sym same) has)
+    of (suc k, low, same) has = absurd (omega (arith, low))
 
 -- ---- what decides of a record, by the slots of its subject and its object
 

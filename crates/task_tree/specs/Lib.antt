@@ -2,7 +2,7 @@
 -- tasks is, is defined in `ompt_events` (Tree). Read Family, Own and Paths first, then the steps in their
 -- order. The last ones are of turns: records in another order in which each task's own keep theirs, for the
 -- laws; when file order is the own order already; the chains of the threads' records; the turn of each
--- record; the first gap (the rows of the turns that begin, a record without a gap, and the search by maps);
+-- record; the gaps (the rows of the turns that begin, a record without a gap, and the search by maps);
 -- the own order, and the families by it. What a turn and the tasks' own order are, is defined in
 -- `ompt_events` (Turns).
 pub mod Family
@@ -18,6 +18,7 @@ pub mod Rows
 pub mod Roots
 pub mod Forward
 pub mod Lineage
+pub mod Tables
 pub mod Rootless
 pub mod Renaming
 pub mod Rising

@@ -1,7 +1,10 @@
 -- What is noted of the records while they are visited.
 use Rattle.std.specs.Prelude.{ℕ, ◌≡◌, ◌<◌, ◌≤◌, ◌++◌, ◌∷◌, [], List, length, Option, Some, None}
 use Rattle.std.specs.Prelude.{Contains, slice_get, min}
+use Rattle.std.specs.Prelude.{◌⊎◌, true}
 use Rattle.std.specs.List.{filter_map, range_with_len}
+use Rattle.std.specs.Ordering.{nat_cmp}
+use Rattle.std.specs.BTreeSet.{BTreeSet, contains}
 use Rattle.ompt_events.specs.declared.records.Record.{Record}
 use Rattle.ompt_events.specs.declared.records.Body.{Body}
 use Rattle.ompt_events.specs.Records.{made}
@@ -66,3 +69,19 @@ IsPlaceAgain ids places place = (index : ℕ) × IsFirstAgain ids index × (slic
 abbrev pub least_of : ℕ → Option ℕ → ℕ
 least_of place None = place
 least_of place (Some other) = min place other
+
+-- ---- the records that make something again
+
+-- an earlier record names the same id
+abbrev pub Repeats : (Body → Option ℕ) → List Record → ℕ → Type 0
+Repeats says rs i = (id k : ℕ) × (k < i) × (at says rs k ≡ Some id) × (at says rs i ≡ Some id)
+
+-- an earlier record makes the same task, or begins the same region
+abbrev pub MakesAgain : List Record → ℕ → Type 0
+MakesAgain rs i = Repeats made rs i ⊎ Repeats forked_region rs i
+
+-- the set has the ids that the first n records name in this way
+pub record AreNamedBefore (says : Body → Option ℕ) (rs : List Record) (n : ℕ) (ids : BTreeSet ℕ)
+    : Type 0 where
+  pub each : (i id : ℕ) → i < n → at says rs i ≡ Some id → contains nat_cmp ids id ≡ true
+  pub only : (id : ℕ) → contains nat_cmp ids id ≡ true → (i : ℕ) × (i < n) × (at says rs i ≡ Some id)

@@ -9,6 +9,7 @@ use Rattle.ompt_events.specs.declared.fault.Fault.TheVariants.{Memory, Malformed
 use Rattle.ompt_events.specs.Records.{joined}
 use Rattle.ompt_events.specs.Places.{at}
 use Rattle.ompt_events.specs.Causes.{HasCause, IsFreeOf}
+use Rattle.ompt_events.specs.Shown.{AreAll}
 use Rattle.task_tree.specs.Runs.{RunView, IsRun}
 use Rattle.task_tree.specs.OwnOrder.{AreAllPlaces}
 
@@ -51,6 +52,10 @@ pub record IsFirstPlaceWith (own : OwnView) (cause : Cause) (place : ℕ) : Type
 abbrev pub FindsFirstPlace : OwnView → Cause → Option ℕ → Type 0
 FindsFirstPlace own cause found =
     MatchOption found (IsFreeOf own.run.records cause) (IsFirstPlaceWith own cause)
+
+-- these are all places in the file at which a record has the cause in the tasks' own order, in file order
+abbrev pub AreAllPlacesWith : OwnView → Cause → List ℕ → Type 0
+AreAllPlacesWith own cause places = AreAll (HasCauseAt own cause) (length own.run.records) places
 
 -- the cause was found, at its first place in the file, unless the call ran out of memory
 abbrev pub IsOwnFault : OwnView → Cause → Fault → Type 0

@@ -11,13 +11,11 @@ ghost use Rattle.packed_trace.specs.Named.{subject, object};
 ghost use Rattle.task_tree.specs.Subjects.{Calls};
 
 use crate::link_slot::LinkSlot;
-use crate::links::{Link, Linked};
-use crate::makers::{Made, find_made};
+use crate::links::Link;
 use crate::rootless::find_rootless;
-use crate::roots::{Standing, find_roots};
-use crate::rows::find_rows;
+use crate::roots::Standing;
 use crate::standing_slot::StandingSlot;
-use crate::subjects::{Lookup, find_subjects};
+use crate::tables::find_tables;
 use index_tables::{Numbering, Rows, Seeded, Slot};
 use ompt_events::{Cause, Fault, Record, exclude};
 use packed_trace::PackedTrace;
@@ -69,27 +67,18 @@ impl Family {
         ensures seeded { IfOk result (HasRegionSeed trace.now.records) }
         ensures fault { IfErr result (IsFault trace.now.records (CreatedTwice ∷ Rootless ∷ [])) }
     {
-        let Made {
-            tasks,
-            places,
-            regions,
-        } = find_made(alloc, trace)?;
-        let Lookup { named, linked } = find_subjects(alloc, trace, &tasks, &regions)?;
-        let Linked { counts, links } = linked;
-        let rows = find_rows(alloc, tasks.as_slice(), counts.as_slice(), links.as_slice())?;
-        drop(counts);
-        let roots = find_roots(alloc, trace, &tasks, &places, &links, &rows)?;
-        let unrooted = find_rootless(trace, &tasks, &named, &regions, roots.as_slice());
-        exclude(Cause::Rootless, unrooted)?;
+        let tables = find_tables(alloc, trace)?;
+        let unrooted = find_rootless(alloc, trace, &tables)?;
+        exclude(Cause::Rootless, unrooted.first())?;
         Ok(Family {
-            tasks,
-            places,
-            subjects: named.subjects,
-            objects: named.objects,
-            rows,
-            links,
-            roots,
-            region_hashers: Seeded::of(regions.as_slice()),
+            tasks: tables.tasks,
+            places: tables.places,
+            subjects: tables.named.subjects,
+            objects: tables.named.objects,
+            rows: tables.rows,
+            links: tables.links,
+            roots: tables.roots,
+            region_hashers: Seeded::of(tables.regions.as_slice()),
         })
     }
 

@@ -1,4 +1,4 @@
-//! The search for the first record with a turn gap: the turns that it gives are not those of its tasks.
+//! The search for the records with a turn gap: the turns that they give are not those of their tasks.
 //!
 //! A first pass notes where each turn of each task begins, and which tasks are roots. A second pass checks
 //! the turns that each record gives. It keeps, for each thread, the greatest turn that each task began on
@@ -9,10 +9,11 @@ ghost use Rattle.ompt_events.specs.declared.records.Record.{Record};
 ghost use Rattle.ompt_events.specs.declared.cause.Cause.TheVariants.{TurnGap};
 ghost use Rattle.ompt_events.specs.Turns.{turn_at};
 ghost use Rattle.ompt_events.specs.Causes.{HasTurnGap, BeginsTurn};
-ghost use Rattle.ompt_events.specs.Faults.{FindsFirst};
+ghost use Rattle.ompt_events.specs.Shown.{AreAllWith};
 ghost use Rattle.task_tree.specs.TurnTable.{AreTurns};
 ghost use Rattle.task_tree.specs.GapSearch.{pair_cmp, kept_turn, AreFirst, AreRootsBegun, AreFirstBegins, IsTurnRaised, AreGreatestTurns, IsBegunBefore, IsFalling, BeginsRoot, LacksBefore, IsWrongStart};
 
+use ompt_events::Shown;
 use packed_trace::PackedTrace;
 use std::alloc::{AllocError, Global};
 use std::collections::{BTreeMap, BTreeSet};
@@ -35,25 +36,24 @@ struct Start {
     turn: u32,
 }
 
-/// Returns the place of the first record with a turn gap, given the turn of each record. The records need
-/// not be a trace.
-pub(crate) fn search_gap(
+/// Returns the places of all records with a turn gap, given the turn of each record. The records need not be
+/// a trace.
+pub(crate) fn search_gaps(
     alloc: Global,
     trace: &PackedTrace,
     turns: &[u32],
-) -> Result<Option<usize>, AllocError>
+) -> Result<Shown, AllocError>
     requires { AreTurns trace.now.records turns.now }
-    ensures { IfOk result (FindsFirst trace.now.records TurnGap) }
+    ensures { IfOk result (AreAllWith trace.now.records TurnGap) }
 {
     let begins = find_begins(alloc, trace)?;
     let mut greatest = BTreeMap::new(alloc);
+    let mut shown = Shown::none(alloc);
     for at in 0..trace.len() {
-        if has_gap(trace, &begins, &greatest, at, turns[at]) {
-            return Ok(Some(at));
-        }
+        shown.note(at, has_gap(trace, &begins, &greatest, at, turns[at]))?;
         raise_turn(&mut greatest, trace, at)?;
     }
-    Ok(None)
+    Ok(shown)
 }
 
 /// Returns the places at which the turns of the records begin.

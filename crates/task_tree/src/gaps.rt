@@ -1,22 +1,24 @@
-//! The first record with a turn gap: the turns that it gives are not those of its tasks.
+//! The records with a turn gap, and the first of them: the turns that it gives are not those of its tasks.
 //!
-//! A few passes check that no record has a gap. Only if one has, or may have, the first is searched for,
-//! which takes longer.
+//! A few passes check that no record has a gap. Only if one has, or may have, a search goes through all
+//! records, which takes longer.
 ghost use Rattle.std.specs.Prelude.{ℕ, ◌≡◌, ◌<◌, IfOk, IsTrue, Some, length, slice_get};
 ghost use Rattle.ompt_events.specs.declared.cause.Cause.TheVariants.{TurnGap};
 ghost use Rattle.ompt_events.specs.Turns.{turn_at};
 ghost use Rattle.ompt_events.specs.Causes.{IsFreeOf};
 ghost use Rattle.ompt_events.specs.Faults.{FindsFirst};
+ghost use Rattle.ompt_events.specs.Shown.{AreAllWith};
 ghost use Rattle.task_tree.specs.Family.{IsFamilyOf};
 ghost use Rattle.task_tree.specs.TurnTable.{AreTurns, IsOrderTold};
 ghost use Rattle.task_tree.specs.TurnRows.{AreTurnRows};
 ghost use Rattle.task_tree.specs.Gaps.{TellsRightly, MayBeginThere};
 
 use crate::family::Family;
-use crate::gap_search::search_gap;
+use crate::gap_search::search_gaps;
 use crate::rising::{Begin, start_at, tells_other};
 use crate::turn_rows::{TurnRows, find_rows, has_begun};
-use crate::turn_table::RecordTurns;
+use crate::turn_table::{RecordTurns, turns_of};
+use ompt_events::Shown;
 use packed_trace::PackedTrace;
 use std::alloc::{AllocError, Global};
 
@@ -36,7 +38,18 @@ pub fn find_gap(
     if is_gapless(alloc, trace, family, turns)? {
         return Ok(None);
     }
-    search_gap(alloc, trace, turns.as_slice())
+    let gaps = search_gaps(alloc, trace, turns.as_slice())?;
+    Ok(gaps.first())
+}
+
+/// Returns the places of all records with a turn gap. Requires of the records only that the family is
+/// theirs.
+pub fn turn_gaps(alloc: Global, trace: &PackedTrace, family: &Family) -> Result<Shown, AllocError>
+    requires { IsFamilyOf trace.now.records family.now }
+    ensures { IfOk result (AreAllWith trace.now.records TurnGap) }
+{
+    let turns = turns_of(alloc, trace, family)?;
+    search_gaps(alloc, trace, turns.as_slice())
 }
 
 /// Returns true only if no record has a turn gap. Returns false without one only if a task runs next at a

@@ -1,18 +1,24 @@
 //! Which tasks and parallel regions the records make.
-ghost use Rattle.std.specs.Prelude.{◌≡◌, ◌<◌, ◌≤◌, ◌^◌, ◌∷◌, [], IfOk, OnOk, IfErr, length};
+ghost use Rattle.std.specs.Prelude.{ℕ, ◌≡◌, ◌<◌, ◌≤◌, ◌^◌, ◌+◌, ◌∷◌, ◌↔◌, [], List, Option, IsTrue, IfOk, OnOk, IfErr, length};
 ghost use Rattle.ompt_events.specs.declared.cause.Cause.TheVariants.{CreatedTwice};
 ghost use Rattle.ompt_events.specs.declared.fault.Fault.TheVariants.{Malformed};
+ghost use Rattle.ompt_events.specs.declared.records.Record.{Record};
+ghost use Rattle.ompt_events.specs.declared.records.Body.{Body};
 ghost use Rattle.ompt_events.specs.Records.{made};
+ghost use Rattle.ompt_events.specs.Places.{at as says_at};
 ghost use Rattle.ompt_events.specs.Causes.{IsFreeOf};
+ghost use Rattle.ompt_events.specs.Shown.{AreAllWith};
 ghost use Rattle.index_tables.specs.Numbering.{AreApart};
 ghost use Rattle.task_tree.specs.Makers.{AreNoted, AreMade, AreGathered, AddsName, IsPlaceAgain, begun_regions, least_of};
+ghost use Rattle.task_tree.specs.Makers.{AreNamedBefore, Repeats};
 ghost use Rattle.ompt_events.specs.Faults.{IsFault};
 ghost use Rattle.packed_trace.specs.Packed.{forked_region};
 
 use index_tables::Numbering;
-use ompt_events::{Cause, Fault};
+use ompt_events::{Cause, Fault, Shown};
 use packed_trace::PackedTrace;
 use std::alloc::{AllocError, Global};
+use std::collections::BTreeSet;
 
 /// The tasks that the records make and the parallel regions that they begin, each in file order, and by
 /// index of the task the place of the record that makes it.
@@ -85,7 +91,7 @@ pub(crate) fn find_made(alloc: Global, trace: &PackedTrace) -> Result<Made, Faul
         Ok(tasks) => tasks,
         Err(task) => {
             let region = number(alloc, regions)?.err();
-            return Err(made_again(task, region));
+            return Err(first_again(task, region));
         }
     };
     match number(alloc, regions)? {
@@ -94,7 +100,7 @@ pub(crate) fn find_made(alloc: Global, trace: &PackedTrace) -> Result<Made, Faul
             places: tasks.places,
             regions: regions.ids,
         }),
-        Err(region) => Err(made_again(region, None)),
+        Err(region) => Err(first_again(region, None)),
     }
 }
 
@@ -132,7 +138,7 @@ fn number(alloc: Global, names: Names) -> Result<Result<Numbered, usize>, AllocE
 
 /// Returns the fault of the first record that makes something again: of the one at this place, or of the
 /// other if that is before it.
-fn made_again(at: usize, other: Option<usize>) -> Fault
+fn first_again(at: usize, other: Option<usize>) -> Fault
     ensures { result ≡ Malformed (least_of at other) CreatedTwice }
 {
     let first = match other {
@@ -143,4 +149,35 @@ fn made_again(at: usize, other: Option<usize>) -> Fault
         at: first,
         cause: Cause::CreatedTwice,
     }
+}
+
+/// Returns the places of all records that make a task which an earlier record makes, or begin a parallel
+/// region which an earlier one begins.
+pub fn made_again(alloc: Global, trace: &PackedTrace) -> Result<Shown, AllocError>
+    ensures { IfOk result (AreAllWith trace.now.records CreatedTwice) }
+{
+    let mut tasks = BTreeSet::new(alloc);
+    let mut regions = BTreeSet::new(alloc);
+    let mut shown = Shown::none(alloc);
+    for at in 0..trace.len() {
+        let task = is_again(&mut tasks, trace.made(at))?;
+        let region = is_again(&mut regions, trace.forked_region(at))?;
+        shown.note(at, task || region)?;
+    }
+    Ok(shown)
+}
+
+/// Adds the id that a record names, if it names one, to those of the records before it. Returns whether it
+/// is one of these.
+fn is_again(ids: &mut BTreeSet<u64>, found: Option<u64>) -> Result<bool, AllocError>
+    ensures { (says : Body → Option ℕ) (records : List Record) (at : ℕ)
+        → AreNamedBefore says records at ids.old → found ≡ says_at says records at
+        → IfOk result (λ again. (IsTrue again ↔ Repeats says records at)
+        × AreNamedBefore says records (at + 1) ids.new) }
+{
+    let Some(id) = found else {
+        return Ok(false);
+    };
+    let is_new = ids.insert(id)?;
+    Ok(!is_new)
 }

@@ -1,53 +1,56 @@
 //! A check that each record names only tasks that have a root, and parallel regions that began.
-ghost use Rattle.std.specs.Prelude.{ℕ, ◌≡◌, ◌<◌, ◌↔◌, Some, None, IsTrue, IsSomeAnd, IfSome, MatchOption, Contains, length, slice_get};
-ghost use Rattle.ompt_events.specs.declared.cause.Cause.TheVariants.{Rootless};
+ghost use Rattle.std.specs.Prelude.{ℕ, ◌≡◌, ◌<◌, ◌↔◌, Some, None, IfOk, IfErr, IsTrue, IsSomeAnd, IfSome, Contains, length, slice_get};
+ghost use Rattle.ompt_events.specs.declared.cause.Cause.TheVariants.{CreatedTwice, Rootless};
+ghost use Rattle.ompt_events.specs.declared.fault.Fault.TheVariants.{Memory};
 ghost use Rattle.ompt_events.specs.declared.records.Record.{Record};
-ghost use Rattle.ompt_events.specs.Records.{claim, made, region_named};
+ghost use Rattle.ompt_events.specs.Records.{claim, region_named};
 ghost use Rattle.ompt_events.specs.Places.{at as says_at};
-ghost use Rattle.ompt_events.specs.Causes.{IsFreeOf, IsFirstWith};
-ghost use Rattle.task_tree.specs.Makers.{AreNoted};
-ghost use Rattle.packed_trace.specs.Packed.{forked_region};
+ghost use Rattle.ompt_events.specs.Causes.{IsFreeOf, HasNoRoot};
+ghost use Rattle.ompt_events.specs.Shown.{AreAllWith};
 ghost use Rattle.index_tables.specs.Numbering.{AreApart};
-ghost use Rattle.task_tree.specs.Roots.{AreRoots};
-ghost use Rattle.task_tree.specs.Subjects.{Finds, AreFound};
-ghost use Rattle.packed_trace.specs.Named.{subject, object};
-ghost use Rattle.task_tree.specs.Rootless.{AllNameKnown, AreRootsMade, CreatesUnrooted, IsMissing, IsRootless};
+ghost use Rattle.task_tree.specs.Subjects.{Finds};
+ghost use Rattle.packed_trace.specs.Named.{object};
+ghost use Rattle.task_tree.specs.Rootless.{AreRootsMade, CreatesUnrooted, IsMissing};
+ghost use Rattle.task_tree.specs.Tables.{AreTablesOf};
 ghost use Rattle.task_tree.specs.declared.roots.Standing.{Standing};
 
 use crate::standing_slot::StandingSlot;
-use crate::subjects::Subjects;
+use crate::tables::{Tables, find_tables};
 use index_tables::{Numbering, Slot};
+use ompt_events::{Fault, Shown};
 use packed_trace::PackedTrace;
+use std::alloc::{AllocError, Global};
 
-/// Returns the place of the first record that names a task which no record makes, creates one whose chain
-/// of parents reaches no root, or ends or joins a parallel region that no record begins.
-pub(crate) fn find_rootless(
-    trace: &PackedTrace,
-    tasks: &Numbering,
-    named: &Subjects,
-    regions: &Numbering,
-    roots: &[StandingSlot],
-) -> Option<usize>
-    requires apart { AreApart tasks.now }
-    requires tasks { AreNoted made trace.now.records (length trace.now.records) tasks.now }
-    requires regions { AreNoted forked_region trace.now.records (length trace.now.records) regions.now }
-    requires roots { AreRoots trace.now.records tasks.now roots.now }
-    requires subjects { AreFound subject trace.now.records (length trace.now.records) tasks.now named.now.subjects.items }
-    requires objects { AreFound object trace.now.records (length trace.now.records) tasks.now named.now.objects.items }
-    requires known { IsTrue named.now.known
-        → AllNameKnown trace.now.records (length trace.now.records) tasks.now regions.now }
-    ensures { MatchOption result (IsFreeOf trace.now.records Rootless) (IsFirstWith trace.now.records Rootless) }
+/// Returns the places of all records that name a task which no record makes, create one whose chain of
+/// parents reaches no root, or end or join a parallel region that no record begins. Requires that no task
+/// and no region is made twice. Fails only when out of memory.
+pub fn rootless_records(alloc: Global, trace: &PackedTrace) -> Result<Shown, Fault>
+    requires { IsFreeOf trace.now.records CreatedTwice }
+    ensures all { IfOk result (AreAllWith trace.now.records Rootless) }
+    ensures memory_alone { IfErr result (λ fault. fault ≡ Memory) }
 {
+    let tables = find_tables(alloc, trace)?;
+    Ok(find_rootless(alloc, trace, &tables)?)
+}
+
+/// Returns the same, given the tables.
+pub(crate) fn find_rootless(
+    alloc: Global,
+    trace: &PackedTrace,
+    tables: &Tables,
+) -> Result<Shown, AllocError>
+    requires { AreTablesOf trace.now.records tables.now }
+    ensures { IfOk result (AreAllWith trace.now.records Rootless) }
+{
+    let mut shown = Shown::none(alloc);
     // Nearly each file ends here: what the records name was looked up before.
-    if named.known && are_known(roots) {
-        return None;
+    if tables.named.known && are_known(tables.roots.as_slice()) {
+        return Ok(shown);
     }
     for at in 0..trace.len() {
-        if is_rootless(trace, at, tasks, named, regions, roots) {
-            return Some(at);
-        }
+        shown.note(at, is_rootless(trace, at, tables))?;
     }
-    None
+    Ok(shown)
 }
 
 /// Returns true only if the root of each task is known.
@@ -63,40 +66,27 @@ fn are_known(roots: &[StandingSlot]) -> bool
 }
 
 /// Returns whether the record at a place is one of these.
-fn is_rootless(
-    trace: &PackedTrace,
-    at: usize,
-    tasks: &Numbering,
-    named: &Subjects,
-    regions: &Numbering,
-    roots: &[StandingSlot],
-) -> bool
+fn is_rootless(trace: &PackedTrace, at: usize, tables: &Tables) -> bool
     requires within { at < length trace.now.records }
-    requires apart { AreApart tasks.now }
-    requires all { length roots.now ≡ length tasks.now }
-    requires made { AreRootsMade tasks.now roots.now }
-    requires subjects { AreFound subject trace.now.records (length trace.now.records) tasks.now
-        named.now.subjects.items }
-    requires objects { AreFound object trace.now.records (length trace.now.records) tasks.now
-        named.now.objects.items }
-    ensures { (r : Record) → slice_get trace.now.records at ≡ Some r
-        → IsTrue result ↔ IsRootless tasks.now regions.now roots.now r.body }
+    requires tables { AreTablesOf trace.now.records tables.now }
+    ensures { IsTrue result ↔ HasNoRoot trace.now.records at }
 {
-    let first = named.subjects[at];
-    let second = named.objects[at];
+    let roots = tables.roots.as_slice();
+    let first = tables.named.subjects[at];
+    let second = tables.named.objects[at];
     if is_missing(trace.subject(at), first) {
         return true;
     }
     if is_missing(trace.object(at), second) {
         return true;
     }
-    if claims_unmade(trace, at, first, tasks, roots) {
+    if claims_unmade(trace, at, first, &tables.tasks, roots) {
         return true;
     }
-    if creates_unrooted(trace, at, tasks, second, roots) {
+    if creates_unrooted(trace, at, &tables.tasks, second, roots) {
         return true;
     }
-    names_no_region(trace, at, regions)
+    names_no_region(trace, at, &tables.regions)
 }
 
 /// Returns whether the record at a place creates a task of which no root is known. Requires the slot of its

@@ -16,15 +16,14 @@ use Rattle.taskaudit.specs.declared.work.AuditFault.{AuditFault}
 use Rattle.taskaudit.specs.declared.work.AuditFault.TheVariants.{Read, Write, Check, Call, Upgrade, Memory}
 use Rattle.taskaudit.specs.declared.work.Outcome.{Outcome}
 use Rattle.taskaudit.specs.declared.work.Outcome.TheVariants.{Malformed}
-use Rattle.taskaudit.specs.declared.work.Shown.{Shown}
-use Rattle.taskaudit.specs.declared.work.Shown.TheVariants.{Report}
+use Rattle.taskaudit.specs.declared.work.Printed.{Printed}
 use Rattle.taskaudit.specs.Audits.{BreaksOff, IsJudged, IsOfCrew, IsWriteFault, Leaves, LeavesOn, Prints}
 use Rattle.taskaudit.specs.Audits.{Reports}
 use Rattle.taskaudit.specs.Devices.{read_cause_of}
 use Rattle.taskaudit.specs.Reports.{outcome_of}
 use Rattle.taskaudit.proofs.HeadlineLemmas.{synchronised}
 
-module _ (shown : Shown) (bytes old new : Option (List ℕ)) (trace : TraceView) (verdict : Verdict)
+module _ (shown : Printed) (bytes old new : Option (List ℕ)) (trace : TraceView) (verdict : Verdict)
     (text : List ℕ)
     (judged : IsJudged bytes trace verdict) (printed : Prints shown trace.records verdict text) where
   pub reports_of : (r : Result Outcome AuditFault) → IfOk r (λ outcome. outcome ≡ outcome_of verdict)
@@ -87,16 +86,18 @@ of_crew workers may_refuse passed (Err check.Thread) some few wrong gate before 
     absurd (thread refl)
 
 -- an audit by workers leaves the same, and they have passed the gate
-pub leaves_on : (workers : ℕ) (may_refuse passed : ℕ → Type 0) (bytes old new : Option (List ℕ))
+pub leaves_on : (shown : Printed) (workers : ℕ) (may_refuse passed : ℕ → Type 0)
+    (bytes old new : Option (List ℕ))
     (trace : TraceView) (verdict : Verdict) (text : List ℕ)
-    → IsJudged bytes trace verdict → Prints Report trace.records verdict text
+    → IsJudged bytes trace verdict → Prints shown trace.records verdict text
     → HavePassedFor passed workers verdict → (r : Result Outcome AuditFault)
     → IfErr r (IsWriteFault (λ n. Appends old new (take n text)))
-    → IfErr r (LeavesOn workers may_refuse passed bytes old new)
-leaves_on workers may_refuse passed bytes old new trace verdict text judged printed have r part = of r part
+    → IfErr r (LeavesOn shown workers may_refuse passed bytes old new)
+leaves_on shown workers may_refuse passed bytes old new trace verdict text judged printed have r part =
+    of r part
   where
     off : (count : ℕ) → Appends old new (take count text)
-        → (broken : BreaksOff Report bytes old new) × HavePassedFor passed workers broken.verdict
+        → (broken : BreaksOff shown bytes old new) × HavePassedFor passed workers broken.verdict
     off count left = (
       record {
         trace = trace;
@@ -111,7 +112,7 @@ leaves_on workers may_refuse passed bytes old new trace verdict text judged prin
     )
 
     of : (r : Result Outcome AuditFault) → IfErr r (IsWriteFault (λ n. Appends old new (take n text)))
-        → IfErr r (LeavesOn workers may_refuse passed bytes old new)
+        → IfErr r (LeavesOn shown workers may_refuse passed bytes old new)
     of (Ok outcome) h = tt
     of (Err (Write write.Device)) h = off h.0 h.1
     of (Err (Write write.Memory)) h = absurd h

@@ -28,7 +28,8 @@ use Rattle.clap.specs.declared.parser.matches.ArgMatches.{ArgMatches}
 use Rattle.clap.proofs.OnLiterals.{clap_on_literals}
 use Rattle.clap.specs.declared.error.kind.ErrorKind.TheVariants.{DisplayVersion}
 use Rattle.taskaudit.specs.declared.work.Job.{Job}
-use Rattle.taskaudit.specs.Commands.{command_line, check_by, upgrade_to, job_with, number_of, job_named}
+use Rattle.taskaudit.specs.Commands.{command_line, check_by, check_in, upgrade_to, number_in, number_of}
+use Rattle.taskaudit.specs.Commands.{job_named, is_given, most_asked}
 use Rattle.taskaudit.specs.Commands.{AsksFor, AsksVersion}
 use Rattle.taskaudit.specs.Commands.{HasItsNumber, AsksOf, Place, by_no_word, by_dash, by_name}
 use Rattle.taskaudit.specs.Commands.{file_word, place_named}
@@ -59,7 +60,7 @@ own_fault s rest = level_fault s [] nothing_held rest false []
 named_if : (first second third fourth : Bool) (s t u v : Shape) (rest : List Text)
     → s.name ≡ codes "check" → t.name ≡ codes "order" → u.name ≡ codes "record" → v.name ≡ codes "upgrade"
     → (own_fault s rest ≡ []
-    → is_some (check_by (one_of (codes "workers") (rows_after s.rules [] rest))) ≡ true)
+    → is_some (check_in (rows_after s.rules [] rest)) ≡ true)
     → (own_fault v rest ≡ []
     → is_some (upgrade_to (one_of (codes "to") (rows_after v.rules [] rest))) ≡ true)
     → option_map_or (λ (it : Shape). own_fault it rest)
@@ -83,11 +84,20 @@ named_if false false false true s t u v rest check order recording upgrading fit
     rw upgrading (fit passed)
 named_if false false false false s t u v rest check order recording upgrading fits fit passed e = cc
 
-job_named_with : (low high : ℕ) (job : Option ℕ → Job) (o : Option Text)
-    → IfSome o (λ t. is_unsigned_in low high t ≡ true)
-    → is_some (job_with low high job o) ≡ true
-job_named_with low high job None h = refl
-job_named_with low high job (Some value) h = rw h
+-- values in their ranges name a check, or an upgrade
+check_named : (workers most : Option Text) (all : Bool)
+    → IfSome workers (λ t. is_unsigned_in 1 256 t ≡ true)
+    → IfSome most (λ t. is_unsigned_in 1 1000 t ≡ true)
+    → is_some (check_by workers all most) ≡ true
+check_named None None all crew few = refl
+check_named None (Some most) all crew few = rw few
+check_named (Some workers) None all crew few = rw crew
+check_named (Some workers) (Some most) all crew few = rw (crew, few)
+
+upgrade_named : (to : Option Text) → IfSome to (λ t. is_unsigned_in 2 3 t ≡ true)
+    → is_some (upgrade_to to) ≡ true
+upgrade_named None known = refl
+upgrade_named (Some to) known = rw known
 
 -- whatever the walk stopped at, a subcommand that is entered, and does not fail, names a job
 names_at : (stop : Option (Text × List Text)) → entered_fault (built command_line) stop ≡ []
@@ -98,28 +108,42 @@ names_at None passed e = cc
 names_at (Some (name, rest)) passed e =
     named_if _ _ _ _ _ _ _ _ rest refl refl refl refl
     (λ own.
-    job_named_with 1 256 Check _
+    check_named _ _ _
     (number_fits (codes "workers") 1 256 (omega arith) (omega arith) _ (
-      record {
-        defaults = refl;
-        which = inr (inr (refl, refl));
-      },
+      record { defaults = inl refl; which = inr (inr (inl refl, refl)) },
       (
-        record { defaults = refl; which = inl refl },
-        (record { defaults = refl; which = inr (inl refl) }, tt),
+        record { defaults = inl refl; which = inl refl },
+        (
+          record { defaults = inr refl; which = inr (inr (inr refl, refl)) },
+          (
+            record { defaults = inl refl; which = inr (inr (inl refl, refl)) },
+            (record { defaults = inl refl; which = inr (inl refl) }, tt),
+          ),
+        ),
+      ),
+    )
+    rest own)
+    (number_fits (codes "most") 1 1000 (omega arith) (omega arith) _ (
+      record { defaults = inl refl; which = inr (inr (inl refl, refl)) },
+      (
+        record { defaults = inl refl; which = inr (inr (inl refl, refl)) },
+        (
+          record { defaults = inr refl; which = inr (inr (inr refl, refl)) },
+          (
+            record { defaults = inl refl; which = inl refl },
+            (record { defaults = inl refl; which = inr (inl refl) }, tt),
+          ),
+        ),
       ),
     )
     rest own))
     (λ own.
-    job_named_with 2 3 Upgrade _
+    upgrade_named _
     (number_fits (codes "to") 2 3 (omega arith) (omega arith) _ (
-      record {
-        defaults = refl;
-        which = inr (inr (refl, refl));
-      },
+      record { defaults = inl refl; which = inr (inr (inl refl, refl)) },
       (
-        record { defaults = refl; which = inl refl },
-        (record { defaults = refl; which = inr (inl refl) }, tt),
+        record { defaults = inl refl; which = inl refl },
+        (record { defaults = inl refl; which = inr (inl refl) }, tt),
       ),
     )
     rest own))
@@ -138,78 +162,116 @@ inner_passes words passed =
     (argument_words command_line words)) _
     passed)
 
--- an option with a number from `low` to `high`, and the job that names it
-module _ (name : Text) (low high : ℕ) (job : Option ℕ → Job) (small : high < 2 ^ 32) where
+-- an option with a number from `low` to `high`
+module _ (name : Text) (low high : ℕ) (small : high < 2 ^ 32) where
   -- the number that `get_one` reads of a value that is one of these
   number_read : (E : Type 0) (G : Text → Result ℕ E → Type 0)
       → ((u : Text) (x : Result ℕ E) → G u x → ParsesUnsigned 32 10 u x)
-      → (t : Text) (r : Option ℕ) → is_some (job_with low high job (Some t)) ≡ true → ReadsOne G t r
-      → job_with low high job (Some t) ≡ Some (job r)
+      → (t : Text) (r : Option ℕ) → is_some (number_in low high (Some t)) ≡ true → ReadsOne G t r
+      → number_in low high (Some t) ≡ Some r
   number_read E G only t r e read = go (is_unsigned_in low high t) refl e
     where
       by_value : (o : Option ℕ) → ReadsOne G t o → IsUnsignedIn low high t
-          → ◌≡◌ {A = Option Job} (Some (job (Some (number_of t)))) (Some (job o))
-      by_value (Some n) got ok = ap (λ (k : ℕ). Some (job (Some k))) (sym (only t (Ok n) got).1)
+          → ◌≡◌ {A = Option (Option ℕ)} (Some (Some (number_of t))) (Some o)
+      by_value (Some n) got ok = ap (λ (k : ℕ). Some (Some k)) (sym (only t (Ok n) got).1)
       by_value None got ok = absurd (only t (Err got.0) got.1 (ok.0, omega arith))
 
       go : (b : Bool) → is_unsigned_in low high t ≡ b
-          → is_some (cond b (Some (job (Some (number_of t)))) None) ≡ true
-          → cond b (Some (job (Some (number_of t)))) None ≡ Some (job r)
+          → is_some (cond b (Some (Some (number_of t))) None) ≡ true
+          → cond b (Some (Some (number_of t))) None ≡ Some r
       go true is some = by_value r read (accepts-Accepts false (vp.Unsigned low high) t is)
       go false is some = cc
 
   -- the value that was found, if there is one, is what `get_one` reads
   pub number_found : (E : Type 0) (G : Text → Result ℕ E → Type 0)
       → ((u : Text) (x : Result ℕ E) → G u x → ParsesUnsigned 32 10 u x)
-      → (f : Found) (r : Option ℕ) → is_some (job_with low high job (one_of name (rows_of f))) ≡ true
+      → (f : Found) (r : Option ℕ) → is_some (number_in low high (one_of name (rows_of f))) ≡ true
       → (one_text f name ≡ None → r ≡ None)
       → ((t : Text) → one_text f name ≡ Some t → ReadsOne G t r)
-      → job_with low high job (one_of name (rows_of f)) ≡ Some (job r)
+      → number_in low high (one_of name (rows_of f)) ≡ Some r
   number_found E G only f r e none value =
       go (one_of name (rows_of f)) e (λ is. none (one_text-rows f name ∙ is))
       (λ t is. value t (one_text-rows f name ∙ is)) refl
     where
-      go : (o : Option Text) → is_some (job_with low high job o) ≡ true
+      go : (o : Option Text) → is_some (number_in low high o) ≡ true
           → (one_of name (rows_of f) ≡ None → r ≡ None)
           → ((t : Text) → one_of name (rows_of f) ≡ Some t → ReadsOne G t r)
-          → one_of name (rows_of f) ≡ o → job_with low high job o ≡ Some (job r)
-      go None some absent read is = ap (λ (n : Option ℕ). Some (job n)) (sym (absent is))
+          → one_of name (rows_of f) ≡ o → number_in low high o ≡ Some r
+      go None some absent read is = ap (λ (n : Option ℕ). Some n) (sym (absent is))
       go (Some t) some absent read is = number_read E G only t r some (read t is)
 
--- the number of a job that names one is in its range
-number_named : (low high : ℕ) (made : Option ℕ → Job) → HasItsNumber (made None)
-    → ((n : ℕ) → low ≤ n → n ≤ high → HasItsNumber (made (Some n)))
-    → (o : Option Text) (job : Job) → job_with low high made o ≡ Some job → HasItsNumber job
-number_named low high made none some None job named = subst HasItsNumber (same_Some _ job named) none
-number_named low high made none some (Some value) job named = go (is_unsigned_in low high value) refl named
+-- ---- whether an option without a value is given
+
+pub given_by_none : (o : Option Text) → o ≡ None → false ≡ is_given o
+given_by_none o is = sym (ap is_given is)
+
+pub given_by_true : (o : Option Text) (t : Text) → o ≡ Some t → t ≡ codes "true" → true ≡ is_given o
+given_by_true o t is same = sym (ap is_given (is ∙ ap (λ (w : Text). Some w) same))
+
+pub given_by_other : (o : Option Text) (t : Text) → o ≡ Some t → (t ≡ codes "true" → ⊥)
+    → false ≡ is_given o
+given_by_other o t is other = sym (ap is_given is ∙ go (bytes_eq t (codes "true")) refl)
+  where
+    go : (b : Bool) → bytes_eq t (codes "true") ≡ b → b ≡ false
+    go true same = absurd (other ((bytes_eq-Decides t (codes "true")).0 same))
+    go false same = refl
+
+-- ---- the number of a job
+
+-- a number that an option says is in its range
+number_within : (low high : ℕ) (o : Option Text) (n : ℕ) → number_in low high o ≡ Some (Some n)
+    → (low ≤ n) × (n ≤ high)
+number_within low high None n says = absurd (cc)
+number_within low high (Some value) n says = go (is_unsigned_in low high value) refl says
   where
     go : (b : Bool) → is_unsigned_in low high value ≡ b
-        → cond b (Some (made (Some (number_of value)))) None ≡ Some job → HasItsNumber job
-    go true is named' =
+        → cond b (Some (Some (number_of value))) None ≡ Some (Some n) → (low ≤ n) × (n ≤ high)
+    go true is says' =
         let number : IsUnsignedIn low high value = accepts-Accepts false (vp.Unsigned low high) value is in
-        subst HasItsNumber (same_Some _ job named') (some (number_of value) number.2 number.3)
-    go false is named' = cc
+        let same : number_of value ≡ n = same_Some _ n (same_Some _ (Some n) says') in
+        subst (λ (it : ℕ). (low ≤ it) × (it ≤ high)) same (number.2, number.3)
+    go false is says' = absurd (cc)
+
+-- so a check has its own
+check_numbered : (workers most : Option (Option ℕ)) (all : Bool) (job : Job)
+    → ((n : ℕ) → workers ≡ Some (Some n) → (1 ≤ n) × (n ≤ 256))
+    → option_and_then (λ n. option_map (λ m. Check n (most_asked all m)) most) workers ≡ Some job
+    → HasItsNumber job
+check_numbered None most all job within named = absurd (cc)
+check_numbered (Some n) None all job within named = absurd (cc)
+check_numbered (Some None) (Some m) all job within named = subst HasItsNumber (same_Some _ job named) tt
+check_numbered (Some (Some n)) (Some m) all job within named =
+    subst HasItsNumber (same_Some _ job named) (within n refl)
+
+-- and an upgrade
+upgrade_numbered : (to : Option (Option ℕ)) (job : Job)
+    → ((n : ℕ) → to ≡ Some (Some n) → (2 ≤ n) × (n ≤ 3)) → option_map Upgrade to ≡ Some job
+    → HasItsNumber job
+upgrade_numbered None job within named = absurd (cc)
+upgrade_numbered (Some None) job within named = subst HasItsNumber (same_Some _ job named) tt
+upgrade_numbered (Some (Some n)) job within named =
+    subst HasItsNumber (same_Some _ job named) (within n refl)
 
 job_numbered : (o : Option (Text × List Row)) (job : Job) → option_and_then job_named o ≡ Some job
     → HasItsNumber job
 job_numbered None job e = cc
 job_numbered (Some (name, rows)) job e =
     go (bytes_eq name (codes "check")) (bytes_eq name (codes "order")) (bytes_eq name (codes "record"))
-    (bytes_eq name (codes "upgrade"))
-    (one_of (codes "workers") rows) (one_of (codes "to") rows) e
+    (bytes_eq name (codes "upgrade")) e
   where
-    go : (check order recording upgrading : Bool) (workers to : Option Text)
-        → cond check (check_by workers)
-        (cond order (Some Order) (cond recording (Some Record) (cond upgrading (upgrade_to to) None)))
+    go : (check order recording upgrading : Bool)
+        → cond check (check_in rows)
+        (cond order (Some Order)
+        (cond recording (Some Record) (cond upgrading (upgrade_to (one_of (codes "to") rows)) None)))
         ≡ Some job
         → HasItsNumber job
-    go true order recording upgrading workers to named =
-        number_named 1 256 Check tt (λ n low high. (low, high)) workers job named
-    go false true recording upgrading workers to named = subst HasItsNumber (same_Some _ job named) tt
-    go false false true upgrading workers to named = subst HasItsNumber (same_Some _ job named) tt
-    go false false false true workers to named =
-        number_named 2 3 Upgrade tt (λ n low high. (low, high)) to job named
-    go false false false false workers to named = cc
+    go true order recording upgrading named =
+        check_numbered _ _ _ job (number_within 1 256 (one_of (codes "workers") rows)) named
+    go false true recording upgrading named = subst HasItsNumber (same_Some _ job named) tt
+    go false false true upgrading named = subst HasItsNumber (same_Some _ job named) tt
+    go false false false true named =
+        upgrade_numbered _ job (number_within 2 3 (one_of (codes "to") rows)) named
+    go false false false false named = cc
 
 pub number_asked : (words : List Text) (job : Job) → AsksFor words job → HasItsNumber job
 number_asked words job asked = job_numbered (subcommand_of command_line words) job asked

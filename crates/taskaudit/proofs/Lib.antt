@@ -7,5 +7,6 @@ mod CountLemmas
 mod HeadlineLemmas
 mod AuditLemmas
 mod OrderLemmas
+mod FindingLemmas
 mod RecordingLemmas
 mod UpgradingLemmas

@@ -30,13 +30,14 @@ use Rattle.clap.specs.Faults.{option_fault, other_fault, positional_fault, react
 use Rattle.clap.specs.Faults.{set_fault, settle_fault, short_fault, step_fault, stray_fault, turn_fault}
 use Rattle.clap.specs.Faults.{use_fault, walk_fault, word_fault}
 use Rattle.clap.specs.declared.builder.action.ArgAction.{ArgAction}
-use Rattle.clap.specs.declared.builder.action.ArgAction.TheVariants.{Help, Set}
+use Rattle.clap.specs.declared.builder.action.ArgAction.TheVariants.{Help, Set, SetTrue}
 use Rattle.clap.specs.declared.builder.value_parser.ValueParser.{ValueParser}
 use Rattle.clap.specs.declared.builder.value_parser.ValueParser.TheVariants as vp
 use Rattle.clap.specs.declared.builder.value_parser.Reading.{Reading}
 use Rattle.clap.specs.declared.builder.value_parser.Reading.TheVariants as reading
 use Rattle.clap.specs.declared.error.kind.ErrorKind.TheVariants as kind
-use Rattle.clap.specs.declared.parser.matches.ValueSource.TheVariants.{CommandLine}
+use Rattle.clap.specs.declared.parser.matches.ValueSource.{ValueSource}
+use Rattle.clap.specs.declared.parser.matches.ValueSource.TheVariants.{CommandLine, DefaultValue}
 use Rattle.clap.specs.Simple.{filled}
 use Rattle.clap.proofs.ValueTestLemmas.{accepts-Accepts, Accepts-accepts}
 use Rattle.clap.proofs.WalkLemmas.{both}
@@ -80,11 +81,15 @@ module _ (name : Text) (low high : ℕ) (positive : 1 ≤ low) (small : high < 2
   abbrev Passed : List Row → Type 0
   Passed = AllByRecursion HasPassed
 
-  -- an argument that is the option, asks for help, or has another name and one value
+  -- an argument of which the last use counts
+  abbrev IsSet : Rule → Type 0
+  IsSet a = (action_of a ≡ Set) ⊎ (action_of a ≡ SetTrue)
+
+  -- an argument that is the option, asks for help, or has another name; only such a one has default values
   pub record IsKnown (a : Rule) : Type 0 where
-    pub defaults : a.defaults ≡ []
+    pub defaults : (a.defaults ≡ []) ⊎ (is_named a.id ≡ false)
     pub which : (a ≡ rule)
-        ⊎ ((action_of a ≡ Help) ⊎ ((action_of a ≡ Set) × (is_named a.id ≡ false)))
+        ⊎ ((action_of a ≡ Help) ⊎ (IsSet a × (is_named a.id ≡ false)))
 
   -- ---- values and rows
 
@@ -109,16 +114,17 @@ module _ (name : Text) (low high : ℕ) (positive : 1 ≤ low) (small : high < 2
       go true rest = h.1
       go false rest = (h.0, rest)
 
-  with_passes : (id : Text) (how : Reading) (vs : List Text) (rows : List Row)
+  with_passes : (id : Text) (how : Reading) (from : ValueSource) (vs : List Text) (rows : List Row)
       → (is_named id ≡ true → HavePassed how vs) → Passed rows
-      → Passed (with_values id how CommandLine vs rows)
-  with_passes id how vs [] fit h = (fit, tt)
-  with_passes id how vs (r ∷ rs) fit h = go (bytes_eq r.id id) refl (with_passes id how vs rs fit h.1)
+      → Passed (with_values id how from vs rows)
+  with_passes id how from vs [] fit h = (fit, tt)
+  with_passes id how from vs (r ∷ rs) fit h =
+      go (bytes_eq r.id id) refl (with_passes id how from vs rs fit h.1)
     where
-      go : (b : Bool) → bytes_eq r.id id ≡ b → Passed (with_values id how CommandLine vs rs)
+      go : (b : Bool) → bytes_eq r.id id ≡ b → Passed (with_values id how from vs rs)
           → Passed
-          (cond b (record r { values = r.values ++ vs; source = Some (stronger r.source CommandLine) } ∷ rs)
-          (r ∷ with_values id how CommandLine vs rs))
+          (cond b (record r { values = r.values ++ vs; source = Some (stronger r.source from) } ∷ rs)
+          (r ∷ with_values id how from vs rs))
       go true same rest = (
         λ named.
             let is : r.id ≡ id = (bytes_eq-Decides r.id id).0 same in
@@ -144,15 +150,15 @@ module _ (name : Text) (low high : ℕ) (positive : 1 ≤ low) (small : high < 2
       no_second (range_kinds 1 1 (length vs)) _ e in
       let kinds : values_kinds false parser values ≡ [] =
       no_second (repeat_fault again name rows) _ set in
-      with_passes name reading.WithoutMinus values (without name rows)
+      with_passes name reading.WithoutMinus CommandLine values (without name rows)
       (λ named. record { read = refl; passed = values_fit values kinds })
       (without_passes name rows h)
 
-  -- of another argument with one value
+  -- of another argument
   of_other : (a : Rule) (vs : List Text) (rows : List Row) → is_named a.id ≡ false → Passed rows
       → Passed (used_as Set a.id (reading_by a) (values_or_missing a vs) rows)
   of_other a vs rows other h =
-      with_passes a.id (reading_by a) (values_or_missing a vs) (without a.id rows)
+      with_passes a.id (reading_by a) CommandLine (values_or_missing a vs) (without a.id rows)
       (λ named. let never = sym named ∙ other in absurd (cc))
       (without_passes a.id rows h)
 
@@ -162,7 +168,7 @@ module _ (name : Text) (low high : ℕ) (positive : 1 ≤ low) (small : high < 2
   used_passes again a vs rows known e h = go known.which
     where
       go : (a ≡ rule)
-          ⊎ ((action_of a ≡ Help) ⊎ ((action_of a ≡ Set) × (is_named a.id ≡ false)))
+          ⊎ ((action_of a ≡ Help) ⊎ (IsSet a × (is_named a.id ≡ false)))
           → Passed (used a vs rows)
       go (inl is) =
           subst (λ (r : Rule). use_fault again r vs rows ≡ [] → Passed (used r vs rows)) (sym is)
@@ -170,7 +176,10 @@ module _ (name : Text) (low high : ℕ) (positive : 1 ≤ low) (small : high < 2
       go (inr (inl help)) =
           subst (λ (x : ArgAction). Passed (used_as x a.id (reading_by a) (values_or_missing a vs) rows))
           (sym help) h
-      go (inr (inr (set, other))) =
+      go (inr (inr (inl set, other))) =
+          subst (λ (x : ArgAction). Passed (used_as x a.id (reading_by a) (values_or_missing a vs) rows))
+          (sym set) (of_other a vs rows other h)
+      go (inr (inr (inr set, other))) =
           subst (λ (x : ArgAction). Passed (used_as x a.id (reading_by a) (values_or_missing a vs) rows))
           (sym set) (of_other a vs rows other h)
 
@@ -387,10 +396,22 @@ module _ (name : Text) (low high : ℕ) (positive : 1 ≤ low) (small : high < 2
         → Passed (with_default rows a)
     default_passes a rows k p = go (has_row a.id rows)
       where
+        of_other_name : is_named a.id ≡ false → (vs : List Text)
+            → Passed (default_rows a.id (reading_by a) vs rows)
+        of_other_name other [] = p
+        of_other_name other (v ∷ vs) =
+            with_passes a.id (reading_by a) DefaultValue (v ∷ vs) rows
+            (λ named. let never = sym named ∙ other in absurd (cc)) p
+
+        filled_in : (a.defaults ≡ []) ⊎ (is_named a.id ≡ false)
+            → Passed (default_rows a.id (reading_by a) a.defaults rows)
+        filled_in (inl none) =
+            subst (λ (vs : List Text). Passed (default_rows a.id (reading_by a) vs rows)) (sym none) p
+        filled_in (inr other) = of_other_name other a.defaults
+
         go : (b : Bool) → Passed (cond b rows (default_rows a.id (reading_by a) a.defaults rows))
         go true = p
-        go false =
-            subst (λ (vs : List Text). Passed (default_rows a.id (reading_by a) vs rows)) (sym k.defaults) p
+        go false = filled_in k.defaults
 
     defaults_pass : (rules : List Rule) (rows : List Row) → AllByRecursion IsKnown rules → Passed rows
         → Passed (fold with_default rows rules)

@@ -1,5 +1,5 @@
 -- What an audit makes of the bytes that it reads, and what it writes.
-use Rattle.std.specs.Prelude.{◌≡◌, ◌<◌, ◌≤◌, ℕ, ◌++◌, List, take, Option, IfSome, Ok, ⊤}
+use Rattle.std.specs.Prelude.{◌≡◌, ◌<◌, ◌≤◌, ℕ, ◌++◌, List, take, Option, Some, None, IfSome, Ok, ⊤}
 use Rattle.std.specs.Io.KnownBytes.{Appends, Keeps}
 use Rattle.ompt_events.specs.declared.records.Record.{Record}
 use Rattle.ompt_events.specs.Traces.{TraceView}
@@ -13,13 +13,16 @@ use Rattle.checker.specs.declared.verdict.Verdict.TheVariants as verdict
 use Rattle.checker.specs.Gate.{HaveAllPassed, HavePassedFor}
 use Rattle.checker.specs.Verdicts.{IsVerdict, task_of}
 use Rattle.checker.specs.Counter.{IsCounterOrder}
-use Rattle.taskaudit.specs.declared.work.Shown.{Shown}
-use Rattle.taskaudit.specs.declared.work.Shown.TheVariants.{Report, Order}
+use Rattle.checker.specs.Findings.{IsFoundOf}
+use Rattle.checker.specs.declared.findings.Findings as checker
+use Rattle.taskaudit.specs.declared.work.Printed.{Printed}
+use Rattle.taskaudit.specs.declared.work.Printed.TheVariants.{Report, Findings, Order}
 use Rattle.taskaudit.specs.declared.work.Outcome.{Outcome}
 use Rattle.taskaudit.specs.declared.work.Outcome.TheVariants.{Yes}
 use Rattle.taskaudit.specs.declared.work.AuditFault.{AuditFault}
 use Rattle.taskaudit.specs.declared.work.AuditFault.TheVariants.{Read, Write, Check, Call, Upgrade, Memory}
 use Rattle.taskaudit.specs.Headline.{IsSynchronised}
+use Rattle.taskaudit.specs.FindingTexts.{findings_text}
 use Rattle.taskaudit.specs.Orders.{order_lines}
 use Rattle.taskaudit.specs.Reports.{report_of, outcome_of}
 
@@ -28,10 +31,18 @@ pub record IsJudged (bytes : Option (List ℕ)) (trace : TraceView) (verdict : V
   pub file : IfSome bytes (λ known. file_says known ≡ Ok trace)
   pub right : IsVerdict trace.records verdict
 
--- what is shown of the verdict: its report; or behind it too, of a yes its order, and of a no an order that
--- leaves the named task incomplete at the named record
-abbrev pub Prints : Shown → List Record → Verdict → List ℕ → Type 0
+-- what a check shows that prints so many findings at most, or none
+abbrev pub shown_of : Option ℕ → Printed
+shown_of None = Report
+shown_of (Some most) = Findings most
+
+-- what is shown of the verdict: its report; or behind it too the records at which it shows; or of a yes its
+-- order, and of a no an order that leaves the named task incomplete at the named record
+abbrev pub Prints : Printed → List Record → Verdict → List ℕ → Type 0
 Prints Report rs found text = text ≡ report_of rs found
+Prints (Findings most) rs found text =
+    (all : checker.Findings) × IsFoundOf rs most found all
+    × (text ≡ report_of rs found ++ findings_text rs most all)
 Prints Order rs (verdict.Yes order) text = text ≡ report_of rs (verdict.Yes order) ++ order_lines rs order
 Prints Order rs (verdict.No i why) text =
     (order : List ℕ) × IsCounterOrder rs i (task_of why) order
@@ -39,7 +50,7 @@ Prints Order rs (verdict.No i why) text =
 Prints Order rs (verdict.Malformed i cause) text = text ≡ report_of rs (verdict.Malformed i cause)
 
 -- what is shown of the verdict was written, and nothing else, and the outcome is the verdict's kind
-pub record Reports (shown : Shown) (bytes old new : Option (List ℕ)) (outcome : Outcome) : Type 0 where
+pub record Reports (shown : Printed) (bytes old new : Option (List ℕ)) (outcome : Outcome) : Type 0 where
   pub trace : TraceView
   pub verdict : Verdict
   pub judged : IsJudged bytes trace verdict
@@ -50,7 +61,7 @@ pub record Reports (shown : Shown) (bytes old new : Option (List ℕ)) (outcome 
   pub kept : outcome ≡ Yes → IsSynchronised trace.records
 
 -- that text was written up to somewhere
-pub record BreaksOff (shown : Shown) (bytes old new : Option (List ℕ)) : Type 0 where
+pub record BreaksOff (shown : Printed) (bytes old new : Option (List ℕ)) : Type 0 where
   pub trace : TraceView
   pub verdict : Verdict
   pub judged : IsJudged bytes trace verdict
@@ -73,7 +84,7 @@ IsWriteFault part _ = ⊥
 
 -- what a fault leaves: a prefix of that text where the sink failed, and else nothing. An audit on one thread
 -- starts no thread, makes no call of a script and upgrades nothing
-abbrev pub Leaves : Shown → Option (List ℕ) → Option (List ℕ) → Option (List ℕ) → AuditFault → Type 0
+abbrev pub Leaves : Printed → Option (List ℕ) → Option (List ℕ) → Option (List ℕ) → AuditFault → Type 0
 Leaves shown bytes old new (Write f) = BreaksOff shown bytes old new
 Leaves shown bytes old new (Check check.Memory) = Keeps old new
 Leaves shown bytes old new (Check f) = ⊥
@@ -96,14 +107,15 @@ IsOfCrew workers may_refuse passed fault = IsOutOfMemory fault
 -- it has, one of those that the gate may refuse, after those before it have passed; where no thread can be
 -- started the work is done all the same. A text that broke off is of a verdict for which the workers have
 -- passed
-abbrev pub LeavesOn : ℕ → (ℕ → Type 0) → (ℕ → Type 0) → Option (List ℕ) → Option (List ℕ)
+abbrev pub LeavesOn : Printed → ℕ → (ℕ → Type 0) → (ℕ → Type 0) → Option (List ℕ) → Option (List ℕ)
     → Option (List ℕ) → AuditFault → Type 0
-LeavesOn workers may_refuse passed bytes old new (Check check.Workers) = IsNoCrew workers × Keeps old new
-LeavesOn workers may_refuse passed bytes old new (Check (check.Gate worker)) =
+LeavesOn shown workers may_refuse passed bytes old new (Check check.Workers) =
+    IsNoCrew workers × Keeps old new
+LeavesOn shown workers may_refuse passed bytes old new (Check (check.Gate worker)) =
     (worker < workers) × may_refuse worker × HaveAllPassed passed worker × Keeps old new
-LeavesOn workers may_refuse passed bytes old new (Write f) =
-    (off : BreaksOff Report bytes old new) × HavePassedFor passed workers off.verdict
-LeavesOn workers may_refuse passed bytes old new fault = Leaves Report bytes old new fault
+LeavesOn shown workers may_refuse passed bytes old new (Write f) =
+    (off : BreaksOff shown bytes old new) × HavePassedFor passed workers off.verdict
+LeavesOn shown workers may_refuse passed bytes old new fault = Leaves shown bytes old new fault
 
 -- a fault of the input is the file's first one, or one of the source or of memory while the line was read;
 -- left is what the source has left

@@ -1,12 +1,12 @@
 -- The command line, in clap's terms.
 use Rattle.std.specs.Prelude.{◌≡◌, ◌≤◌, ◌⊎◌, ℕ, ⊤, true, false, pos, List, [], ◌∷◌, Option, Some, None, codes}
-use Rattle.std.specs.Prelude.{option_and_then, if◌then◌else◌}
+use Rattle.std.specs.Prelude.{Bool, option_and_then, option_map, if◌then◌else◌}
 use Rattle.std.specs.Str.{bytes_eq}
 use Rattle.std.specs.Str.Parse.{digits_value, without_leading_plus}
 use Rattle.clap.specs.Words.{App, Row, Rule, Text, first_of, new_app, new_rule, one_of, subcommand_of}
 use Rattle.clap.specs.Words.{with_rule}
 use Rattle.clap.specs.ValueTests.{is_unsigned_in}
-use Rattle.clap.specs.declared.builder.action.ArgAction.TheVariants.{Set}
+use Rattle.clap.specs.declared.builder.action.ArgAction.TheVariants.{Set, SetTrue}
 use Rattle.clap.specs.declared.builder.value_parser.ValueParser.TheVariants.{Signed}
 use Rattle.taskaudit.specs.declared.work.Job.{Job}
 use Rattle.taskaudit.specs.declared.work.Job.TheVariants.{Check, Order, Record, Upgrade}
@@ -30,6 +30,17 @@ workers_rule = number_rule (codes "workers") 1 256
 abbrev pub version_rule : Rule
 version_rule = number_rule (codes "to") 2 3
 
+-- the option `--all`, which has no value
+abbrev pub all_rule : Rule
+all_rule = record (new_rule (codes "all")) {
+  long = Some (codes "all");
+  action = Some SetTrue;
+}
+
+-- the option `--most N`: a number from 1 to 1,000
+abbrev pub most_rule : Rule
+most_rule = number_rule (codes "most") 1 1000
+
 -- the word for the file, which may be left out
 abbrev pub file_rule : Rule
 file_rule = record (new_rule (codes "file")) {
@@ -41,9 +52,9 @@ file_rule = record (new_rule (codes "file")) {
 abbrev pub file_app : Text → App
 file_app name = with_rule (new_app name) file_rule
 
--- the subcommands with an option, `check` and `upgrade`
+-- the subcommands with options, `check` and `upgrade`
 abbrev pub check_app : App
-check_app = with_rule (file_app (codes "check")) workers_rule
+check_app = with_rule (with_rule (with_rule (file_app (codes "check")) workers_rule) all_rule) most_rule
 
 abbrev pub upgrade_app : App
 upgrade_app = with_rule (file_app (codes "upgrade")) version_rule
@@ -71,23 +82,44 @@ AsksVersion words = (name : Text)
 abbrev pub number_of : Text → ℕ
 number_of value = digits_value 10 (without_leading_plus value)
 
--- a job with the number that the value says, where there is a value and it is a number from `low` to `high`
-abbrev pub job_with : ℕ → ℕ → (Option ℕ → Job) → Option Text → Option Job
-job_with low high job None = Some (job None)
-job_with low high job (Some value) =
-    if is_unsigned_in low high value then Some (job (Some (number_of value))) else None
+-- the number that the value says, where there is a value and it is a number from `low` to `high`
+abbrev pub number_in : ℕ → ℕ → Option Text → Option (Option ℕ)
+number_in low high None = Some None
+number_in low high (Some value) =
+    if is_unsigned_in low high value then Some (Some (number_of value)) else None
 
--- a check, by as many threads as the value says, 1 to 256
-abbrev pub check_by : Option Text → Option Job
-check_by = job_with 1 256 Check
+-- whether `--all` is given: clap then has this text for it
+abbrev pub is_given : Option Text → Bool
+is_given None = false
+is_given (Some value) = bytes_eq value (codes "true")
+
+-- how many findings are printed at most: so many as `--most` says, or 20 where `--all` is given without it;
+-- none are printed without both
+abbrev pub most_asked : Bool → Option ℕ → Option ℕ
+most_asked all (Some most) = Some most
+most_asked true None = Some 20
+most_asked false None = None
+
+-- a check, by as many threads as the first value says, 1 to 256, with the findings that the others ask for,
+-- 1 to 1,000
+abbrev pub check_by : Option Text → Bool → Option Text → Option Job
+check_by workers all most =
+    option_and_then (λ n. option_map (λ m. Check n (most_asked all m)) (number_in 1 1000 most))
+    (number_in 1 256 workers)
 
 -- an upgrade to the version that the value says, 2 or 3
 abbrev pub upgrade_to : Option Text → Option Job
-upgrade_to = job_with 2 3 Upgrade
+upgrade_to value = option_map Upgrade (number_in 2 3 value)
+
+-- the check that the values for its arguments ask for
+abbrev pub check_in : List Row → Option Job
+check_in rows =
+    check_by (one_of (codes "workers") rows) (is_given (first_of (codes "all") rows))
+    (one_of (codes "most") rows)
 
 -- the job that a subcommand names, with the values that were found for its arguments
 abbrev pub job_named : Text × List Row → Option Job
-job_named (name, rows) = if bytes_eq name (codes "check") then check_by (one_of (codes "workers") rows)
+job_named (name, rows) = if bytes_eq name (codes "check") then check_in rows
     else (if bytes_eq name (codes "order") then Some Order
     else (if bytes_eq name (codes "record") then Some Record
     else (if bytes_eq name (codes "upgrade") then upgrade_to (one_of (codes "to") rows) else None)))
@@ -122,9 +154,9 @@ place_of Unnamed = by_no_word
 place_of Standard = by_dash
 place_of (Named name) = by_name name.now
 
--- the number that a job names, if it does, is in its range: of a check's threads 1 to 256, of the version of
--- an upgrade 2 or 3
+-- each number of threads or of a version that a job names is in its range: a check's 1 to 256, an upgrade's
+-- 2 or 3
 abbrev pub HasItsNumber : Job → Type 0
-HasItsNumber (Check (Some workers)) = (1 ≤ workers) × (workers ≤ 256)
+HasItsNumber (Check (Some workers) most) = (1 ≤ workers) × (workers ≤ 256)
 HasItsNumber (Upgrade (Some version)) = (2 ≤ version) × (version ≤ 3)
 HasItsNumber _ = ⊤

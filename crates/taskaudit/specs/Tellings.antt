@@ -69,7 +69,7 @@ pub data IsToldFile (made : Call → Type 0) : FileFault → Refusal → Type 0 
 
 -- what is told at a terminal of a job that reads from there
 abbrev pub reading_text_of : Job → List ℕ
-reading_text_of (Check workers) =
+reading_text_of (Check workers most) =
     codes "taskaudit: reading a trace from this terminal (Ctrl-D ends it); see taskaudit check --help\n"
 reading_text_of Order =
     codes "taskaudit: reading a trace from this terminal (Ctrl-D ends it); see taskaudit order --help\n"

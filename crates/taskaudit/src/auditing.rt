@@ -1,18 +1,19 @@
-//! The audit of a file, with its report alone or with an order that shows the verdict, on one thread or on
-//! several.
+//! The audit of a file, with its report alone, with the records at which it shows, or with an order that
+//! shows the verdict, on one thread or on several.
 ghost use Rattle.std.specs.Prelude.{◌≡◌, ◌≢◌, ◌≤◌, ◌⊎◌, ◌↔◌, Ok, Err, IfOk, IfErr, IfSome, OnOk, take};
 ghost use Rattle.std.specs.Io.KnownBytes.{Appends};
 ghost use Rattle.std.specs.Thread.{IsSync};
 ghost use Rattle.certificate.specs.Counts.{breaks_written};
 ghost use Rattle.checker.specs.Gate.{HaveAllPassed, HavePassedFor};
 ghost use Rattle.checker.specs.Verdicts.{IsVerdict};
-ghost use Rattle.taskaudit.specs.Audits.{Prints, Reports, Leaves, LeavesOn, IsNoCrew, IsOutOfMemory, IsOfCrew, IsWriteFault, IsReadRightly, IsReadRightlyOn};
+ghost use Rattle.taskaudit.specs.Audits.{Prints, Reports, Leaves, LeavesOn, IsNoCrew, IsOutOfMemory, IsOfCrew, IsWriteFault, IsReadRightly, IsReadRightlyOn, shown_of};
 ghost use Rattle.taskaudit.specs.Devices.{TellsDevices, TellsDevicesAhead, AsksForTurns, written_of};
 ghost use Rattle.taskaudit.specs.Reports.{AreCounts, outcome_of};
 
+use crate::finding_texts::found_text;
 use crate::order::shown_text;
 use crate::report::{Counts, counts_of, report_by};
-use crate::work::{AuditFault, Outcome, Shown};
+use crate::work::{AuditFault, Outcome, Printed};
 use certificate::{Sink, Source, WriteFault, read_packed, read_packed_on, write_bytes};
 use checker::{
     CheckFault, Gate, MAX_WORKERS, Verdict, check_packed, check_packed_on,
@@ -24,11 +25,11 @@ use std::mem::forget;
 use std::thread::{Threads, join};
 
 /// Reads a trace file to its end, checks it, and writes what is shown of its verdict: the report alone, or
-/// behind it also an order that shows it, of a yes one that the file allows, of a no one in which the named
-/// task is not complete at the named record.
+/// behind it also the records at which it shows, or an order that shows it, of a yes one that the file
+/// allows, of a no one in which the named task is not complete at the named record.
 pub fn audit<I: Source, O: Sink>(
     alloc: Global,
-    shown: Shown,
+    shown: Printed,
     source: &mut I,
     sink: &mut O,
 ) -> Result<Outcome, AuditFault>
@@ -62,20 +63,23 @@ pub struct Crew<'a, R, G> {
     pub gate: &'a G,
 }
 
-/// Reads, checks and writes as [`audit`] does with the report alone, by the workers of the crew, which read
-/// and check side by side. The source is read ahead of the lines that are judged. Fails as [`audit`] does,
-/// and if there are no workers or more than [`MAX_WORKERS`], which is tried before anything is read, or if
-/// the gate refuses a worker.
+/// Reads, checks and writes as [`audit`] does, by the workers of the crew, which read and check side by side.
+/// Writes the report, and behind it the records at which it shows, at most so many of them, if that number is
+/// given; these are found on one thread. The source is read ahead of the lines that are judged. Fails as
+/// [`audit`] does, and if there are no workers or more than [`MAX_WORKERS`], which is tried before anything
+/// is read, or if the gate refuses a worker.
 pub fn audit_on<R: Threads + Sync, G: Gate + Sync, I: Source, O: Sink>(
     alloc: Global,
     crew: Crew<R, G>,
+    most: Option<u32>,
     source: &mut I,
     sink: &mut O,
 ) -> Result<Outcome, AuditFault>
     ensures reports { IfOk result
-        (Reports Shown.Report (I.remaining source.old) (O.contents sink.old) (O.contents sink.new)) }
-    ensures leaves { IfErr result (LeavesOn crew.entry.workers (G.may_refuse crew.entry.gate.now)
-        (G.passed crew.entry.gate.now) (I.remaining source.old) (O.contents sink.old) (O.contents sink.new)) }
+        (Reports (shown_of most) (I.remaining source.old) (O.contents sink.old) (O.contents sink.new)) }
+    ensures leaves { IfErr result (LeavesOn (shown_of most) crew.entry.workers
+        (G.may_refuse crew.entry.gate.now) (G.passed crew.entry.gate.now)
+        (I.remaining source.old) (O.contents sink.old) (O.contents sink.new)) }
     ensures unreadable { IfErr result (IsReadRightlyOn crew.entry.workers
         (I.remaining source.old) (I.remaining source.new)) }
 
@@ -103,7 +107,7 @@ pub fn audit_on<R: Threads + Sync, G: Gate + Sync, I: Source, O: Sink>(
     let recorded = read_packed_on(crew.threads, alloc, source, crew.workers).map_err(
         AuditFault::Read,
     )?;
-    let (verdict, text) = answer_on_and_leave(alloc, crew, recorded)?;
+    let (verdict, text) = answer_on_and_leave(alloc, crew, most, recorded)?;
     put(&verdict, text.as_slice(), sink)
 }
 
@@ -126,7 +130,7 @@ fn put<O: Sink>(verdict: &Verdict, text: &[u8], sink: &mut O) -> Result<Outcome,
 /// soon: to free the memory of each claim would only take time.
 fn answer_and_leave(
     alloc: Global,
-    shown: Shown,
+    shown: Printed,
     trace: PackedTrace,
 ) -> Result<(Verdict, Vec<u8>), AuditFault>
     ensures verdict { IfOk result (λ answer. IsVerdict trace.records answer.0) }
@@ -141,7 +145,7 @@ fn answer_and_leave(
 /// The verdict on the trace, and what is shown of it.
 fn answer(
     alloc: Global,
-    shown: Shown,
+    shown: Printed,
     trace: &PackedTrace,
 ) -> Result<(Verdict, Vec<u8>), AuditFault>
     ensures verdict { IfOk result (λ answer. IsVerdict trace.now.records answer.0) }
@@ -149,8 +153,13 @@ fn answer(
     ensures memory { IfErr result IsOutOfMemory }
 {
     match shown {
-        Shown::Report => reported(alloc, check_packed(alloc, trace), trace, None),
-        Shown::Order => {
+        Printed::Report => reported(alloc, check_packed(alloc, trace), trace, None),
+        Printed::Findings(most) => {
+            let (verdict, report) = reported(alloc, check_packed(alloc, trace), trace, None)?;
+            let text = found_text(alloc, trace, &verdict, most, report)?;
+            Ok((verdict, text))
+        }
+        Printed::Order => {
             let (verdict, counter) = check_packed_with_counter(alloc, trace).map_err(
                 AuditFault::Check,
             )?;
@@ -160,42 +169,51 @@ fn answer(
     }
 }
 
-/// The verdict on the trace that the workers of the crew find, and its report. Leaves the trace as
+/// The verdict on the trace that the workers of the crew find, and what is shown of it. Leaves the trace as
 /// [`answer_and_leave`] does.
 fn answer_on_and_leave<R: Threads + Sync, G: Gate + Sync>(
     alloc: Global,
     crew: Crew<R, G>,
+    most: Option<u32>,
     trace: PackedTrace,
 ) -> Result<(Verdict, Vec<u8>), AuditFault>
     requires { (1 ≤ crew.workers) × (crew.workers ≤ 256) }
     ensures verdict { IfOk result (λ answer. IsVerdict trace.records answer.0) }
-    ensures text { IfOk result (λ answer. Prints Shown.Report trace.records answer.0 answer.1.items) }
+    ensures text { IfOk result (λ answer. Prints (shown_of most) trace.records answer.0 answer.1.items) }
     ensures passed { IfOk result (λ answer.
         HavePassedFor (G.passed crew.entry.gate.now) crew.entry.workers answer.0) }
     ensures fault { IfErr result
         (IsOfCrew crew.entry.workers (G.may_refuse crew.entry.gate.now) (G.passed crew.entry.gate.now)) }
 {
-    let answer = answer_on(alloc, crew, &trace);
+    let answer = answer_on(alloc, crew, most, &trace);
     forget(trace);
     answer
 }
 
-/// The verdict on the trace that the workers of the crew find, and its report.
+/// The verdict on the trace that the workers of the crew find, and what is shown of it.
 fn answer_on<R: Threads + Sync, G: Gate + Sync>(
     alloc: Global,
     crew: Crew<R, G>,
+    most: Option<u32>,
     trace: &PackedTrace,
 ) -> Result<(Verdict, Vec<u8>), AuditFault>
     requires { (1 ≤ crew.workers) × (crew.workers ≤ 256) }
     ensures verdict { IfOk result (λ answer. IsVerdict trace.now.records answer.0) }
-    ensures text { IfOk result (λ answer. Prints Shown.Report trace.now.records answer.0 answer.1.items) }
+    ensures text { IfOk result (λ answer. Prints (shown_of most) trace.now.records answer.0 answer.1.items) }
     ensures passed { IfOk result (λ answer.
         HavePassedFor (G.passed crew.entry.gate.now) crew.entry.workers answer.0) }
     ensures fault { IfErr result
         (IsOfCrew crew.entry.workers (G.may_refuse crew.entry.gate.now) (G.passed crew.entry.gate.now)) }
 {
     let (counts, found) = found_on(alloc, crew, trace);
-    reported(alloc, found, trace, counts)
+    let (verdict, report) = reported(alloc, found, trace, counts)?;
+    match most {
+        Some(most) => {
+            let text = found_text(alloc, trace, &verdict, most, report)?;
+            Ok((verdict, text))
+        }
+        None => Ok((verdict, report)),
+    }
 }
 
 /// Returns the verdict on the trace that the workers of the crew find. With two workers or more, what the
@@ -245,7 +263,7 @@ fn reported(
     requires counts { IfSome counts (AreCounts trace.now.records) }
     ensures verdict { IfOk result (λ answer. IsVerdict trace.now.records answer.0) }
     ensures found { IfOk result (λ answer. found ≡ Ok answer.0) }
-    ensures text { IfOk result (λ answer. Prints Shown.Report trace.now.records answer.0 answer.1.items) }
+    ensures text { IfOk result (λ answer. Prints Printed.Report trace.now.records answer.0 answer.1.items) }
     ensures fault { IfErr result (λ fault. (fault ≡ AuditFault.Memory)
         ⊎ ((f : CheckFault) × (found ≡ Err f) × (fault ≡ AuditFault.Check f))) }
 {

@@ -2,10 +2,12 @@
 //! it was allowed to. Read `audit` first (`auditing.rt`): its clause `reports` is the headline; then `record`
 //! (`record.rt`), which writes a trace, and `upgrade` (`upgrading.rt`), which writes one with turns. Then
 //! `run` (`program.rt`), from the words of the command line to the exit status, `tell` (`telling.rt`) and the
-//! texts (`report.rt`, `order.rt` for an order, and `version.rt` for the version).
+//! texts (`report.rt`, `finding_texts.rt` for all findings, `order.rt` for an order, and `version.rt` for the
+//! version).
 #![tactic(auto)]
 
 mod auditing;
+mod finding_texts;
 mod looking;
 mod opening;
 mod order;

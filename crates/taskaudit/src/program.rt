@@ -2,7 +2,7 @@
 ghost use Rattle.std.specs.Prelude.{◌≡◌, ◌≤◌, ℕ, List, Option, map, IfOk, IfErr};
 ghost use Rattle.std.specs.Result.{result_map_both};
 ghost use Rattle.clap.specs.Words.{Text};
-ghost use Rattle.taskaudit.specs.Audits.{Reports, Leaves};
+ghost use Rattle.taskaudit.specs.Audits.{Reports, Leaves, shown_of};
 ghost use Rattle.taskaudit.specs.Commands.{AsksOf, AsksVersion, HasItsNumber, by_name};
 ghost use Rattle.taskaudit.specs.Programs.{Does, DoesAsked, IsFileRefused, IsOpened, IsRefused, LeavesOfJob, Ends, Runs, ShowsVersion, ending_of, world_of};
 ghost use Rattle.taskaudit.specs.Statuses.{exit_status_of};
@@ -15,7 +15,7 @@ use crate::report::{NOT_REPORTED, WRONG_WORDS, fault_status, usage_status};
 use crate::telling::{Console, tell, tell_reading};
 use crate::upgrading::{upgrade, version_to};
 use crate::words::asked;
-use crate::work::{Asked, AuditFault, Done, FileFault, Input, Job, Outcome, Refusal, Shown};
+use crate::work::{Asked, AuditFault, Done, FileFault, Input, Job, Outcome, Printed, Refusal};
 use certificate::{ReadFault, Sink, Source};
 use checker::OpenGate;
 use std::alloc::Global;
@@ -160,9 +160,15 @@ fn do_job<R: Threads + Wait + Sync, I: Source, O: Sink>(
         (LeavesOfJob job (I.remaining source.old) (O.contents sink.old) (O.contents sink.new)) }
 {
     match job {
-        Job::Check(None) => audit(alloc, Shown::Report, source, sink).map(Done::Judged),
-        Job::Check(Some(workers)) => audit_by(alloc, rt, workers, source, sink).map(Done::Judged),
-        Job::Order => audit(alloc, Shown::Order, source, sink).map(Done::Judged),
+        Job::Check {
+            workers: None,
+            most,
+        } => audit(alloc, Printed::of_check(most), source, sink).map(Done::Judged),
+        Job::Check {
+            workers: Some(workers),
+            most,
+        } => audit_by(alloc, rt, workers, most, source, sink).map(Done::Judged),
+        Job::Order => audit(alloc, Printed::Order, source, sink).map(Done::Judged),
         Job::Record => record(rt, alloc, source, sink).map(|()| Done::Written),
         Job::Upgrade(to) => { upgrade(alloc, version_to(to), source, sink).map(|()| Done::Written) }
     }
@@ -174,21 +180,22 @@ fn audit_by<R: Threads + Sync, I: Source, O: Sink>(
     alloc: Global,
     rt: &R,
     workers: u32,
+    most: Option<u32>,
     source: &mut I,
     sink: &mut O,
 ) -> Result<Outcome, AuditFault>
     requires { (1 ≤ workers) × (workers ≤ 256) }
     ensures reports { IfOk result
-        (Reports Shown.Report (I.remaining source.old) (O.contents sink.old) (O.contents sink.new)) }
+        (Reports (shown_of most) (I.remaining source.old) (O.contents sink.old) (O.contents sink.new)) }
     ensures leaves { IfErr result
-        (Leaves Shown.Report (I.remaining source.old) (O.contents sink.old) (O.contents sink.new)) }
+        (Leaves (shown_of most) (I.remaining source.old) (O.contents sink.old) (O.contents sink.new)) }
 {
     let crew = Crew {
         threads: rt,
         workers,
         gate: &OpenGate,
     };
-    audit_on(alloc, crew, source, sink)
+    audit_on(alloc, crew, most, source, sink)
 }
 
 /// The exit status of a run of the program that ended so.

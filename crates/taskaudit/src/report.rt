@@ -148,7 +148,7 @@ fn late_text(
 }
 
 /// The task that starts at the record, or the taskwait that is complete there; 0 where there is none.
-fn dependent_at(trace: &PackedTrace, at: usize) -> u64
+pub(crate) fn dependent_at(trace: &PackedTrace, at: usize) -> u64
     ensures { result ≡ dependent_at trace.now.records at }
 {
     if at >= trace.len() {
@@ -201,7 +201,7 @@ fn malformed_text(
 
 /// Where a record stands in the file and among those of its thread.
 #[derive(Clone, Copy)]
-struct Place {
+pub(crate) struct Place {
     /// Wide enough for two more than any place.
     line: u128,
     thread: u8,
@@ -210,7 +210,7 @@ struct Place {
 
 impl Place {
     /// The place of the record; the file's line 1 is the header.
-    fn of(trace: &PackedTrace, at: usize) -> Place
+    pub(crate) fn of(trace: &PackedTrace, at: usize) -> Place
         ensures { place_text result.line result.thread result.seq ≡ record_place trace.now.records at }
     {
         let line = at as u128 + 2;

@@ -172,7 +172,7 @@ fn reading_text(job: Job) -> &'static str
     ensures { result.now ≡ reading_text_of job }
 {
     match job {
-        Job::Check(_) => CHECK_READS,
+        Job::Check { .. } => CHECK_READS,
         Job::Order => ORDER_READS,
         Job::Record => RECORD_READS,
         Job::Upgrade(_) => UPGRADE_READS,

@@ -2,7 +2,7 @@
 ghost use Rattle.std.specs.Prelude.{◌≡◌, true, false, codes, map, IfOk, IfErr, Some, is_some, option_and_then};
 ghost use Rattle.clap.specs.Words.{app_of, rule_of, rows_of, found_of, first_of, one_of, shape_of, new_app, fault_of, kind_of, takes, subcommand_rows_of, FailsBy};
 ghost use Rattle.clap.specs.declared.builder.command.Command.TheViews.{out-Command};
-ghost use Rattle.taskaudit.specs.Commands.{command_line, check_app, upgrade_app, file_app, file_rule, workers_rule, version_rule, check_by, upgrade_to, job_named, file_word, place_named, place_of, AsksFor, AsksOf, HasItsNumber};
+ghost use Rattle.taskaudit.specs.Commands.{command_line, check_app, upgrade_app, file_app, file_rule, workers_rule, all_rule, most_rule, version_rule, number_in, is_given, most_asked, check_in, job_named, file_word, place_named, place_of, AsksFor, AsksOf, HasItsNumber};
 
 use crate::version::VERSION_TEXT;
 use crate::work::{Asked, Input, Job};
@@ -38,6 +38,15 @@ const SCRIPT_HELP: &str = "The script, or - for standard input; without it stand
 
 /// What the option `--workers` of `check` is for.
 const WORKERS_HELP: &str = "Reads and checks on N threads (1 to 256); without it, on one";
+
+/// What the option `--all` of `check` is for.
+const ALL_HELP: &str = "Prints below the answer each event at which it shows (20 at most)";
+
+/// What the option `--most` of `check` is for.
+const MOST_HELP: &str = "The same, but N at most (1 to 1000)";
+
+/// How many findings are printed at most where no number is given.
+const USUAL_MOST: u32 = 20;
 
 /// What the option `--to` of `upgrade` is for.
 const VERSION_HELP: &str = "The version to write, 2 or 3; without it 2";
@@ -193,7 +202,10 @@ fn asked_of<'a>(matches: &ArgMatches<'a>) -> Asked<'a>
             input: input_of(found),
         },
         None => Asked {
-            job: Job::Check(None),
+            job: Job::Check {
+                workers: None,
+                most: None,
+            },
             input: Input::Unnamed,
         },
     }
@@ -219,22 +231,62 @@ fn job_of(name: &str, found: &ArgMatches) -> Job
         "order" => Job::Order,
         "record" => Job::Record,
         "upgrade" => Job::Upgrade(version_found(found)),
-        _ => Job::Check(workers_found(found)),
+        _ => check_of(found),
+    }
+}
+
+/// The check that was asked for, with what was found for its arguments.
+fn check_of(found: &ArgMatches) -> Job
+    requires { is_some (check_in (rows_of (found_of found.now))) ≡ true }
+    ensures { check_in (rows_of (found_of found.now)) ≡ Some result }
+{
+    let workers = workers_found(found);
+    let most = most_asked(all_found(found), most_found(found));
+    Job::Check { workers, most }
+}
+
+/// Returns how many findings are printed at most, or none where they are not asked for.
+fn most_asked(all: bool, most: Option<u32>) -> Option<u32>
+    ensures { result ≡ most_asked all most }
+{
+    match most {
+        Some(most) => Some(most),
+        None if all => Some(USUAL_MOST),
+        None => None,
+    }
+}
+
+/// Returns whether `--all` is given.
+fn all_found(found: &ArgMatches) -> bool
+    ensures { result ≡ is_given (first_of (codes "all") (rows_of (found_of found.now))) }
+{
+    match found.get_str("all") {
+        Some("true") => true,
+        Some(_other) => false,
+        None => false,
     }
 }
 
 /// The value of `--workers`, if there is one.
 fn workers_found(found: &ArgMatches) -> Option<u32>
-    requires { is_some (check_by (one_of (codes "workers") (rows_of (found_of found.now)))) ≡ true }
-    ensures { check_by (one_of (codes "workers") (rows_of (found_of found.now))) ≡ Some (Job.Check result) }
+    requires { is_some (number_in 1 256 (one_of (codes "workers") (rows_of (found_of found.now)))) ≡ true }
+    ensures { number_in 1 256 (one_of (codes "workers") (rows_of (found_of found.now))) ≡ Some result }
 {
     found.get_one::<u32>("workers")
 }
 
+/// The value of `--most`, if there is one.
+fn most_found(found: &ArgMatches) -> Option<u32>
+    requires { is_some (number_in 1 1000 (one_of (codes "most") (rows_of (found_of found.now)))) ≡ true }
+    ensures { number_in 1 1000 (one_of (codes "most") (rows_of (found_of found.now))) ≡ Some result }
+{
+    found.get_one::<u32>("most")
+}
+
 /// The value of `--to`, if there is one.
 fn version_found(found: &ArgMatches) -> Option<u32>
-    requires { is_some (upgrade_to (one_of (codes "to") (rows_of (found_of found.now)))) ≡ true }
-    ensures { upgrade_to (one_of (codes "to") (rows_of (found_of found.now))) ≡ Some (Job.Upgrade result) }
+    requires { is_some (number_in 2 3 (one_of (codes "to") (rows_of (found_of found.now)))) ≡ true }
+    ensures { number_in 2 3 (one_of (codes "to") (rows_of (found_of found.now))) ≡ Some result }
 {
     found.get_one::<u32>("to")
 }
@@ -266,12 +318,15 @@ fn command<'a>(alloc: Global) -> Result<Command<'a>, AllocError>
         .subcommand(upgrade)
 }
 
-/// The subcommand `check`, with its option and its file.
+/// The subcommand `check`, with its options and its file.
 fn checking<'a>(alloc: Global) -> Result<Command<'a>, AllocError>
     ensures shape { IfOk result (λ c. shape_of c ≡ check_app.top) }
     ensures local { IfOk result (λ c. (out-Command c).has_globals ≡ false) }
 {
-    reading(alloc, "check", CHECK_ABOUT, EXPLANATION, TRACE_HELP)?.arg(workers(alloc))
+    reading(alloc, "check", CHECK_ABOUT, EXPLANATION, TRACE_HELP)?
+        .arg(workers(alloc))?
+        .arg(all(alloc))?
+        .arg(most(alloc))
 }
 
 /// The subcommand `upgrade`, with its option and its file.
@@ -325,6 +380,30 @@ fn workers<'a>(alloc: Global) -> Arg<'a>
         .help(WORKERS_HELP)
         .action(ArgAction::Set)
         .value_parser(value_parser!(u32).range(1..=i64::from(MAX_WORKERS)))
+}
+
+/// The option `--all` of `check`.
+fn all<'a>(alloc: Global) -> Arg<'a>
+    ensures rule { rule_of result ≡ all_rule }
+    ensures local { result.global ≡ false }
+{
+    Arg::new(alloc, "all")
+        .long("all")
+        .help(ALL_HELP)
+        .action(ArgAction::SetTrue)
+}
+
+/// The option `--most` of `check`.
+fn most<'a>(alloc: Global) -> Arg<'a>
+    ensures rule { rule_of result ≡ most_rule }
+    ensures local { result.global ≡ false }
+{
+    Arg::new(alloc, "most")
+        .long("most")
+        .value_name("N")
+        .help(MOST_HELP)
+        .action(ArgAction::Set)
+        .value_parser(value_parser!(u32).range(1..=1000))
 }
 
 /// The option `--to` of `upgrade`.

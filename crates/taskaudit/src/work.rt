@@ -13,8 +13,12 @@ use std::fmt;
 /// What the words of the command line ask for.
 #[derive(Clone, Copy, Debug, PartialEq, Eq)]
 pub enum Job {
-    /// To judge the trace, by this number of threads where one is given.
-    Check(Option<u32>),
+    /// To judge the trace: by this number of threads where one is given, and with all its findings, at most
+    /// so many of them, where that number is given.
+    Check {
+        workers: Option<u32>,
+        most: Option<u32>,
+    },
     /// To judge the trace and print an order that shows the verdict.
     Order,
     /// To run the script and write the trace that its recorders gather.
@@ -30,7 +34,7 @@ impl Job {
         ensures { result.now ≡ job_name self }
     {
         match self {
-            Job::Check(_) => "check",
+            Job::Check { .. } => "check",
             Job::Order => "order",
             Job::Record => "record",
             Job::Upgrade(_) => "upgrade",
@@ -58,11 +62,27 @@ pub struct Asked<'a> {
 
 /// What is printed of a verdict.
 #[derive(Clone, Copy, Debug, PartialEq, Eq)]
-pub enum Shown {
+pub enum Printed {
     /// Its report.
     Report,
+    /// Its report, and behind it the records at which it shows, at most so many of them.
+    Findings(u32),
     /// Its report, and behind it an order that shows it.
     Order,
+}
+
+impl Printed {
+    ghost use Rattle.taskaudit.specs.Audits.{shown_of};
+
+    /// Returns what a check shows that prints so many findings at most, or none.
+    pub fn of_check(most: Option<u32>) -> Printed
+        ensures { result ≡ shown_of most }
+    {
+        match most {
+            Some(most) => Printed::Findings(most),
+            None => Printed::Report,
+        }
+    }
 }
 
 /// What the program has done.

@@ -8,3 +8,5 @@ pub mod MissedLemmas
 pub mod EventLemmas
 pub mod RosterLemmas
 pub mod ShortLemmas
+pub mod LackLemmas
+pub mod ShownPlaceLemmas

@@ -1,11 +1,11 @@
 -- The first place in the file at which a record shows a team or a barrier that lacks a member, and what is
 -- known where none does.
 use Rattle.std.proofs.Common.{◌≡◌, ◌∙◌, ℕ, ◌<◌, ◌≤◌, ◌+◌, List, [], ◌∷◌, length, get_or, Option, Some, None}
-use Rattle.std.proofs.Common.{true, refl, sym, ap, subst, arith, inl, inr, ◌⊎◌}
+use Rattle.std.proofs.Common.{Bool, true, refl, sym, ap, subst, arith, inl, inr, ◌⊎◌}
 use Rattle.std.proofs.lemmas.Bool.{cases_eq, cases_lt, cases_order, false≢true}
 use Rattle.std.proofs.lemmas.Option.{none-some, same_Some, slice_get_within, slice_get_past, slice_get-get_or}
 use Rattle.std.specs.Global.{Vec}
-use Rattle.std.specs.Prelude.{◌↔◌, is_some, slice_get, option_and_then}
+use Rattle.std.specs.Prelude.{◌↔◌, IsTrue, is_some, slice_get, option_and_then}
 use Rattle.std.specs.Option.{unwrap_or, option_or}
 use Rattle.ompt_events.specs.declared.records.Record.{Record}
 use Rattle.ompt_events.specs.declared.records.Body.{Body}
@@ -55,14 +55,14 @@ region_joins rs i task kind endpoint says = there (slice_get rs i) says
     there None is = refl
     there (Some r) is = of r.body is
 
-missed_joins : (rs : List Record) (i : ℕ) → IsBarrierMissed rs i → is_some (at joined rs i) ≡ true → ⊥
+pub missed_joins : (rs : List Record) (i : ℕ) → IsBarrierMissed rs i → is_some (at joined rs i) ≡ true → ⊥
 missed_joins rs i m joins =
     let ends = ends_at rs i m.barrier.task m.begin m.barrier.kind m.barrier.ends in
     false≢true
     (sym (ap is_some (region_joins rs i m.barrier.task m.barrier.kind ends.endpoint ends.says)) ∙ joins)
 
 -- a record shows a lack where a member begins, or where a barrier ends that a member misses
-short_cases : (rs : List Record) (i : ℕ) → IsShort rs i
+pub short_cases : (rs : List Record) (i : ℕ) → IsShort rs i
     → (is_some (at joined rs i) ≡ true) ⊎ IsBarrierMissed rs i
 short_cases rs i (outside m joins out) = inl (ap is_some joins)
 short_cases rs i (same_index m e joins has same) = inl (ap is_some joins)
@@ -99,13 +99,18 @@ not_short rs i fine begins (missed task member begin number kind ends barrier nu
       never = never;
     }) begins
 
-missed_short : (rs : List Record) (i : ℕ) → IsBarrierMissed rs i → IsShort rs i
+pub missed_short : (rs : List Record) (i : ℕ) → IsBarrierMissed rs i → IsShort rs i
 missed_short rs i m =
     missed m.barrier.task m.member m.begin m.number m.barrier.kind m.barrier.ends m.barrier.barrier m.numbered
     m.mate m.never
 
 of_cause : (rs : List Record) (i : ℕ) → HasCause rs i TeamShort → IsShort rs i
 of_cause rs i (team_short is) = is
+
+-- what is decided of the cause
+pub short_is_cause : (rs : List Record) (i : ℕ) (shows : Bool) → IsTrue shows ↔ IsShort rs i
+    → IsTrue shows ↔ HasCause rs i TeamShort
+short_is_cause rs i shows is = (λ holds. team_short (is.0 holds), λ has. is.1 (of_cause rs i has))
 
 pub whole_more : (rs : List Record) (n : ℕ) → IsWholeBefore rs n → LacksNothing rs n
     → IsWholeBefore rs (n + 1)

@@ -9,3 +9,4 @@ pub mod Tables
 pub mod Missed
 pub mod Rosters
 pub mod Short
+pub mod Lacks

@@ -96,11 +96,12 @@ LacksNothing rs i = (m : Membership) → at joined rs i ≡ Some m → HasSlot r
 abbrev pub IsWholeBefore : List Record → ℕ → Type 0
 IsWholeBefore rs i = (k : ℕ) → k < i → is_some (at joined rs k) ≡ true → IsShort rs k → ⊥
 
--- the slot was empty and is now that of the index, or it is taken
+-- the slot was empty and is now that of the index, or it is taken and the slots are as they were
 abbrev pub TakesSlot : List (Option ℕ) → List (Option ℕ) → ℕ → ℕ → Bool → Type 0
 TakesSlot old new number index true =
     (slice_get old number ≡ Some None) × (new ≡ slice_set old number (Some index))
-TakesSlot old new number index false = (other : ℕ) × (slice_get old number ≡ Some (Some other))
+TakesSlot old new number index false =
+    (other : ℕ) × (slice_get old number ≡ Some (Some other)) × (new ≡ old)
 
 -- a member begins there that shows a team which lacks a member; or it does not, and has its slot
 abbrev pub IsEnrolling : List Record → ℕ → List ℕ → List (Vec (Option ℕ)) → Bool → Type 0

@@ -118,7 +118,7 @@ fn fits(tables: &Tables, lead: usize, member: Membership, at: usize) -> bool
 }
 
 /// Returns whether the member at the index says that its team has this size.
-fn names_size(run: &Run, lead: usize, actual: u32) -> bool
+pub(crate) fn names_size(run: &Run, lead: usize, actual: u32) -> bool
     requires { lead < length run.now.family.tasks }
     ensures { (place : ℕ) (first : Membership) → says_at joined run.now.records place ≡ Some first
         → slice_get run.now.family.tasks lead ≡ Some first.member
@@ -132,7 +132,7 @@ fn names_size(run: &Run, lead: usize, actual: u32) -> bool
 }
 
 /// Gives the slot of this number to the task at an index, unless it is taken. Returns whether it was free.
-fn take_slot(roster: &mut Vec<Slot>, number: usize, index: usize) -> bool
+pub(crate) fn take_slot(roster: &mut Vec<Slot>, number: usize, index: usize) -> bool
     requires inside { number < length roster.old.items }
     requires small { index < 4294967295 }
     ensures { TakesSlot roster.old.items roster.new.items number index result }

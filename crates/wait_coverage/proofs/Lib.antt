@@ -5,9 +5,12 @@ pub mod DoneLemmas
 pub mod HeldLemmas
 pub mod KindLemmas
 pub mod ChainLemmas
+pub mod EndCoverLemmas
+pub mod LatestLemmas
 pub mod LimitLemmas
 pub mod WaitKindLemmas
 pub mod WaitLemmas
+pub mod LateLemmas
 pub mod MeetingLemmas
 pub mod UnfinishedLemmas
 pub mod NumberLemmas

@@ -1,6 +1,6 @@
 -- The least ledger length at which what the end of a barrier covers is finished.
 use Rattle.std.proofs.Common.{◌≡◌, ◌∙◌, ℕ, ◌<◌, ◌≤◌, ◌+◌, List, length, get_or, Some, None, refl, sym, ap}
-use Rattle.std.proofs.Common.{subst, arith, inl, inr}
+use Rattle.std.proofs.Common.{subst, arith, inl, inr, true}
 use Rattle.std.proofs.lemmas.Bool.{cases_eq}
 use Rattle.std.proofs.lemmas.Option.{same_Some, slice_get_within, slice_get-get_or}
 use Rattle.std.proofs.lemmas.List.{length-set}
@@ -12,9 +12,11 @@ use Rattle.ompt_events.specs.declared.names.SyncKind.{SyncKind}
 use Rattle.ompt_events.specs.declared.names.SyncKind.TheVariants.{Taskwait, Taskgroup}
 use Rattle.ompt_events.specs.Records.{region}
 use Rattle.ompt_events.specs.Places.{at}
-use Rattle.ompt_events.specs.Regions.{IsRegion, barrier_begun, IsBarrierBegin}
+use Rattle.ompt_events.specs.Regions.{IsRegion, barrier_begun, IsBarrierBegin, waits_for_tasks}
+use Rattle.ompt_events.specs.Coverage.{waited, grouped, synchronised}
 use Rattle.ompt_events.specs.Teams.{IsTeammate}
 use Rattle.ompt_events.proofs.PlaceLemmas.{at_within}
+use Rattle.ompt_events.proofs.TreeLemmas.{child_before}
 use Rattle.index_tables.specs.Numbering.{AreApart}
 use Rattle.packed_trace.specs.Named.{subject}
 use Rattle.task_tree.proofs.LinkLemmas.{get_set_same, get_set_other}
@@ -22,15 +24,17 @@ use Rattle.task_tree.proofs.LookupLemmas.{subject_calls}
 use Rattle.task_tree.proofs.SubjectLemmas.{call_index}
 use Rattle.wait_coverage.specs.Done.{DoneView, records_of, tasks_of}
 use Rattle.wait_coverage.specs.Limits.{IsFamiliesLimit, IsWaitLimit, IsEndLimit, AreEndLimits}
+use Rattle.wait_coverage.specs.Limits.{IsLeastFor, AreFamiliesEarly, IsEndLeast}
 use Rattle.wait_coverage.specs.declared.limits.Node.{Node}
-use Rattle.wait_coverage.specs.Meetings.{IsMeeting, AreMet, IsLimitRaised, AreMeetingsAdded}
+use Rattle.wait_coverage.specs.Meetings.{IsMeeting, AreMet, AreMetEarly, IsLimitRaised, AreMeetingsAdded}
 use Rattle.task_states.specs.Rows.{row_at, AreSameRows}
 use Rattle.teams.specs.Missed.{EndsBarrier, EndsNoBarrier, IsBarrierEnd}
 use Rattle.teams.specs.Teams.{IsTeams}
 use Rattle.teams.proofs.BarrierLemmas.{barrier_begins_at, begin_says, begun_subject, begun_region, one_number}
 use Rattle.teams.proofs.BarrierLemmas.{barrier_is_other}
 use Rattle.teams.proofs.RegionEndLemmas.{IsSameRegion, ends_at, one_region}
-use Rattle.wait_coverage.proofs.LimitLemmas.{covers_cases}
+use Rattle.wait_coverage.proofs.EndCoverLemmas.{covers_cases}
+use Rattle.wait_coverage.proofs.UnfinishedLemmas.{between}
 use Rattle.task_states.proofs.RowLemmas.{row_here, row_there, row_set_same, row_set_other}
 
 -- ---- the members' begins, one record more
@@ -51,6 +55,10 @@ met_other done n meetings are none = record {
         is_task in_team)
     | inr apart ↦ are.each index task team number i is_task in_team starts (omega (arith, below, apart))
   ];
+  least = λ team number limit stands m small all.
+      are.least team number limit stands m small
+      (λ index task i is_task in_team starts below.
+      all index task i is_task in_team starts (omega (arith, below)));
 }
 
 in_row : (done : DoneView) (task number i : ℕ) (before after : List ℕ) → after ≡ before
@@ -65,6 +73,9 @@ met_reached done n before after same are = record {
   each = λ index task team number i is_task in_team starts below.
       in_row done task number i (row_at before team) (row_at after team) (same team)
       (are.each index task team number i is_task in_team starts below);
+  least =
+      λ team number limit stands.
+      are.least team number limit (sym (ap (λ l. slice_get l number) (same team)) ∙ stands);
 }
 
 -- a greater limit is one too
@@ -79,10 +90,10 @@ pub met_more : (done : DoneView) (n own task team number limit : ℕ) (meetings 
     → AreApart (tasks_of done) → AreMet done n meetings → AreSameRows meetings reached
     → slice_get (tasks_of done) own ≡ Some task → slice_get done.teams.teams own ≡ Some (Some team)
     → slice_get reached team ≡ Some old → IsBarrierBegin (records_of done) task number n
-    → IsFamiliesLimit done n task limit → IsLimitRaised number limit old.items new.items
-    → AreMet done (n + 1) (set reached team new)
+    → IsFamiliesLimit done n task limit → IsLeastFor (AreFamiliesEarly done 0 n task) limit
+    → IsLimitRaised number limit old.items new.items → AreMet done (n + 1) (set reached team new)
 met_more done n own task team number limit meetings reached old new apart met same_rows is_own in_team
-    row_there begins families raised =
+    row_there begins families least_families raised =
     record {
       each = λ index other t k i is_other other_team starts below. elim (cases_eq i n) [
         | inl last ↦
@@ -128,6 +139,25 @@ met_more done n own task team number limit meetings reached old new apart met sa
                   (row_set_other reached team t new different) known
             ]
       ];
+      least = λ t k high stands m small all.
+          let earlier : AreMetEarly done n t k m =
+          λ index other i is_other in_other starts below.
+          all index other i is_other in_other starts (omega (arith, below)) in
+          elim (cases_eq t team) [
+            | inl is_team ↦
+                raised.least k high m (sym (ap (λ l. slice_get l k) (row_new t is_team)) ∙ stands)
+                (λ was stands_was.
+                are.least t k was (ap (λ l. slice_get l k) (row_old t is_team) ∙ stands_was) m small earlier)
+                (λ is_number.
+                let P : ℕ → Type 0 = λ x. AreMetEarly done (n + 1) x k m in
+                let Q : ℕ → Type 0 = λ x. AreMetEarly done (n + 1) team x m in
+                least_families m small
+                (subst Q is_number (subst P is_team all) own task n is_own in_team begins (omega arith)))
+            | inr different ↦
+                are.least t k high
+                (sym (ap (λ l. slice_get l k) (row_set_other reached team t new different)) ∙ stands) m small
+                earlier
+          ];
     }
   where
     are : AreMet done n reached
@@ -155,6 +185,29 @@ plain_limit done i limit noted none m t small low covers = elim (covers_cases (r
     | inr one ↦ absurd (none one.own one.begin one.kind one.is_region one.barrier)
   ]
 ]
+
+-- and the limit is the least of a taskwait or of a taskgroup that ends there
+pub plain_least : (done : DoneView) (i limit : ℕ) → IsWaitLimit done i limit
+    → EndsNoBarrier (records_of done) i → IsEndLeast done i limit
+plain_least done i limit noted none task begin kind demands there m small all =
+    of kind demands there
+  where
+    of : (kind : SyncKind) → waits_for_tasks kind ≡ true → IsRegion (records_of done) i task kind begin
+        → limit ≤ m
+    of Taskwait demands there =
+        noted.least_of_wait task begin there m small
+        (λ c child below creates.
+        all child (waited there (child_before (records_of done) task child begin c below creates)))
+    of Taskgroup demands there =
+        noted.least_of_group task begin there m small
+        (λ c child from below creates t of_child.
+        let ends = ends_at (records_of done) i task begin Taskgroup there in
+        let inside = ends.inside in
+        all t
+        (grouped there
+        (between (records_of done) task begin i c child (omega (arith, inside, below)) from below creates)
+        of_child))
+    of _ demands there = absurd (none task begin _ there demands)
 
 -- its begin has a number
 pub begin_inside : (done : DoneView) (i index begin : ℕ) → IsTeams done.teams
@@ -271,6 +324,27 @@ met_limit done i index team begin number limit meetings row teams met ends in_te
     kind : SyncKind
     kind = ends.barrier.kind
 
+-- and no lesser limit would do
+pub met_least : (done : DoneView) (i index team begin number limit : ℕ) (meetings : List (Vec ℕ))
+    (row : Vec ℕ)
+    → IsTeams done.teams → AreMet done (length (records_of done)) meetings
+    → IsBarrierEnd done.teams.run i index begin → slice_get done.teams.teams index ≡ Some (Some team)
+    → slice_get done.teams.numbers begin ≡ Some number → slice_get meetings team ≡ Some row
+    → slice_get row.items number ≡ Some limit → IsEndLeast done i limit
+met_least done i index team begin number limit meetings row teams met ends in_team numbered stands is_limit
+    own_task own_start kind demands there m small all =
+    let barrier = ends.barrier in
+    let begins = own_begins done i index begin number teams ends numbered in
+    met.least team number
+    limit (ap (λ l. slice_get l number) (row_here meetings team row stands) ∙ is_limit) m
+    small
+    (λ other member start is_member in_team_too starts below c child from under creates t of.
+    let mate =
+    (teams.teams.mates index other barrier.task member team ends.indexed is_member in_team).0 in_team_too in
+    all t
+    (synchronised number barrier.ends barrier.barrier begins mate starts
+    (child_before (records_of done) member child start c under creates) of))
+
 -- a task in no team has no teammate
 pub teamless_limit : (done : DoneView) (i index begin limit : ℕ) → IsTeams done.teams
     → IsBarrierEnd done.teams.run i index begin → slice_get done.teams.teams index ≡ Some None
@@ -318,14 +392,22 @@ added_other done n nodes are none = record {
         (plain_limit done n node.limit (subst Q same (are.noted i node (omega (arith, same)) there)) none)
     | inr apart ↦ are.known i node (omega (arith, below, apart)) there
   ];
+  least = λ i node below there. elim (cases_eq i n) [
+    | inl same ↦
+        let P : ℕ → Type 0 = λ k. IsEndLeast done k node.limit in
+        let Q : ℕ → Type 0 = λ k. IsWaitLimit done k node.limit in
+        subst P (sym same)
+        (plain_least done n node.limit (subst Q same (are.noted i node (omega (arith, same)) there)) none)
+    | inr apart ↦ are.least i node (omega (arith, below, apart)) there
+  ];
   noted = λ i node past there. are.noted i node (omega (arith, past)) there;
 }
 
 -- where one does
 pub added_more : (done : DoneView) (n : ℕ) (nodes : List Node) (new : Node) → AreMeetingsAdded done n nodes
-    → n < length (records_of done) → IsEndLimit done n new.limit
+    → n < length (records_of done) → IsEndLimit done n new.limit → IsEndLeast done n new.limit
     → AreMeetingsAdded done (n + 1) (set nodes n new)
-added_more done n nodes new are below limit = record {
+added_more done n nodes new are below limit least = record {
   count = length-set nodes n new ∙ are.count;
   known = λ i node low there. elim (cases_eq i n) [
     | inl same ↦
@@ -338,6 +420,18 @@ added_more done n nodes new are below limit = record {
         subst P (sym same) (subst Q is limit)
     | inr apart ↦
         are.known i node (omega (arith, low, apart)) (sym (get_set_other nodes n i new apart) ∙ there)
+  ];
+  least = λ i node low there. elim (cases_eq i n) [
+    | inl same ↦
+        let P : ℕ → Type 0 = λ k. IsEndLeast done k node.limit in
+        let Q : Node → Type 0 = λ x. IsEndLeast done n x.limit in
+        let is : new ≡ node =
+        same_Some new node
+        (sym (get_set_same nodes n new within) ∙ ap (slice_get (set nodes n new)) (sym same)
+        ∙ there) in
+        subst P (sym same) (subst Q is least)
+    | inr apart ↦
+        are.least i node (omega (arith, low, apart)) (sym (get_set_other nodes n i new apart) ∙ there)
   ];
   noted =
       λ i node past there.
@@ -357,4 +451,8 @@ added_all done n nodes are whole = record {
       let within = slice_get_within nodes i node there in
       let count = are.count in
       are.known i node (omega (arith, whole, within, count)) there;
+  least = λ i node there.
+      let within = slice_get_within nodes i node there in
+      let count = are.count in
+      are.least i node (omega (arith, whole, within, count)) there;
 }

@@ -24,7 +24,7 @@ use Rattle.wait_coverage.proofs.UnfinishedLemmas.{EndsWaitAt, covers_at}
 
 -- ---- finished tasks
 
-own_seen : (rs : List Record) (own : OwnView) → IsOwnOf rs own → (number place : ℕ)
+pub own_seen : (rs : List Record) (own : OwnView) → IsOwnOf rs own → (number place : ℕ)
     → slice_get own.places number ≡ Some place → seen_at own.run.records number ≡ seen_at rs place
 own_seen rs own of number place stands =
     ap (λ (o : Option Record). option_map_or (λ (r : Record). r.seen) o 0)

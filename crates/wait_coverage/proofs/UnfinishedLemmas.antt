@@ -23,7 +23,7 @@ use Rattle.credit_ledger.specs.declared.entry.Cover.TheVariants.{Children, Desce
 use Rattle.trace_ledger.specs.Entries.{IsDone}
 use Rattle.wait_coverage.specs.Spans.{IsCoverComplete}
 use Rattle.wait_coverage.specs.Done.{DoneView, records_of, tasks_of, IsDoneView, AreChildrenDone}
-use Rattle.wait_coverage.specs.Limits.{IsEndLimit}
+use Rattle.wait_coverage.specs.Limits.{IsEndLimit, IsEndLeast}
 use Rattle.wait_coverage.specs.Waits.{EndsNoWaitAt, IsWaitAt, waits, groups, meets, IsInWait, before_begin}
 use Rattle.wait_coverage.specs.Waits.{in_group, by_member, cover_of, IsAwaitedBy, IsAwaited}
 use Rattle.wait_coverage.specs.Waits.{IsCoveredUnfinished}
@@ -38,7 +38,7 @@ use Rattle.teams.proofs.RegionEndLemmas.{EndsAt, ends_at, one_region}
 use Rattle.wait_coverage.proofs.CoverLemmas.{child_with, child_stays, dropped, done_there, complete_there}
 use Rattle.trace_ledger.proofs.CompleteLemmas.{done_or_not}
 use Rattle.trace_ledger.proofs.StandLemmas.{created_child}
-use Rattle.wait_coverage.proofs.LimitLemmas.{covers_cases}
+use Rattle.wait_coverage.proofs.EndCoverLemmas.{covers_cases}
 
 -- ---- what is waited for is what is covered
 
@@ -56,7 +56,7 @@ number_rises rs parent n m less inside =
       | inr at_most ↦ at_most
     ]
 
-between : (rs : List Record) (parent begin i c task : ℕ) → c < length rs → begin ≤ c → c < i
+pub between : (rs : List Record) (parent begin i c task : ℕ) → c < length rs → begin ≤ c → c < i
     → at creation rs c ≡ Some (parent, task) → Contains (children_between rs parent begin i) task
 between rs parent begin i c task inside from before creates =
     dropped (children_before rs parent i) (child_number rs parent begin) (child_number rs parent c) task
@@ -386,3 +386,33 @@ none_unfinished rs i task complete = (
   (λ never. absurd (false≢true never)),
   (λ unfinished. absurd (unfinished.incomplete (complete task unfinished.covered))),
 )
+
+-- where not all is complete, the limit of the end is not reached: it is the least
+pub least_reached : (done : DoneView) (i seen limit : ℕ) (wait : Wait) → AreChildrenDone done
+    → IsWaitAt (records_of done) (tasks_of done) i wait → IsEndLeast done i limit
+    → seen_at (records_of done) i ≡ seen → seen < 4294967295 → IsCoverComplete (records_of done) i
+    → limit ≤ seen
+least_reached done i seen limit wait exact is least names small complete =
+    let ends = wait_ends (records_of done) (tasks_of done) i wait is in
+    let region = wait_region (records_of done) (tasks_of done) i wait is in
+    least region.task region.begin region.kind region.demands region.is_region seen small
+    (λ task covers.
+    (exact task seen (covered_explicit (records_of done) i task covers) (omega (arith, small))).1
+    (subst (done_below done task) names
+    (done_there (records_of done) i ends.0 task ends.2 ends.3.endpoint ends.3.says (complete task covers))))
+  where
+    wait_region : (rs : List Record) (tasks : List ℕ) (i : ℕ) (wait : Wait) → IsWaitAt rs tasks i wait
+        → EndsWaitAt rs i
+    wait_region rs tasks i wait (waits {parent = parent} {begin = begin} is_parent there) =
+        record { task = parent; begin = begin; kind = Taskwait; is_region = there; demands = refl }
+    wait_region rs tasks i wait (groups {parent = parent} {begin = begin} is_parent there) =
+        record { task = parent; begin = begin; kind = Taskgroup; is_region = there; demands = refl }
+    wait_region rs tasks i wait
+        (meets {own = own} {begin = begin} {kind = kind} is_own there barrier begins) =
+        record {
+          task = own;
+          begin = begin;
+          kind = kind;
+          is_region = there;
+          demands = barrier_waits kind barrier;
+        }

@@ -1,7 +1,8 @@
 -- What the end of a region waits for, by the records that create tasks, and what of it is unfinished.
 -- Records are named by their numbers in the tasks' own order.
 use Rattle.std.specs.Prelude.{ℕ, ◌≡◌, ◌<◌, ◌≤◌, ◌↔◌, Bool, false, true, IsTrue, List, length, Some, slice_get}
-use Rattle.std.specs.Prelude.{slice_index_or}
+use Rattle.std.specs.Prelude.{◌≢◌, Contains, slice_index_or}
+use Rattle.std.specs.List.{AllPairs}
 use Rattle.ompt_events.specs.declared.records.Record.{Record}
 use Rattle.ompt_events.specs.declared.names.SyncKind.{SyncKind}
 use Rattle.ompt_events.specs.declared.names.SyncKind.TheVariants.{Taskwait, Taskgroup}
@@ -101,6 +102,11 @@ pub record AreAwaitedMarked (rs : List Record) (tasks : List ℕ) (wait : Wait) 
 pub record IsCoveredUnfinished (rs : List Record) (i task : ℕ) : Type 0 where
   pub covered : Covers rs i task
   pub incomplete : IsCompleteAt rs task i → ⊥
+
+-- these are the tasks of which the fact holds, each once
+pub record AreEach (holds : ℕ → Type 0) (tasks : List ℕ) : Type 0 where
+  pub exactly : (task : ℕ) → Contains tasks task ↔ holds task
+  pub apart : AllPairs (λ x y. x ≢ y) tasks
 
 -- the record at the place in the file creates the task
 abbrev pub CreatesAtPlace : OwnView → ℕ → ℕ → Type 0

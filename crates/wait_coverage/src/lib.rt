@@ -23,4 +23,6 @@ mod unfinished;
 mod waits;
 
 pub use coverage::{CoverFault, Coverage};
-pub use unfinished::{Known, covers_unfinished, find_known, find_unfinished};
+pub use unfinished::{
+    Known, all_unfinished, covers_unfinished, find_known, find_unfinished, is_unfinished,
+};

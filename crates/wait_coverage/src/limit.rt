@@ -38,7 +38,8 @@ impl Limit {
 
     /// Returns this length if it is less than 2^32 - 1, else 2^32.
     pub(crate) fn of(length: u64) -> Limit
-        ensures { (m : ℕ) → m < 2 ^ 32 → result ≤ m → length ≤ m }
+        ensures enough { (m : ℕ) → m < 2 ^ 32 → result ≤ m → length ≤ m }
+        ensures least { (m : ℕ) → m < 4294967295 → length ≤ m → result ≤ m }
     {
         if length < u64::from(NEVER) {
             Limit {
@@ -58,9 +59,11 @@ impl Limit {
         }
     }
 
-    /// Returns true only if a record that names this length reaches the limit.
+    /// Returns whether a record that names this length reaches the limit; for the length 2^32 - 1, true only if
+    /// it does.
     pub(crate) fn is_reached(self, length: u32) -> bool
-        ensures { IsTrue result → self ≤ length }
+        ensures reached { IsTrue result → self ≤ length }
+        ensures missed { length < 4294967295 → self ≤ length → IsTrue result }
     {
         self.code <= length && self.code < NEVER
     }

@@ -5,7 +5,7 @@ ghost use Rattle.ompt_events.specs.Records.{region};
 ghost use Rattle.ompt_events.specs.Places.{at as says_at};
 ghost use Rattle.ompt_events.specs.Regions.{barrier_begun};
 ghost use Rattle.teams.specs.Missed.{IsBarrierEnd};
-ghost use Rattle.wait_coverage.specs.Limits.{IsFamiliesLimit, IsEndLimit, AreNodes, AreEndLimits};
+ghost use Rattle.wait_coverage.specs.Limits.{IsFamiliesLimit, IsLeastFor, AreFamiliesEarly, IsEndLimit, IsEndLeast, AreNodes, AreEndLimits};
 ghost use Rattle.wait_coverage.specs.Meetings.{AreMet, IsLimitRaised, AreMeetingsAdded};
 
 use crate::done::Done;
@@ -40,6 +40,8 @@ pub(crate) fn meet(
     requires within { at < length done.now.teams.run.records }
     requires limit { (task : ℕ) → barrier_begun (says_at region done.now.teams.run.records at) ≡ Some task
         → IsFamiliesLimit done.now at task limit }
+    requires least { (task : ℕ) → barrier_begun (says_at region done.now.teams.run.records at) ≡ Some task
+        → IsLeastFor (AreFamiliesEarly done.now 0 at task) limit }
     requires met { AreMet done.now at meetings.old.items }
     ensures { IfOk result (λ met. AreMet done.now (at + 1) meetings.new.items) }
 {
@@ -80,7 +82,8 @@ fn add_meeting(done: &Done, meetings: &[Vec<Limit>], nodes: &mut Vec<Node>, at: 
 fn end_limit(done: &Done, meetings: &[Vec<Limit>], end: BarrierEnd, at: usize) -> Limit
     requires ends { IsBarrierEnd done.now.teams.run at end.task end.begin }
     requires met { AreMet done.now (length done.now.teams.run.records) meetings.now }
-    ensures { IsEndLimit done.now at result }
+    ensures limit { IsEndLimit done.now at result }
+    ensures least { IsEndLeast done.now at result }
 {
     let _run = done.run();
     match done.team(end.task) {

@@ -1,21 +1,22 @@
 //! The unfinished task at the end of a region that was created first, and whether an end covers a given
 //! unfinished one.
 ghost use Rattle.std.specs.Prelude.{◌≡◌, ◌<◌, ◌↔◌, List, IfOk, IfErr, IsTrue, MatchOption, length};
+ghost use Rattle.ompt_events.specs.Places.{seen_at};
 ghost use Rattle.ompt_events.specs.declared.fault.Fault.TheVariants.{Memory};
 ghost use Rattle.teams.specs.Teams.{own_of};
 ghost use Rattle.trace_ledger.specs.Entries.{HasRightEntries, IsLedgerOf};
 ghost use Rattle.wait_coverage.specs.Done.{IsDoneView, AreDone, AreChildrenDone};
 ghost use Rattle.wait_coverage.specs.Known.{AreHeldFrom, AreCreditLengths};
-ghost use Rattle.wait_coverage.specs.Limits.{IsEndLimit};
+ghost use Rattle.wait_coverage.specs.Limits.{IsEndLeast, IsEndLimit};
 ghost use Rattle.wait_coverage.specs.Spans.{IsCoverComplete};
-ghost use Rattle.wait_coverage.specs.Waits.{IsWaitAt, AreAwaited, IsCoveredUnfinished, IsFirstCoveredUnfinished, waiting};
+ghost use Rattle.wait_coverage.specs.Waits.{AreEach, IsWaitAt, AreAwaited, IsCoveredUnfinished, IsFirstCoveredUnfinished, waiting};
 
 use crate::done::Done;
 use crate::limit::Limit;
 use crate::limits::{Node, Noted, find_limits};
 use crate::meetings::add_meetings;
 use crate::order::parents_first;
-use crate::waits::{Search, Wait, first_late, is_late_task, wait_at};
+use crate::waits::{Search, Wait, all_late, first_late, is_late_task, wait_at};
 use credit_ledger::Ledger;
 use ompt_events::Fault;
 use std::alloc::{AllocError, Global};
@@ -87,7 +88,8 @@ impl<'a> Known<'a> {
     /// Returns the least ledger length at which all that the end with this number covers is finished.
     fn limit(&self, number: usize) -> Limit
         requires { number < length self.now.done.teams.run.records }
-        ensures { IsEndLimit self.now.done number result }
+        ensures limit { IsEndLimit self.now.done number result }
+        ensures least { IsEndLeast self.now.done number result }
     {
         self.nodes[number].limit
     }
@@ -165,6 +167,41 @@ pub(crate) fn unfinished_at(
             Ok(first_late(done, marks.as_slice(), done.run().seen(number)))
         }
         None => Ok(None),
+    }
+}
+
+/// Returns whether the end with this number in the tasks' own order covers a task that is unfinished there
+/// (OpenMP 5.2, 15.3 to 15.5). The contract guarantees this if the lengths are the least at which the tasks are
+/// finished, and the record names no length of 2^32 - 1. Takes a few steps.
+pub fn is_unfinished(known: &Known, number: usize) -> bool
+    requires { number < length known.now.done.teams.run.records }
+    ensures { AreDone known.now.done → seen_at known.now.done.teams.run.records number < 4294967295
+        → IsTrue result ↔ (IsCoverComplete known.now.done.teams.run.records number → ⊥) }
+{
+    let done = known.done();
+    if known.limit(number).is_reached(done.run().seen(number)) {
+        return false;
+    }
+    wait_at(done.teams(), number).is_some()
+}
+
+/// Returns all tasks that the end with this number in the tasks' own order covers and that are unfinished
+/// there, each once (OpenMP 5.2, 15.3 to 15.5). The contract guarantees this if the lengths are the least at
+/// which the tasks are finished. Takes a few steps for each record, and memory linear in the records. Fails
+/// only when out of memory.
+pub fn all_unfinished(alloc: Global, known: &Known, number: usize) -> Result<Vec<u64>, Fault>
+    requires { number < length known.now.done.teams.run.records }
+    ensures unfinished { AreDone known.now.done → IfOk result (λ found.
+        AreEach (IsCoveredUnfinished known.now.done.teams.run.records number) found.items) }
+    ensures fault { IfErr result (λ fault. fault ≡ Memory) }
+{
+    let done = known.done();
+    match unmet_wait(known, number) {
+        Some(wait) => {
+            let marks = find_marks(alloc, done, wait)?;
+            Ok(all_late(alloc, done, marks.as_slice(), done.run().seen(number))?)
+        }
+        None => Ok(Vec::new(alloc)),
     }
 }
 

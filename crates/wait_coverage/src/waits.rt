@@ -6,7 +6,7 @@ ghost use Rattle.task_tree.specs.Runs.{IsWaitEvent};
 ghost use Rattle.task_states.specs.Rows.{row_at};
 ghost use Rattle.wait_coverage.specs.Done.{IsParentsFirst};
 ghost use Rattle.wait_coverage.specs.Search.{IsSearch, IsMarkedAbove};
-ghost use Rattle.wait_coverage.specs.Waits.{EndsNoWaitAt, IsWaitAt, IsInWait, IsOwnChild, IsAwaited, AreAwaited, IsAwaitedUnfinished, IsAwaitedUnfinishedAt, IsFirstLate, cover_of, waiting};
+ghost use Rattle.wait_coverage.specs.Waits.{AreEach, EndsNoWaitAt, IsWaitAt, IsInWait, IsOwnChild, IsAwaited, AreAwaited, IsAwaitedUnfinished, IsAwaitedUnfinishedAt, IsFirstLate, cover_of, waiting};
 ghost use Rattle.wait_coverage.specs.declared.waits.Wait.{Wait};
 
 use crate::done::Done;
@@ -245,6 +245,29 @@ pub(crate) fn first_late(done: &Done, marks: &[bool], seen: u32) -> Option<u64>
         }
     }
     None
+}
+
+/// Returns the tasks that are marked and whose length is above the one seen, each once.
+pub(crate) fn all_late(
+    alloc: Global,
+    done: &Done,
+    marks: &[bool],
+    seen: u32,
+) -> Result<Vec<u64>, AllocError>
+    requires { length marks.now ≡ length done.now.teams.run.family.tasks }
+    ensures { (wait : Wait)
+        → AreAwaited done.now.teams.run.records done.now.teams.run.family.tasks wait marks.now
+        → IfOk result (λ late. AreEach (IsAwaitedUnfinished done.now wait seen) late.items) }
+{
+    let run = done.run();
+    let mut late = Vec::new(alloc);
+    for index in 0..run.task_count() {
+        if !is_late_index(done, marks, index, seen) {
+            continue;
+        }
+        late.push(run.task(index))?;
+    }
+    Ok(late)
 }
 
 /// Returns the task that is created at the place in the file, if it is marked and its length is above the

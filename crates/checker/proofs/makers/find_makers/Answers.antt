@@ -1,25 +1,36 @@
-use Rattle.std.proofs.Common.{◌∙◌, sym, arith, below_more}
-use Rattle.std.proofs.lemmas.Bool.{false≢true}
-use Rattle.ompt_events.specs.declared.cause.Cause.TheVariants.{EntryTwice}
-use Rattle.ompt_events.proofs.FaultLemmas.{malformed_alone}
-use Rattle.checker.proofs.EntryLemmas.{first_repeat, free_of_repeats}
+use Rattle.std.proofs.Common.{◌≡◌, ◌∙◌, ℕ, length, subst, arith}
+use Rattle.ompt_events.specs.Causes.{RepeatsEntry, entry_twice}
+use Rattle.ompt_events.proofs.ShownLemmas.{noted}
+use Rattle.checker.specs.Entries.{AreEntryPlaces}
+use Rattle.checker.proofs.EntryLemmas.{all_repeats, makers_next}
 use Rattle.checker.proofs.makers.find_makers.Goals as goal
 
-pub returns-then-branch-clause-fault : goal.returns-then-branch-clause-fault
-returns-then-branch-clause-fault c =
-    malformed_alone c.args.run.now.records EntryTwice c.loop-at.at
-    (first_repeat c.args.run.now.records c.loop-at.at
-    (c.in_ok-repeats_entry.ensures.repeats.0 c.if-branch.true) c.loop-at.invariant.free)
-
 pub loop-at-preserved : goal.loop-at-preserved
-loop-at-preserved c = record {
-  naming = c.in_ok-repeats_entry.ensures.named c.if-branch.false;
-  free =
-      below_more _ _ c.loop-at.invariant.free
-      (λ again. false≢true (sym c.if-branch.false ∙ c.in_ok-repeats_entry.ensures.repeats.1 again));
-}
+loop-at-preserved c =
+    let rs = c.args.run.now.records in
+    let old = c.loop-at.invariant in
+    record {
+      long = c.in_ok-again.ensures.long ∙ old.long;
+      named = c.in_ok-again.ensures.named;
+      makers =
+          makers_next rs c.loop-at.at c.in_ok-again.again c.loop-at.named.makers.items
+          c.repeats_entry.new.named.makers.items c.in_ok-again.ensures.repeats c.in_ok-again.ensures.makers
+          old.makers;
+      repeats =
+          noted (RepeatsEntry rs) c.loop-at.at c.in_ok-again.again c.loop-at.repeats c.note.new.self
+          c.in_ok-again.ensures.repeats c.in_ok-note.ensures old.repeats;
+    }
 
-pub returns-clause-free : goal.returns-clause-free
-returns-clause-free c =
-    free_of_repeats c.args.run.now.records c.loop-at.at c.loop-at.invariant.free
-    (let end = rw c.len-at-end.ensures.value at c.loop-at-test.false in omega (arith, end))
+pub returns-clause-repeats : goal.returns-clause-repeats
+returns-clause-repeats c =
+    all_repeats c.args.run.now.records c.loop-at.at c.loop-at.repeats
+    (omega (arith, c.loop-at-test.false, c.loop-at.auto.at-end, c.len-at-end.ensures.value))
+    c.loop-at.invariant.repeats
+
+pub returns-clause-makers : goal.returns-clause-makers
+returns-clause-makers c = λ free.
+    let rs = c.args.run.now.records in
+    let last : c.loop-at.at ≡ length rs =
+    omega (arith, c.loop-at-test.false, c.loop-at.auto.at-end, c.len-at-end.ensures.value) in
+    let P : ℕ → Type 0 = λ n. AreEntryPlaces rs n c.loop-at.named.makers.items in
+    subst P last (c.loop-at.invariant.makers (λ k below is. free k (entry_twice is)))

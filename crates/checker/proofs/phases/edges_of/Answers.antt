@@ -18,8 +18,8 @@ in_run-requires c =
 pub returns-in_err-exclude-clause-fault : goal.returns-in_err-exclude-clause-fault
 returns-in_err-exclude-clause-fault c =
     let rs = c.args.runs.now.run.records in
-    let found : FindsFirst rs NestedParallel c.in_ok-find_nested.field-0 =
-    rw c.run-run.ensures.value at c.in_ok-find_nested.ensures in
+    let found : FindsFirst rs NestedParallel c.first-2.result =
+    c.first-2.ensures.found rs NestedParallel (rw c.run-run.ensures.value at c.in_ok-find_nested.ensures) in
     let fault =
     fault_shown rs (NestedParallel ∷ []) c.in_err-exclude.field-0.0 refl
     (c.in_err-exclude.ensures.fault rs found) in
@@ -33,9 +33,10 @@ pub returns-in_err-exclude-2-clause-fault : goal.returns-in_err-exclude-2-clause
 returns-in_err-exclude-2-clause-fault c =
     let rs = c.args.runs.now.run.records in
     let flat : IsFreeOf rs NestedParallel =
-    c.in_ok-exclude.ensures.free rs (rw c.run-run.ensures.value at c.in_ok-find_nested.ensures) in
-    let found : FindsFirst rs RegionNesting c.in_ok-find_misnested.field-0 =
-    rw c.run-run.ensures.value at c.in_ok-find_misnested.ensures in
+    c.in_ok-exclude.ensures.free rs
+    (c.first-2.ensures.found rs NestedParallel (rw c.run-run.ensures.value at c.in_ok-find_nested.ensures)) in
+    let found : FindsFirst rs RegionNesting c.first-4.result =
+    c.first-4.ensures.found rs RegionNesting (rw c.run-run.ensures.value at c.in_ok-find_misnested.ensures) in
     let fault =
     fault_shown rs (RegionNesting ∷ []) c.in_err-exclude-2.field-0.0 refl
     (c.in_err-exclude-2.ensures.fault rs found) in
@@ -49,9 +50,12 @@ pub returns-in_err-edges-clause-fault : goal.returns-in_err-edges-clause-fault
 returns-in_err-edges-clause-fault c =
     let rs = c.args.runs.now.run.records in
     let flat : IsFreeOf rs NestedParallel =
-    c.in_ok-exclude.ensures.free rs (rw c.run-run.ensures.value at c.in_ok-find_nested.ensures) in
+    c.in_ok-exclude.ensures.free rs
+    (c.first-2.ensures.found rs NestedParallel (rw c.run-run.ensures.value at c.in_ok-find_nested.ensures)) in
     let inside : IsFreeOf rs RegionNesting =
-    c.in_ok-exclude-2.ensures.free rs (rw c.run-run.ensures.value at c.in_ok-find_misnested.ensures) in
+    c.in_ok-exclude-2.ensures.free rs
+    (c.first-4.ensures.found
+    rs RegionNesting (rw c.run-run.ensures.value at c.in_ok-find_misnested.ensures)) in
     let fault =
     fault_shown rs (DepsPlace ∷ []) c.in_err-edges.field-0.0 refl
     (rw c.run-run.ensures.value at c.in_err-edges.ensures.fault) in
@@ -66,9 +70,12 @@ returns-in_err-exclude_wrong_claims-clause-fault c =
     let rs = c.args.runs.now.run.records in
     let own = c.args.runs.now.own in
     let flat : IsFreeOf rs NestedParallel =
-    c.in_ok-exclude.ensures.free rs (rw c.run-run.ensures.value at c.in_ok-find_nested.ensures) in
+    c.in_ok-exclude.ensures.free rs
+    (c.first-2.ensures.found rs NestedParallel (rw c.run-run.ensures.value at c.in_ok-find_nested.ensures)) in
     let inside : IsFreeOf rs RegionNesting =
-    c.in_ok-exclude-2.ensures.free rs (rw c.run-run.ensures.value at c.in_ok-find_misnested.ensures) in
+    c.in_ok-exclude-2.ensures.free rs
+    (c.first-4.ensures.found
+    rs RegionNesting (rw c.run-run.ensures.value at c.in_ok-find_misnested.ensures)) in
     let placed : IsFreeOf rs DepsPlace = rw c.run-run.ensures.value at c.in_ok-edges.ensures.placed in
     let is_own : IsOwn own = rw c.own-own.ensures.value at c.run-records.ensures.is_own in
     let found : IsOwnFault own ShareWrong c.in_err-exclude_wrong_claims.field-0.0 =
@@ -95,7 +102,11 @@ returns-clause-edges c =
       of_run = rw c.own-own.ensures.value at c.in_ok-edges.ensures.run;
       clear =
           edges_clear rs own c.own-own.ensures.is_own
-          (c.in_ok-exclude.ensures.free rs (rw c.run-run.ensures.value at c.in_ok-find_nested.ensures))
-          (c.in_ok-exclude-2.ensures.free rs (rw c.run-run.ensures.value at c.in_ok-find_misnested.ensures))
+          (c.in_ok-exclude.ensures.free rs
+          (c.first-2.ensures.found rs NestedParallel
+          (rw c.run-run.ensures.value at c.in_ok-find_nested.ensures)))
+          (c.in_ok-exclude-2.ensures.free rs
+          (c.first-4.ensures.found rs RegionNesting
+          (rw c.run-run.ensures.value at c.in_ok-find_misnested.ensures)))
           (rw c.run-run.ensures.value at c.in_ok-edges.ensures.placed) claims;
     }

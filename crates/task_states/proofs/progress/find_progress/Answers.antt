@@ -1,4 +1,4 @@
-use Rattle.std.proofs.Common.{◌∙◌, ◌++◌, ℕ, length, [], refl, sym, ap, subst}
+use Rattle.std.proofs.Common.{◌≡◌, ◌∙◌, ◌++◌, ℕ, length, [], refl, sym, ap, subst}
 use Rattle.std.proofs.lemmas.List.{append-nil}
 use Rattle.ompt_events.specs.Turns.{turns_in}
 use Rattle.ompt_events.specs.States.{all_moves_of}
@@ -21,7 +21,7 @@ pub read_early-requires : goal.read_early-requires
 read_early-requires c =
     let run = c.in_ok-origins.origins in
     come_same run.records run.family.tasks (λ _. []) _ c.in_ok-progress.progress (early_start run.records)
-    c.in_ok-progress.ensures
+    c.in_ok-progress.ensures.come
 
 pub read_home-requires : goal.read_home-requires
 read_home-requires c =
@@ -32,7 +32,7 @@ read_home-requires c =
       | then-any_early w ↦
           rw w.progress-is
           (come_same rs tasks (moves_before Early rs (length rs)) (moves_before Home rs 0)
-          w.read_early.new.self (home_start rs) w.read_early.ensures)
+          w.read_early.new.self (home_start rs) w.read_early.ensures.come)
       | else-any_early w ↦
           let P : RunView → Type 0 = λ r. IsNeverEarly r.records (length r.records) in
           let never : IsNeverEarly rs (length rs) =
@@ -40,7 +40,7 @@ read_home-requires c =
           let none = λ (task : ℕ). home_start rs task ∙ early_none rs (length rs) never task in
           rw w.progress-is
           (come_same rs tasks (λ _. []) (moves_before Home rs 0) c.in_ok-progress.progress none
-          c.in_ok-progress.ensures)
+          c.in_ok-progress.ensures.come)
     ]
 
 pub read_rest-requires-clause-come : goal.read_rest-requires-clause-come
@@ -48,7 +48,7 @@ read_rest-requires-clause-come c =
     let run = c.in_ok-origins.origins in
     let rs = run.records in
     elim c.if-any_moved.branch [
-      | then-any_moved+in_ok-read_turns w ↦ rw w.progress-is w.in_ok-read_turns.ensures
+      | then-any_moved+in_ok-read_turns w ↦ rw w.progress-is w.in_ok-read_turns.ensures.come
       | else-any_moved w ↦
           let never =
           λ (task : ℕ).
@@ -70,7 +70,7 @@ returns-clause-come c =
     λ r. HasCome r.records r.family.tasks (all_moves_of r.records) c.read_rest.new.self in
     subst P c.in_ok-origins.ensures
     (come_same run.records run.family.tasks (moves_before Rest run.records (length run.records)) _
-    c.read_rest.new.self (λ task. rest_end run.records task is.trace) c.read_rest.ensures)
+    c.read_rest.new.self (λ task. rest_end run.records task is.trace) c.read_rest.ensures.come)
 
 pub returns-clause-refused : goal.returns-clause-refused
 returns-clause-refused c =
@@ -81,5 +81,18 @@ returns-clause-refused c =
     subst P c.in_ok-origins.ensures
     (refused_first run.records run.family progress progress.refused is.family
     (come_same run.records run.family.tasks (moves_before Rest run.records (length run.records)) _
-    progress (λ task. rest_end run.records task is.trace) c.read_rest.ensures)
+    progress (λ task. rest_end run.records task is.trace) c.read_rest.ensures.come)
     refl)
+
+pub returns-clause-marks : goal.returns-clause-marks
+returns-clause-marks c =
+    let before : length c.if-any_early.progress.marks ≡ c.args.marked = elim c.if-any_early.branch [
+      | then-any_early w ↦ rw w.progress-is (w.read_early.ensures.marks ∙ c.in_ok-progress.ensures.marks)
+      | else-any_early w ↦ rw w.progress-is c.in_ok-progress.ensures.marks
+    ] in
+    let after : length c.if-any_moved.progress.marks ≡ c.args.marked = elim c.if-any_moved.branch [
+      | then-any_moved+in_ok-read_turns w ↦
+          rw w.progress-is (w.in_ok-read_turns.ensures.marks ∙ c.in_ok-left.ensures.marks ∙ before)
+      | else-any_moved w ↦ rw w.progress-is (c.in_ok-left.ensures.marks ∙ before)
+    ] in
+    c.read_rest.ensures.marks ∙ after

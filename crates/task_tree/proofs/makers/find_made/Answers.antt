@@ -14,7 +14,7 @@ returns-in-Err-clause-found c =
     let tasks = c.in_ok-tasks.field-0.tasks in
     let regions = c.in_ok-tasks.field-0.regions in
     let again = rw c.in-Err.is at c.in_ok-tasks-2.ensures.again in
-    rw (c.made_again.ensures, c.err-region.ensures.value)
+    rw (c.first_again.ensures, c.err-region.ensures.value)
     (malformed_alone rs CreatedTwice (least_of c.in-Err.task (result_err c.in_ok-number-in-Err.field-0))
     (task_again rs tasks.ids.items tasks.places.items regions.ids.items regions.places.items c.in-Err.task
     c.in_ok-number-in-Err.field-0 c.in_ok-tasks.ensures.tasks c.in_ok-tasks.ensures.regions again
@@ -62,7 +62,7 @@ returns-in-Err-2-clause-found c =
     let regions = c.in_ok-tasks.field-0.regions in
     let apart = rw c.in-Ok.is at c.in_ok-tasks-2.ensures.apart in
     let again = rw c.in-Err-2.is at c.in_ok-regions.ensures.again in
-    rw c.made_again-in-Err-2.ensures
+    rw c.first_again-in-Err-2.ensures
     (malformed_alone rs CreatedTwice c.in-Err-2.region
     (region_again rs tasks.ids.items tasks.places.items regions.ids.items regions.places.items
     c.in-Err-2.region c.in_ok-tasks.ensures.tasks c.in_ok-tasks.ensures.regions apart again))

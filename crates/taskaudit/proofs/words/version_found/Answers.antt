@@ -1,13 +1,12 @@
 use Rattle.std.specs.Str.Parse.{ParsesUnsigned, ExplainsUnsignedError, HasUnsignedDigitsIfOk}
 use Rattle.std.proofs.Common.{arith, codes}
 use Rattle.clap.specs.Words.{found_of}
-use Rattle.taskaudit.specs.declared.work.Job.TheVariants.{Upgrade}
 use Rattle.taskaudit.proofs.CommandLemmas.{number_found}
 use Rattle.taskaudit.proofs.words.version_found.Goals as goal
 
 pub returns : goal.returns
 returns c =
-    number_found (codes "to") 2 3 Upgrade (omega arith) _
+    number_found (codes "to") 2 3 (omega arith) _
     (λ bs r. ParsesUnsigned 32 10 bs r × ExplainsUnsignedError 10 bs r × HasUnsignedDigitsIfOk bs r)
     (λ u x g. g.0)
     (found_of c.args.found.now) c.get_one.result c.requires c.get_one.ensures.none c.get_one.ensures.value

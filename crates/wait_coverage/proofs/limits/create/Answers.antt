@@ -146,10 +146,22 @@ returns c =
     let P : List ℕ → Type 0 = λ l. get_or l child 0 ≤ m in
     (c.own.ensures.is_done.families.each child made.task (get_or done.families child 0) m made.task_indexed
     (slice_get-get_or done.families child 0 (omega (arith, inside, families)))).0
-    (subst P c.families.ensures.value (c.of-limit.ensures m small low)) t of)
+    (subst P c.families.ensures.value (c.of-limit.ensures.enough m small low)) t of)
     (λ m small low.
     let P : List ℕ → Type 0 = λ l. get_or l child 0 ≤ m in
     early_at done child made.task (get_or done.own child 0) m apart made.task_indexed
     (slice_get-get_or done.own child 0 (omega (arith, inside, owns)))
-    (subst P c.own.ensures.value (c.of-own.ensures m small low)))
+    (subst P c.own.ensures.value (c.of-own.ensures.enough m small low)))
+    (λ m small early.
+    let P : List ℕ → Type 0 = λ l. get_or l child 0 ≤ m in
+    c.of-limit.ensures.least m small
+    (subst P (sym c.families.ensures.value)
+    ((c.own.ensures.is_done.families.each child made.task (get_or done.families child 0) m made.task_indexed
+    (slice_get-get_or done.families child 0 (omega (arith, inside, families)))).1 early)))
+    (λ m small early.
+    let P : List ℕ → Type 0 = λ l. get_or l child 0 ≤ m in
+    c.of-own.ensures.least m small
+    (subst P (sym c.own.ensures.value)
+    (early child (get_or done.own child 0) made.task_indexed
+    (slice_get-get_or done.own child 0 (omega (arith, inside, owns))))))
     (ap (λ x. set c.args.progress.now.heads.items own x) c.some.ensures) latest latest_families

@@ -1,4 +1,6 @@
-use Rattle.std.proofs.Common.{sym, rules}
+use Rattle.std.proofs.Common.{ℕ, ◌≡◌, ◌∙◌, length, ap, subst, sym, arith, rules}
+use Rattle.task_tree.specs.Runs.{RunView}
+use Rattle.wait_coverage.specs.Meetings.{AreMet}
 use Rattle.ompt_events.proofs.ListLemmas.{get_last}
 use Rattle.wait_coverage.proofs.LimitLemmas.{progress_start}
 use Rattle.wait_coverage.proofs.limits.find_limits.Goals as goal
@@ -20,3 +22,19 @@ meet-requires-clause-limit c =
     (noted.marks c.loop-at.at c.node_at-node.result
     (get_last c.as_slice.result.now c.node_at-node.result c.loop-at.at
     (sym (rw c.as_slice.ensures.value count)))).meets
+
+pub meet-requires-clause-least : goal.meet-requires-clause-least
+meet-requires-clause-least c =
+    let noted = c.node_at-node.ensures in
+    let count = c.loop-at.invariant.noted.count in
+    (noted.marks c.loop-at.at c.node_at-node.result
+    (get_last c.as_slice.result.now c.node_at-node.result c.loop-at.at
+    (sym (rw c.as_slice.ensures.value count)))).least_met
+
+pub returns-clause-met : goal.returns-clause-met
+returns-clause-met c =
+    let many = c.len-at-end.ensures.value ∙ ap (λ (r : RunView). length r.records) c.run-run.ensures.value in
+    let at_end : c.loop-at.at ≡ length c.args.done.now.teams.run.records =
+    omega (arith, many, c.loop-at.auto.at-end, c.loop-at-test.false) in
+    let P : ℕ → Type 0 = λ n. AreMet c.args.done.now n c.loop-at.meetings.items in
+    subst P at_end c.loop-at.invariant.met

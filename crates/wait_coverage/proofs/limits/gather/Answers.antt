@@ -2,12 +2,15 @@ use Rattle.std.proofs.Common.{◌≡◌, ◌∙◌, ◌<◌, length, get_or, Som
 use Rattle.std.proofs.lemmas.Option.{same_Some, slice_get-get_or}
 use Rattle.std.specs.Prelude.{max, slice_get}
 use Rattle.wait_coverage.specs.declared.limits.Node.{Node}
-use Rattle.wait_coverage.proofs.ChainLemmas.{gathered_start, gathered_more, smaller_next, gathers}
+use Rattle.wait_coverage.proofs.ChainLemmas.{gathered_start, gathered_more, least_start, least_more}
+use Rattle.wait_coverage.proofs.ChainLemmas.{smaller_next}
+use Rattle.wait_coverage.proofs.ChainLemmas.{gathers}
 use Rattle.wait_coverage.proofs.limits.gather.Goals as goal
 
 pub nodes-init : goal.nodes-init
 nodes-init c = record {
   gathered = rw c.zero-limit.ensures (gathered_start c.args.nodes.now c.args.head c.args.begin);
+  least = rw c.zero-limit.ensures (least_start c.args.nodes.now c.args.head c.args.begin);
   known = c.requires.known;
 }
 
@@ -58,15 +61,19 @@ nodes-preserved c =
     let node : Node = get_or nodes number c.index-nodes-number-in-Some.result in
     let there : slice_get nodes number ≡ Some node =
     slice_get-get_or nodes number c.index-nodes-number-in-Some.result inside in
+    let read =
+    same_Some (get_or nodes number c.index-nodes-number.result) node
+    (sym (slice_get-get_or nodes number c.index-nodes-number.result inside) ∙ there) in
+    let limit = c.max-limit.ensures ∙ ap (λ (n : Node). max c.nodes.limit n.limit) read in
     record {
       gathered =
-          let read =
-          same_Some (get_or nodes number c.index-nodes-number.result) node
-          (sym (slice_get-get_or nodes number c.index-nodes-number.result inside) ∙ there) in
-          let limit = c.max-limit.ensures ∙ ap (λ (n : Node). max c.nodes.limit n.limit) read in
           rw limit
           (gathered_more nodes c.args.head c.nodes.rest c.args.begin c.nodes.limit number node
           c.nodes.invariant.gathered known.0 known.1 there);
+      least =
+          rw limit
+          (least_more nodes c.args.head c.nodes.rest c.args.begin c.nodes.limit number node
+          c.nodes.invariant.least known.0 known.1 there);
       known =
           λ next is. let less = c.requires.falling number next node there is in omega (arith, less, inside);
     }
@@ -74,5 +81,5 @@ nodes-preserved c =
 pub returns : goal.returns
 returns c =
     gathers c.args.nodes.now c.args.head c.nodes.rest c.args.begin c.nodes.limit c.requires.falling
-    c.nodes.invariant.gathered c.nodes.invariant.known
+    c.nodes.invariant.gathered c.nodes.invariant.least c.nodes.invariant.known
     (λ number is less. c.in_default.not-Some number ((c.later.ensures number).1 (is, less)))

@@ -44,6 +44,7 @@ returns-else-eq c = λ other.
     c.index.ensures in
     begun_mark c.args.done.now c.args.at event.task c.index.result.now c.args.event.endpoint says apart
     (latest.each own event.task c.index.result.now event.indexed stands)
+    (latest.least own event.task c.index.result.now event.indexed stands)
 
 pub returns-in-Taskgroup : goal.returns-in-Taskgroup
 returns-in-Taskgroup c = λ other.
@@ -52,7 +53,7 @@ returns-in-Taskgroup c = λ other.
     taskgroup_says c.args.done.now.teams.run c.args.at c.args.event.task c.args.event.kind
     c.args.event.endpoint event c.in-Taskgroup.is in
     group_mark c.args.done.now c.args.at event.task c.zero.result c.args.event.endpoint says
-    (other c.in-Taskgroup.is)
+    (other c.in-Taskgroup.is) c.zero.ensures
 
 pub returns-in-Barrier : goal.returns-in-Barrier
 returns-in-Barrier c = λ other.
@@ -67,3 +68,4 @@ returns-in-Barrier c = λ other.
     barrier_mark c.args.done.now c.args.at event.task c.index-in-Barrier.result.now event.sync
     c.args.event.endpoint event.says (barrier_kind event.sync (event.waits ∙ ap Some c.in-Barrier.is))
     (families.each own event.task c.index-in-Barrier.result.now event.indexed stands)
+    (families.least own event.task c.index-in-Barrier.result.now event.indexed stands)

@@ -4,7 +4,8 @@ use Rattle.ompt_events.specs.Places.{at}
 use Rattle.ompt_events.specs.Records.{creation}
 use Rattle.task_tree.specs.Runs.{RunView, IsNoWaitEvent}
 use Rattle.wait_coverage.specs.Limits.{IsMark}
-use Rattle.wait_coverage.proofs.LimitLemmas.{noted_alone, quiet_mark}
+use Rattle.wait_coverage.proofs.LimitLemmas.{quiet_mark}
+use Rattle.wait_coverage.proofs.LatestLemmas.{noted_alone}
 use Rattle.wait_coverage.proofs.limits.node_at.Goals as goal
 
 pub returns-in_default-wait_event : goal.returns-in_default-wait_event

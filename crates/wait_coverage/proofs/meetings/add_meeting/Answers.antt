@@ -4,7 +4,7 @@ use Rattle.wait_coverage.proofs.meetings.add_meeting.Goals as goal
 pub returns-in-Some : goal.returns-in-Some
 returns-in-Some c =
     added_more c.args.done.now c.args.at c.args.nodes.now.items _ c.requires.nodes c.requires.within
-    c.end_limit.ensures
+    c.end_limit.ensures.limit c.end_limit.ensures.least
 
 pub returns-in_default : goal.returns-in_default
 returns-in_default c =

@@ -73,4 +73,4 @@ returns c =
     met_more done i c.in-Some.index task team c.number.result c.args.limit c.args.meetings.now.items
     reached c.index_mut.result.now _
     teams.run.family.makers.apart c.requires.met c.in_ok-reach.ensures.same known.2 in_team row begins
-    families raised) c.raise.result c.raise.ensures
+    families (c.requires.least task known.1) raised) c.raise.result c.raise.ensures

@@ -15,8 +15,8 @@ returns-then-is_reached c = λ exact.
     c.seen.ensures
     ∙ ap (λ (r : RunView). seen_at r.records c.args.number)
     (c.run.ensures.value ∙ ap (λ (d : DoneView). d.teams.run) c.done-done.ensures.value) in
-    limit_complete done c.args.number c.limit.result c.seen.result exact c.limit.ensures (sym names)
-    (omega (arith, c.seen.type_inv)) (c.is_reached.ensures c.if-is_reached.true)
+    limit_complete done c.args.number c.limit.result c.seen.result exact c.limit.ensures.limit (sym names)
+    (omega (arith, c.seen.type_inv)) (c.is_reached.ensures.reached c.if-is_reached.true)
 
 pub returns : goal.returns
 returns c =

@@ -24,7 +24,8 @@ returns-then-reads-clause-come c = λ task stands moves come.
     let is_read_there = sym (c.reads.ensures ∙ early ∙ home ∙ turned ∙ told) ∙ c.if-reads.true in
     come_read c.args.pass run.records run.family.tasks moved.index task moved.at c.nature.result moved.step
     moves c.args.self.now c.go_on.new.self c.run.ensures.is_run.family.makers.apart stands
-    (c.nature.ensures task stands) is_read_there c.go_on.ensures.states c.go_on.ensures.refused come
+    (c.nature.ensures task stands) is_read_there c.go_on.ensures.states c.go_on.ensures.refused
+    c.go_on.ensures.marks come
 
 pub returns-clause-come : goal.returns-clause-come
 returns-clause-come c = λ task stands moves come.

@@ -7,7 +7,7 @@ use Rattle.task_states.proofs.progress.Progress.read_early.Goals as goal
 use Rattle.task_states.proofs.progress.Progress.read_early.Goals.{then-fulfils_early, else-fulfils_early}
 
 pub read-requires-clause-all : goal.read-requires-clause-all
-read-requires-clause-all c = c.loop-at.invariant.all
+read-requires-clause-all c = c.loop-at.invariant.come.all
 
 pub loop-at-preserved : goal.loop-at-preserved
 loop-at-preserved c =
@@ -17,19 +17,25 @@ loop-at-preserved c =
     let before = moves_before Early rs i in
     elim c.if-fulfils_early.branch [
       | then-fulfils_early w ↦
-          rw w.self-is
-          (come_same rs tasks (and_record Early rs i before) (moves_before Early rs (i + 1))
-          w.read.new.self (moves_more Early rs i) (w.read.ensures.come before c.loop-at.invariant))
+          rw w.self-is (record {
+            come =
+                come_same rs tasks (and_record Early rs i before) (moves_before Early rs (i + 1))
+                w.read.new.self (moves_more Early rs i) (w.read.ensures.come before c.loop-at.invariant.come);
+            marks = w.read.ensures.marks ∙ c.loop-at.invariant.marks;
+          })
       | else-fulfils_early w ↦
           let late = sym (rw c.run-run.ensures.value at c.fulfils_early.ensures) ∙ w.if-fulfils_early.false in
-          rw w.self-is
-          (come_same rs tasks before (moves_before Early rs (i + 1)) c.loop-at.self
-          (λ task. moves_more Early rs i task ∙ early_unread rs i before late task)
-          c.loop-at.invariant)
+          rw w.self-is (record {
+            come =
+                come_same rs tasks before (moves_before Early rs (i + 1)) c.loop-at.self
+                (λ task. moves_more Early rs i task ∙ early_unread rs i before late task)
+                c.loop-at.invariant.come;
+            marks = c.loop-at.invariant.marks;
+          })
     ]
 
-pub returns : goal.returns
-returns c =
+pub returns-clause-come : goal.returns-clause-come
+returns-clause-come c =
     let rs = c.args.origins.now.records in
     let all : c.loop-at.at ≡ length rs =
     omega (
@@ -39,4 +45,4 @@ returns c =
       rw c.run-run.ensures.value at c.len-at-end.ensures.value,
     ) in
     subst (λ n. HasCome rs c.args.origins.now.family.tasks (moves_before Early rs n) c.loop-at.self) all
-    c.loop-at.invariant
+    c.loop-at.invariant.come

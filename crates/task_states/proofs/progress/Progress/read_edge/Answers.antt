@@ -17,4 +17,5 @@ returns-clause-come c = λ turn here moves come.
     (went_on run.records run.family.tasks index is.task i (the_nature c.nature.result)
     (the_move c.in-Some.step) moves c.args.self.now c.go_on.new.self
     (λ k at_k. c.run.ensures.is_run.family.makers.apart k index is.task at_k is.indexed) is.indexed
-    (c.nature.ensures is.task is.indexed) c.go_on.ensures.states c.go_on.ensures.refused come)
+    (c.nature.ensures is.task is.indexed) c.go_on.ensures.states c.go_on.ensures.refused
+    c.go_on.ensures.marks come)

@@ -28,6 +28,7 @@ loop-at-preserved c = record {
       (c.read_edge.ensures.come turn (edges k 0 low)
       (λ task. moves task ++ flat_map (edge_moves edge rs task turn) (take k ps))
       (c.loop-at.invariant.come turn edges moves come));
+  marks = c.read_edge.ensures.marks ∙ c.loop-at.invariant.marks;
 }
 
 pub returns-clause-come : goal.returns-clause-come

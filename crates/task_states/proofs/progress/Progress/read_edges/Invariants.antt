@@ -17,4 +17,5 @@ invariant-loop-at l = record {
       moves task
       ++ flat_map (edge_moves l.edge l.origins.records task turn) (take l.at-index l.places))
       l.self;
+  marks : length l.self.marks ≡ length l.initial.self.marks;
 }

@@ -1,4 +1,4 @@
-use Rattle.std.proofs.Common.{◌≡◌, ◌+◌, length, subst, sym, arith}
+use Rattle.std.proofs.Common.{◌≡◌, ◌∙◌, ◌+◌, length, subst, sym, arith}
 use Rattle.task_states.specs.declared.progress.Pass.TheVariants.{Home}
 use Rattle.task_states.specs.Progress.{HasCome, AreLeft, moves_before, and_record}
 use Rattle.task_states.proofs.ProgressLemmas.{come_same}
@@ -29,6 +29,7 @@ loop-at-preserved c =
             (left_passed rs i c.loop-at.left.items c.loop-at.invariant.left
             (c.read-whole.ensures.whole w.if-not-whole.false))
       ];
+      marks = c.read-whole.ensures.marks ∙ c.loop-at.invariant.marks;
     }
 
 pub returns-clause-come : goal.returns-clause-come

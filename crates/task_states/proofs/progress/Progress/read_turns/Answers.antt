@@ -1,4 +1,4 @@
-use Rattle.std.proofs.Common.{◌≡◌, ◌∙◌, ◌<◌, ◌+◌, ◌++◌, length, true, ap, subst, sym, arith}
+use Rattle.std.proofs.Common.{◌≡◌, ◌∙◌, ◌<◌, ◌+◌, ◌++◌, length, true, ap, refl, subst, sym, arith}
 use Rattle.std.proofs.lemmas.List.{append-nil}
 use Rattle.std.specs.Prelude.{All, filter}
 use Rattle.std.specs.List.{flat_map}
@@ -17,11 +17,15 @@ use Rattle.task_states.proofs.progress.Progress.read_turns.Goals as goal
 pub loop-turn-init : goal.loop-turn-init
 loop-turn-init c =
     let rs = c.args.origins.now.records in
-    come_same rs c.args.origins.now.family.tasks (moves_before Home rs (length rs)) _ c.args.self.now
-    (λ task.
-    ap (λ l. moves_before Home rs (length rs) task ++ l) (turned_none rs task)
-    ∙ append-nil (moves_before Home rs (length rs) task))
-    c.requires
+    record {
+      come =
+          come_same rs c.args.origins.now.family.tasks (moves_before Home rs (length rs)) _ c.args.self.now
+          (λ task.
+          ap (λ l. moves_before Home rs (length rs) task ++ l) (turned_none rs task)
+          ∙ append-nil (moves_before Home rs (length rs) task))
+          c.requires;
+      marks = refl;
+    }
 
 pub read_edges-requires-clause-within : goal.read_edges-requires-clause-within
 read_edges-requires-clause-within c =
@@ -63,20 +67,25 @@ loop-turn-preserved c =
     (row_edges Ends rs turn (places rs)) in
     let begun =
     c.read_edges.ensures.come turn begins_all (λ task. before task ++ turned rs turn task)
-    c.loop-turn.invariant in
+    c.loop-turn.invariant.come in
     let ended =
     c.read_edges-in-loop-turn.ensures.come turn ends_all
     (λ task. before task ++ turned rs turn task ++ flat_map (edge_moves Begins rs task turn) begins)
     begun in
-    come_same rs c.args.origins.now.family.tasks
-    (λ task.
-    (before task ++ turned rs turn task ++ flat_map (edge_moves Begins rs task turn) begins)
-    ++ flat_map (edge_moves Ends rs task turn) ends)
-    (λ task. before task ++ turned rs (turn + 1) task) c.read_edges-in-loop-turn.new.self
-    (λ task. turned_more rs task turn (before task) begins ends first second) ended
+    record {
+      come =
+          come_same rs c.args.origins.now.family.tasks
+          (λ task.
+          (before task ++ turned rs turn task ++ flat_map (edge_moves Begins rs task turn) begins)
+          ++ flat_map (edge_moves Ends rs task turn) ends)
+          (λ task. before task ++ turned rs (turn + 1) task) c.read_edges-in-loop-turn.new.self
+          (λ task. turned_more rs task turn (before task) begins ends first second) ended;
+      marks =
+          c.read_edges-in-loop-turn.ensures.marks ∙ c.read_edges.ensures.marks ∙ c.loop-turn.invariant.marks;
+    }
 
-pub returns : goal.returns
-returns c =
+pub returns-clause-come : goal.returns-clause-come
+returns-clause-come c =
     let rs = c.args.origins.now.records in
     let last : c.loop-turn.turn ≡ turns_in rs =
     omega (arith, c.loop-turn-test.false, c.loop-turn.auto.turn-end)
@@ -86,4 +95,4 @@ returns c =
     (moves_before Rest rs 0) c.loop-turn.self
     (λ task.
     rest_start rs task ∙ ap (λ n. moves_before Home rs (length rs) task ++ turned rs n task) (sym last))
-    c.loop-turn.invariant
+    c.loop-turn.invariant.come
