@@ -1,22 +1,21 @@
 -- All records that name a lesser length than was known at a step before.
 use Rattle.std.proofs.Common.{◌≡◌, ◌∙◌, ℕ, ◌<◌, ◌≤◌, ◌+◌, Bool, true, false, List, length, get_or, set}
-use Rattle.std.proofs.Common.{replicate, Some, None, sym, ap, subst, arith, inl, inr, ltb}
+use Rattle.std.proofs.Common.{replicate, Some, sym, ap, subst, arith, inl, inr}
 use Rattle.std.proofs.Common.{get_or-set_same, get_or-set_other}
 use Rattle.std.proofs.Math.Nat.{max-eq_left, max-eq_right}
 use Rattle.std.specs.Prelude.{◌↔◌, IsTrue, max, slice_get}
-use Rattle.std.proofs.lemmas.Bool.{false≢true, cases_eq, cases_lt, ltb-true, lt-ltb}
-use Rattle.std.proofs.lemmas.Option.{none-some, same_Some, some_pair_parts, slice_get_within}
+use Rattle.std.proofs.lemmas.Bool.{false≢true, cases_eq, cases_lt}
+use Rattle.std.proofs.lemmas.Option.{same_Some, some_pair_parts, slice_get_within}
 use Rattle.std.proofs.lemmas.List.{length-set, length-replicate}
 use Rattle.ompt_events.specs.declared.records.Record.{Record}
 use Rattle.ompt_events.specs.declared.cause.Cause.TheVariants.{LengthBack}
-use Rattle.ompt_events.specs.Records.{begun_turn, started, discarded}
-use Rattle.ompt_events.specs.Places.{at, thread_at, seen_at}
-use Rattle.ompt_events.specs.HappensBefore.{IsProgramStep, thread_order, creation, resumption, discard}
+use Rattle.ompt_events.specs.Records.{begun_turn}
+use Rattle.ompt_events.specs.Places.{at, thread_at}
+use Rattle.ompt_events.specs.HappensBefore.{IsProgramStep, creation, resumption, discard}
 use Rattle.ompt_events.specs.HappensBefore.{fulfilment}
 use Rattle.ompt_events.specs.Causes.{IsBehind, known_after, length_back}
 use Rattle.ompt_events.specs.Shown.{AreAllBelow, AreAllWith}
 use Rattle.ompt_events.proofs.ShownLemmas.{all_with}
-use Rattle.ompt_events.proofs.TurnLemmas.{begun_started}
 use Rattle.index_tables.specs.Numbering.{AreApart}
 use Rattle.task_tree.proofs.ChainLemmas.{replicate_get}
 use Rattle.task_tree.proofs.LinkLemmas.{get_set_same, get_set_other}
@@ -25,7 +24,6 @@ use Rattle.checker.specs.Lengths.{AreStarted}
 use Rattle.checker.specs.Schedule.{Awaits, awaits_creation, awaits_end, EachAwaitsOne, first_started}
 use Rattle.checker.proofs.LengthLemmas.{behind, step_within, step_behind, known_raised}
 use Rattle.checker.proofs.ScheduleLemmas.{program_awaits, known_awaited, awaited_at, first_begun}
-use Rattle.checker.proofs.ScheduleLemmas.{first_begun_starts, started_keeps, silent}
 
 -- ---- what a thread knows
 

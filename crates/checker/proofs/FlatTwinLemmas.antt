@@ -12,7 +12,7 @@ use Rattle.ompt_events.specs.declared.cause.Cause.TheVariants.{NotCurrent, Neste
 use Rattle.ompt_events.specs.declared.cause.Cause.TheVariants.{TargetTask}
 use Rattle.ompt_events.specs.Records.{made, forked, joined, begun_initial, flags}
 use Rattle.ompt_events.specs.Places.{nests_at}
-use Rattle.ompt_events.specs.Threads.{Walk, at_start, after_body, after_record, walk_of}
+use Rattle.ompt_events.specs.Threads.{Walk, at_start, after_body, after_record}
 use Rattle.ompt_events.specs.Causes.{HasCause, IsNested, forked_inside, joined_inside, initial_inside}
 use Rattle.ompt_events.specs.Causes.{IsWalkAt, IsMisnested, other_region, other_league, nested_parallel}
 use Rattle.ompt_events.specs.Causes.{region_nesting, target_task}
@@ -20,7 +20,7 @@ use Rattle.task_tree.proofs.BlindLemmas.{blind_begun_initial, blind_joined}
 use Rattle.task_tree.proofs.RenamedPlaceLemmas.{reordered}
 use Rattle.task_tree.proofs.RenamedTreeLemmas.{moved_initial, moved_member}
 use Rattle.checker.proofs.BlindBodyLemmas.{blind_made, blind_forked, blind_flags, blind_walk}
-use Rattle.checker.proofs.TwinLemmas.{AreTwins, blank, twins_back, twins_take, twins_filter, twin_fold}
+use Rattle.checker.proofs.TwinLemmas.{AreTwins, twins_back, twins_take, twins_filter, twin_fold}
 use Rattle.checker.proofs.TwinLemmas.{twin_of, twin_says, twin_renaming}
 use Rattle.checker.proofs.TwinCauseLemmas.{HaveSameWalks, walk_before, twin_not_current}
 

@@ -1,9 +1,8 @@
 -- Two lists of records that are the same but for what their versions say of nesting: they have the same
 -- turns, the same own order of each task, the same moves and the same steps.
-use Rattle.std.proofs.Common.{◌≡◌, ◌≢◌, ◌∙◌, ℕ, suc, ◌<◌, ◌+◌, List, [], ◌∷◌, ◌++◌, length, Option, Some}
-use Rattle.std.proofs.Common.{None, Bool, true, false, max, refl, sym, ap, map, cond}
+use Rattle.std.proofs.Common.{◌≡◌, ◌∙◌, ℕ, suc, ◌+◌, List, [], ◌∷◌, ◌++◌, Option, Some}
+use Rattle.std.proofs.Common.{None, Bool, false, max, refl, sym, ap, map, cond}
 use Rattle.std.specs.Prelude.{◌==◌, ◌&&◌, not, is_some, slice_get, option_map, option_and_then, take, filter}
-use Rattle.std.specs.Prelude.{fold}
 use Rattle.std.specs.List.{filter_map, cons_option, flat_map, range_with_len, position_or_len, find}
 use Rattle.std.specs.Option.{option_map_or}
 use Rattle.ompt_events.specs.declared.records.Record.{Record}
@@ -16,7 +15,7 @@ use Rattle.ompt_events.specs.Turns.{own_place, is_turn}
 use Rattle.ompt_events.specs.States.{Move, Started, stops, is_task, is_on, home_of, has_moved, moves_at}
 use Rattle.ompt_events.specs.States.{moves_by_file, turn_starts_at, turn_ends_at, turn_moves, moved_moves}
 use Rattle.ompt_events.specs.States.{moves_of, all_moves_of, is_early_move, is_apart}
-use Rattle.ompt_events.specs.HappensBefore.{IsStart, IsResumption, resumption}
+use Rattle.ompt_events.specs.HappensBefore.{resumption}
 use Rattle.ompt_events.specs.Upgrades.{nesting}
 use Rattle.task_tree.proofs.BlindLemmas.{IsBlind}
 use Rattle.checker.proofs.MappedLemmas.{AreSameBy, get_by, take_by, filter_by, fold_by}

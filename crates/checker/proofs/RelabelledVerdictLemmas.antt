@@ -1,7 +1,7 @@
 -- A trace of version 2 without a cause has in version 3 the same verdict and the same counter orders, unless
 -- a root begins there inside another one whose task has not begun its region.
-use Rattle.std.proofs.Common.{◌≡◌, ◌∙◌, ℕ, List, Option, Some, true, false, Bool, map, refl, sym, ap, subst}
-use Rattle.std.proofs.Common.{None, ◌+◌, ◌<◌}
+use Rattle.std.proofs.Common.{◌≡◌, ◌∙◌, ℕ, List, Option, Some, true, false, map, sym, ap, subst}
+use Rattle.std.proofs.Common.{None, ◌+◌}
 use Rattle.std.proofs.lemmas.Bool.{false≢true}
 use Rattle.std.proofs.lemmas.Option.{none-some, slice_get-map}
 use Rattle.std.specs.Prelude.{◌↔◌, option_and_then, option_map, slice_get}
@@ -42,7 +42,7 @@ use Rattle.checker.proofs.TwinStepLemmas.{kept_complete_at, kept_complete_in}
 use Rattle.checker.proofs.RelabelledLemmas.{AreRelabelled, relabelled_back, relabelled_twins, same_at}
 use Rattle.checker.proofs.RelabelledLemmas.{says_same, same_turn, same_own_place, same_own_order, same_moves}
 use Rattle.checker.proofs.RelabelledLemmas.{relabelled_steps, nesting_relabelled}
-use Rattle.checker.proofs.RelabelledWalkLemmas.{MayNest, nesting_walks}
+use Rattle.checker.proofs.RelabelledWalkLemmas.{nesting_walks}
 use Rattle.checker.proofs.ReadingLemmas.{AreAlike, StartsExplicit, alike_verdicts, alike_counters}
 
 -- ---- what is known of both traces

@@ -1,11 +1,11 @@
 -- What a thread runs is the same in version 2 and in version 3, where in neither a region or a root begins
 -- where it may not: the task that ran when a root began is the root below it.
-use Rattle.std.proofs.Common.{◌≡◌, ◌≢◌, ◌∙◌, ℕ, suc, ◌<◌, ◌+◌, List, [], ◌∷◌, ◌++◌, length, Option, Some}
+use Rattle.std.proofs.Common.{◌≡◌, ◌≢◌, ◌∙◌, ℕ, ◌+◌, List, [], ◌∷◌, ◌++◌, Option, Some}
 use Rattle.std.proofs.Common.{None, Bool, true, false, get_or, drop, refl, sym, ap, map, subst, arith, inl}
 use Rattle.std.proofs.Common.{inr, ◌⊎◌}
-use Rattle.std.proofs.lemmas.Option.{none-some, same_Some, slice_get-map, slice_get_cases}
+use Rattle.std.proofs.lemmas.Option.{none-some, slice_get-map, slice_get_cases}
 use Rattle.std.proofs.lemmas.List.Sums.{fold_push}
-use Rattle.std.specs.Prelude.{◌==◌, slice_get, option_map, option_and_then, take, filter, fold, if◌then◌else◌}
+use Rattle.std.specs.Prelude.{◌==◌, slice_get, option_map, take, filter, fold, if◌then◌else◌}
 use Rattle.std.specs.Option.{option_map_or}
 use Rattle.ompt_events.specs.declared.records.Record.{Record}
 use Rattle.ompt_events.specs.declared.records.Body.{Body}

@@ -1,7 +1,7 @@
 -- Two lists of records that say the same of all but turns show the same causes, but for those that are of
 -- turns, of walks, of states and of orders.
-use Rattle.std.proofs.Common.{◌≡◌, ◌∙◌, ℕ, List, Bool, cond, refl, sym, ap, subst, arith, ◌+◌}
-use Rattle.std.specs.Prelude.{take, filter, is_some, Contains, ◌==◌, count_by}
+use Rattle.std.proofs.Common.{◌≡◌, ◌∙◌, ℕ, List, cond, refl, sym, ap, subst, arith, ◌+◌}
+use Rattle.std.specs.Prelude.{take, is_some, Contains, ◌==◌, count_by}
 use Rattle.ompt_events.specs.declared.records.Record.{Record}
 use Rattle.ompt_events.specs.declared.records.Body.{Body}
 use Rattle.ompt_events.specs.declared.cause.Cause.{Cause}
@@ -11,33 +11,32 @@ use Rattle.ompt_events.specs.declared.cause.Cause.TheVariants.{TeamShort, Nested
 use Rattle.ompt_events.specs.declared.cause.Cause.TheVariants.{DepsPlace, ShareWrong, EntryTwice}
 use Rattle.ompt_events.specs.declared.cause.Cause.TheVariants.{LengthAhead, LengthBack, NoOrder, TargetTask}
 use Rattle.ompt_events.specs.Records.{made, created, forked, region_named, running, ended_root, started}
-use Rattle.ompt_events.specs.Records.{wait_completed, named, begun_initial, joined, dependences}
-use Rattle.ompt_events.specs.Records.{created_with_deps, finish, flags}
+use Rattle.ompt_events.specs.Records.{wait_completed, named, dependences}
+use Rattle.ompt_events.specs.Records.{created_with_deps, finish}
 use Rattle.ompt_events.specs.Places.{at, seen_at}
 use Rattle.ompt_events.specs.Tree.{IsRooted}
-use Rattle.ompt_events.specs.Threads.{Walk, walk_of, after_record, at_start, Misfits, not_running}
+use Rattle.ompt_events.specs.Threads.{Walk, walk_of, Misfits, not_running}
 use Rattle.ompt_events.specs.Threads.{not_innermost, other_root, other_parent, MisfitsAt}
 use Rattle.ompt_events.specs.HappensBefore.{IsFinishing}
 use Rattle.ompt_events.specs.Causes.{HasCause, HasSeqGap, IsMadeAgain, IsForkedAgain, IsNamedAt, IsMade}
-use Rattle.ompt_events.specs.Causes.{IsForked, HasNoRoot, unmade, unrooted, no_region, IsNotCurrent, IsNested}
-use Rattle.ompt_events.specs.Causes.{forked_inside, joined_inside, initial_inside, IsWalkAt, IsNextInThread}
+use Rattle.ompt_events.specs.Causes.{IsForked, HasNoRoot, unmade, unrooted, no_region}
+use Rattle.ompt_events.specs.Causes.{IsNextInThread}
 use Rattle.ompt_events.specs.Causes.{AreFollowed, HasMisplacedDeps, stray, missing, RepeatsEntry, entries_in}
-use Rattle.ompt_events.specs.Causes.{IsAhead, entry, ledger_length, known_after, MakesTarget, seq_gap}
-use Rattle.ompt_events.specs.Causes.{created_twice, forked_twice, rootless, not_current, nested_parallel}
-use Rattle.ompt_events.specs.Causes.{deps_place, entry_twice, length_ahead, target_task, region_nesting}
-use Rattle.ompt_events.specs.Causes.{HasBegun, IsMisnested, other_region, other_league}
+use Rattle.ompt_events.specs.Causes.{IsAhead, entry, ledger_length, known_after, seq_gap}
+use Rattle.ompt_events.specs.Causes.{created_twice, forked_twice, rootless, not_current}
+use Rattle.ompt_events.specs.Causes.{deps_place, entry_twice, length_ahead}
 use Rattle.task_tree.specs.Renaming.{untold}
-use Rattle.task_tree.proofs.BlindLemmas.{blind_running, blind_begun_initial, blind_joined, blind_created}
+use Rattle.task_tree.proofs.BlindLemmas.{blind_running, blind_created}
 use Rattle.task_tree.proofs.BlindLemmas.{blind_dependences, blind_finish}
 use Rattle.task_tree.proofs.RenamedPlaceLemmas.{reordered}
-use Rattle.task_tree.proofs.RenamedTreeLemmas.{moved_rooted, moved_root, moved_initial, moved_member}
+use Rattle.task_tree.proofs.RenamedTreeLemmas.{moved_rooted, moved_root}
 use Rattle.task_tree.proofs.RenamedTreeLemmas.{moved_creation}
 use Rattle.task_tree.proofs.RenamingLemmas.{renamed_order, renamed_short, renamed_share}
 use Rattle.checker.proofs.BlindBodyLemmas.{blind_made, blind_forked, blind_region_named, blind_ended_root}
 use Rattle.checker.proofs.BlindBodyLemmas.{blind_started, blind_wait_completed, blind_created_with_deps}
-use Rattle.checker.proofs.BlindBodyLemmas.{blind_flags, blind_named, blind_walk}
-use Rattle.checker.proofs.TwinLemmas.{AreTwins, blank, twins_back, twins_long, twins_take, twins_filter}
-use Rattle.checker.proofs.TwinLemmas.{twin_fold, twin_count, twin_of, twin_at, twin_says, twin_thread}
+use Rattle.checker.proofs.BlindBodyLemmas.{blind_named}
+use Rattle.checker.proofs.TwinLemmas.{AreTwins, blank, twins_back, twins_long, twins_take}
+use Rattle.checker.proofs.TwinLemmas.{twin_count, twin_of, twin_at, twin_says, twin_thread}
 use Rattle.checker.proofs.TwinLemmas.{twin_seen, twin_body, same_said, twin_renaming}
 
 -- ---- the numbers of records

@@ -7,6 +7,7 @@ ghost use Rattle.checker.specs.Deciding.{IsFirstOrNone};
 
 use crate::clear::Clear;
 use crate::deciding::Deciding;
+use crate::executor::Inline;
 use crate::phases::ask;
 use crate::verdict::{CheckFault, Verdict, Why};
 use ompt_events::{Fault, Trace};
@@ -34,6 +35,7 @@ pub fn check_packed(alloc: Global, trace: &PackedTrace) -> Result<Verdict, Check
     ensures memory { IsOkUnless result CheckFault.Memory }
 {
     match ask(
+        &Inline,
         alloc,
         trace,
         &|clear: Clear| -> Result<Verdict, Fault>

@@ -9,6 +9,7 @@ ghost use Rattle.checker.specs.Counter.{IsEarliestOrder, IsCounterBy, IsShownBy}
 use crate::checking::violation_of;
 use crate::clear::Clear;
 use crate::earliest::earliest_order;
+use crate::executor::Inline;
 use crate::makers::Makers;
 use crate::ordered::Ordered;
 use crate::phases::ask;
@@ -51,6 +52,7 @@ fn counter_order_packed(
     ensures memory { IsOkUnless result CheckFault.Memory }
 {
     match ask(
+        &Inline,
         alloc,
         trace,
         &|clear: Clear| -> Result<Option<Order>, Fault>
@@ -90,6 +92,7 @@ pub fn check_packed_with_counter(
     ensures memory { IsOkUnless result CheckFault.Memory }
 {
     match ask(
+        &Inline,
         alloc,
         trace,
         &|clear: Clear| -> Result<(Verdict, Option<Order>), Fault>

@@ -7,6 +7,7 @@ ghost use Rattle.checker.specs.Findings.{AreViolations, IsFoundOf};
 
 use crate::all_shown::all_shown;
 use crate::clear::Clear;
+use crate::executor::Inline;
 use crate::phases::ask;
 use crate::verdict::{CheckFault, Verdict};
 use crate::violations::{Violations, violations_in};
@@ -60,6 +61,7 @@ fn violations_of(alloc: Global, trace: &PackedTrace, most: usize) -> Result<Viol
     ensures memory { IsOkUnless result CheckFault.Memory }
 {
     match ask(
+        &Inline,
         alloc,
         trace,
         &|clear: Clear| -> Result<Violations, Fault>

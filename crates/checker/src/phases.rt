@@ -12,6 +12,7 @@ ghost use Rattle.checker.specs.Search.{IsClear, IsLeastFound, AreStatesOf, AreEd
 
 use crate::claims::exclude_wrong_claims;
 use crate::clear::Clear;
+use crate::executor::Executor;
 use crate::in_order::is_in_order;
 use crate::lengths::find_back;
 use crate::makers::Makers;
@@ -23,16 +24,19 @@ use depend_edges::Edges;
 use ompt_events::{Cause, Fault, exclude};
 use packed_trace::PackedTrace;
 use std::alloc::Global;
-use task_states::{States, find_misnested, find_nested, gap_in, target};
+use task_states::{States, find_misnested, find_nested, target};
 use task_tree::Families;
 use teams::Teams;
 use wait_coverage::{Known, find_known};
 
 /// Returns what the function returns for a trace without a cause. Fails with the least cause that the trace
-/// shows, or when out of memory. Each phase requires that no cause before its own occurs. The phases are
-/// split over several functions, since an early return drops all that its function made, and a proof looks
-/// at each way to do so.
-pub(crate) fn ask<A: Drop, F: Fn(Clear) -> Result<A, Fault>>(
+/// shows, or when out of memory. Each phase requires that no cause before its own occurs. The executor runs
+/// three times two steps: the numbers of the threads' records are looked at and the families of tasks built;
+/// the states of tasks made and the edges between them; the records ordered and the least ledger lengths found
+/// at which tasks are finished. The phases are split over several functions, since an early return drops all
+/// that its function made, and a proof looks at each way to do so.
+pub(crate) fn ask<E: Executor, A: Drop, F: Fn(Clear) -> Result<A, Fault>>(
+    executor: &E,
     alloc: Global,
     trace: &PackedTrace,
     answer: &F,
@@ -43,12 +47,13 @@ pub(crate) fn ask<A: Drop, F: Fn(Clear) -> Result<A, Fault>>(
         × F.post answer.now clear (Ok a)) }
     ensures malformed { IfErr result (IsLeastFound trace.now.records) }
 {
-    let families = families_of(alloc, trace)?;
-    ask_run(alloc, trace, &families, answer)
+    let families = families_of(executor, alloc, trace)?;
+    ask_run(executor, alloc, trace, &families, answer)
 }
 
 /// Returns what `ask` does. The tree of tasks is known, and shows no cause.
-fn ask_run<A: Drop, F: Fn(Clear) -> Result<A, Fault>>(
+fn ask_run<E: Executor, A: Drop, F: Fn(Clear) -> Result<A, Fault>>(
+    executor: &E,
     alloc: Global,
     trace: &PackedTrace,
     families: &Families,
@@ -68,20 +73,22 @@ fn ask_run<A: Drop, F: Fn(Clear) -> Result<A, Fault>>(
         run: &run,
         own: &own,
     };
-    let states = states_of(alloc, &runs, families.gap())?;
+    let (states, edges) = executor.states_and_edges(alloc, &runs, families.gap());
+    let states = states?;
     let teams = Teams::in_own(alloc, states.regions())?;
-    let edges = edges_of(alloc, &runs)?;
+    let edges = edges?;
     let sound = Sound {
         trace,
         run: &run,
         teams: &teams,
         edges: &edges,
     };
-    ask_sound(alloc, &sound, answer)
+    ask_sound(executor, alloc, &sound, answer)
 }
 
 /// Returns what `ask` does. Only order, ledger and TargetTask may still show a cause.
-fn ask_sound<A: Drop, F: Fn(Clear) -> Result<A, Fault>>(
+fn ask_sound<E: Executor, A: Drop, F: Fn(Clear) -> Result<A, Fault>>(
+    executor: &E,
     alloc: Global,
     sound: &Sound,
     answer: &F,
@@ -93,8 +100,9 @@ fn ask_sound<A: Drop, F: Fn(Clear) -> Result<A, Fault>>(
     ensures malformed { IfErr result (IsLeastFound sound.now.run.records) }
 {
     let _run = sound.run();
-    let order = clear_order(alloc, sound)?;
-    let known = known_of(alloc, sound)?;
+    let (order, known) = executor.order_and_known(alloc, sound);
+    let order = order?;
+    let known = known?;
     answer(Clear {
         sound,
         order,
@@ -102,21 +110,24 @@ fn ask_sound<A: Drop, F: Fn(Clear) -> Result<A, Fault>>(
     })
 }
 
-// ---- the phases one by one, which a check on several threads has too
-
 /// Returns the families of the trace's tasks. Excludes SeqGap, CreatedTwice and Rootless.
-pub(crate) fn families_of(alloc: Global, trace: &PackedTrace) -> Result<Families, Fault>
+fn families_of<E: Executor>(
+    executor: &E,
+    alloc: Global,
+    trace: &PackedTrace,
+) -> Result<Families, Fault>
     ensures families { IfOk result (AreFamiliesOf trace.now.records) }
     ensures clear { OnOk result (IsClear trace.now.records (before NotCurrent)) }
     ensures least { IfErr result (IsLeastFound trace.now.records) }
 {
-    exclude(Cause::SeqGap, gap_in(trace))?;
-    families_without_gap(trace, Families::build(alloc, trace))
+    let (gap, built) = executor.gap_and_families(alloc, trace);
+    exclude(Cause::SeqGap, gap)?;
+    families_without_gap(trace, built)
 }
 
 /// Returns the families that were built of the trace's tasks, or why there are none. Requires that SeqGap does
 /// not occur. Excludes CreatedTwice and Rootless too.
-pub(crate) fn families_without_gap(
+fn families_without_gap(
     trace: &PackedTrace,
     built: Result<Families, Fault>,
 ) -> Result<Families, Fault>

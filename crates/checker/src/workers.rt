@@ -1,5 +1,5 @@
 //! The check on several threads: workers share out the records of a trace without a cause, a range of the
-//! file for each. The phases before are in `side_by_side`.
+//! file for each. The phases before are in `phases`.
 ghost use Rattle.std.specs.Prelude.{ℕ, ◌≡◌, ◌≢◌, ◌≤◌, ◌<◌, ◌↔◌, Err, Some, true, false, IfOk, IfErr, OnOk, length, slice_get};
 ghost use denote.Param.Send.{IsSync};
 ghost use Rattle.ompt_events.specs.declared.fault.Fault.TheVariants.{Memory};
@@ -11,8 +11,9 @@ ghost use Rattle.checker.specs.Deciding.{IsFirstOrNone, begin_of, IsFinding, IsO
 use crate::checking::verdict_of;
 use crate::clear::Clear;
 use crate::deciding::Deciding;
+use crate::executor::Workers;
 use crate::gate::Gate;
-use crate::side_by_side::ask_on;
+use crate::phases::ask;
 use crate::verdict::{CheckFault, Verdict, Why};
 use ompt_events::{Fault, Trace};
 use packed_trace::PackedTrace;
@@ -83,11 +84,14 @@ pub fn check_packed_on<R: Threads + Sync, G: Gate + Sync>(
     if !may_work(workers) {
         return Err(CheckFault::Workers);
     }
-    match ask_on(
-        rt,
+    let executor = Workers {
+        threads: rt,
+        count: workers,
+    };
+    match ask(
+        &executor,
         alloc,
         trace,
-        workers,
         &|clear: Clear| -> Result<Result<Verdict, u32>, Fault>
             requires { IsSync R.row × IsSync G.row × (1 ≤ workers) × (workers ≤ 256) }
             ensures verdict { IfOk result (λ answer. IfOk answer (IsVerdict clear.entry.run.records)) }

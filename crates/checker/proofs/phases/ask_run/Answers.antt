@@ -12,7 +12,7 @@ returns-in_err-states-clause-malformed g c =
     rw (p.1, p.2)
     (states_least c.args.trace.now.records c.run-run.result c.in_err-states.field-0.0
     c.run-run.ensures.records
-    c.requires.clear c.in_err-states.ensures.fault)
+    c.requires.clear (rw c.in_err-states.was at c.states_and_edges-states.ensures.states_fault))
 
 pub returns-in_err-teams-clause-malformed : goal.returns-in_err-teams-clause-malformed
 returns-in_err-teams-clause-malformed g c =
@@ -20,7 +20,7 @@ returns-in_err-teams-clause-malformed g c =
     rw (p.1, p.2)
     (teams_least c.args.trace.now.records c.run-run.result c.own-own.result c.in_ok-states.states
     c.in_err-teams.field-0.0 c.run-run.ensures.records c.own-own.ensures c.requires.clear
-    c.in_ok-states.ensures.states
+    (rw c.in_ok-states.was at c.states_and_edges-states.ensures.states)
     (rw c.regions.ensures.value at c.in_err-teams.ensures.fault))
 
 pub returns-in_err-edges-clause-malformed : goal.returns-in_err-edges-clause-malformed
@@ -30,18 +30,18 @@ returns-in_err-edges-clause-malformed g c =
     rw (p.1, p.2)
     (edges_least c.args.trace.now.records c.run-run.result c.own-own.result c.in_ok-states.states
     c.in_ok-teams.teams c.in_err-edges.field-0.0 c.run-run.ensures.records c.own-own.ensures c.requires.clear
-    c.in_ok-states.ensures.states
+    (rw c.in_ok-states.was at c.states_and_edges-states.ensures.states)
     (rw c.regions.ensures.value at teams.run) teams.teams
-    c.in_err-edges.ensures.fault)
+    (rw c.in_err-edges.was at c.states_and_edges-states.ensures.edges_fault))
 
 pub invariant_of-sound : goal.invariant_of-sound
 invariant_of-sound g c =
     let teams = c.in_ok-teams.ensures in
     made_sound c.args.trace.now.records c.run-run.result c.own-own.result c.in_ok-states.states
     c.in_ok-teams.teams c.in_ok-edges.edges c.run-run.ensures.records c.own-own.ensures c.requires.clear
-    c.in_ok-states.ensures.states
+    (rw c.in_ok-states.was at c.states_and_edges-states.ensures.states)
     (rw c.regions.ensures.value at teams.run) (rw c.regions.ensures.value at teams.places) teams.teams
-    c.in_ok-edges.ensures.edges
+    (rw c.in_ok-edges.was at c.states_and_edges-states.ensures.edges)
 
 pub returns-clause-malformed : goal.returns-clause-malformed
 returns-clause-malformed g c =

@@ -4,6 +4,8 @@ use Rattle.checker.proofs.phases.ask_sound.Goals as goal
 pub invariant_of-answer : goal.invariant_of-answer
 invariant_of-answer g c =
     let view = c.args.sound.now in
-    let order = c.in_ok-order.ensures in
-    clear_and_known view c.in_ok-order.order c.in_ok-known.known c.run-run.ensures.is_sound order.clear
-    order.linearization order.greedy c.in_ok-known.ensures.known
+    clear_and_known view c.in_ok-order.order c.in_ok-known.known c.run-run.ensures.is_sound
+    (rw c.in_ok-order.was at c.order_and_known-order.ensures.clear)
+    (rw c.in_ok-order.was at c.order_and_known-order.ensures.linearization)
+    (rw c.in_ok-order.was at c.order_and_known-order.ensures.greedy)
+    (rw c.in_ok-known.was at c.order_and_known-order.ensures.known)

@@ -1,7 +1,6 @@
-use Rattle.std.proofs.Common.{◌≡◌, ◌∙◌, Bool, true, false, subst}
+use Rattle.std.proofs.Common.{◌∙◌, subst}
 use Rattle.std.specs.Prelude.{◌↔◌, IsTrue}
 use Rattle.task_tree.specs.Runs.{RunView}
-use Rattle.wait_coverage.specs.Shown.{IsCompleteShown}
 use Rattle.checker.specs.Search.{ClearView}
 use Rattle.checker.specs.Readings.{by_task}
 use Rattle.checker.specs.Starts.{AreReady}

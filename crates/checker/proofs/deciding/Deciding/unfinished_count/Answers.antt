@@ -1,4 +1,4 @@
-use Rattle.std.proofs.Common.{◌≡◌, ◌∙◌, ◌+◌, ℕ, length, arith, subst}
+use Rattle.std.proofs.Common.{◌≡◌, ◌∙◌, ◌+◌, length, arith, subst}
 use Rattle.task_tree.specs.Runs.{RunView}
 use Rattle.wait_coverage.specs.Waits.{AreEach}
 use Rattle.checker.specs.Search.{ClearView}

@@ -1,9 +1,8 @@
-use Rattle.std.proofs.Common.{Option, Some, None, ◌≡◌, ◌∙◌, ◌+◌, ◌++◌, [], ◌∷◌, Bool, ap, sym, subst}
-use Rattle.std.specs.Prelude.{if◌then◌else◌, slice_get, slice_index_or}
-use Rattle.ompt_events.proofs.ListLemmas.{get_contains}
+use Rattle.std.proofs.Common.{◌∙◌, ◌+◌, ◌++◌, [], ◌∷◌, Bool, ap, sym, subst}
+use Rattle.std.specs.Prelude.{if◌then◌else◌, slice_index_or}
 use Rattle.task_tree.specs.Runs.{RunView}
 use Rattle.checker.specs.Starts.{IsPrecedence, AreLateOf}
-use Rattle.checker.proofs.LateLemmas.{predecessors_at, predecessor_index, predecessor_made, get_here}
+use Rattle.checker.proofs.LateLemmas.{predecessors_at, get_here}
 use Rattle.checker.proofs.FindingsLemmas.{late_none, late_all, late_next}
 use Rattle.checker.proofs.starts.Precedence.all_late_of.Goals.{then-is_some+in_ok-push, else-is_some}
 use Rattle.checker.proofs.starts.Precedence.all_late_of.Goals as goal
