@@ -15,7 +15,9 @@ import time
 HERE = os.path.dirname(os.path.abspath(__file__))
 TOP = os.path.dirname(HERE)
 PROGRAM = os.path.join(TOP, "crates", "taskaudit", "out", "taskaudit")
-STOPWATCH = os.path.join(TOP, "crates", "stopwatch", "out", "stopwatch")
+PROBE = os.path.join(TOP, "crates", "probe", "out", "probe")
+# The words that run one layer alone, or measure calls, come behind these.
+STOPWATCH = [PROBE, "stopwatch"]
 HEADER = '{"format":"task-credit-audit","version":1}'
 HEADER_WITH_TURNS = '{"format":"task-credit-audit","version":2}'
 # The orders of a file, each with the word of traces.py for it.

@@ -2,8 +2,8 @@
 """growth.py [POWER..]: how do the seconds and the memory of a check grow with the file?
 
 Makes one run of eight threads, cuts it at 2^POWER records (2^18 to 2^22, the most that a file may have), in
-the order of time and one thread after another, and runs `taskaudit check`, `wc -l`, `stopwatch values` and
-`stopwatch read` on the same files. The least seconds of nine rounds count.
+the order of time and one thread after another, and runs `taskaudit check`, `wc -l`, `probe stopwatch values` and
+`probe stopwatch read` on the same files. The least seconds of nine rounds count.
 
 Where a task has no children left it may wait once more, so that 2^22 records have fewer than 2^20 tasks, as
 many as a file may have.
@@ -18,7 +18,7 @@ from common import HEADER, LIMIT, ORDERS, PROGRAM, STOPWATCH, numbers_of, peak, 
 from traces import long_records
 
 ROUNDS = 9
-COMMANDS = [[PROGRAM, "check"], ["wc", "-l"], [STOPWATCH, "values"], [STOPWATCH, "read"]]
+COMMANDS = [[PROGRAM, "check"], ["wc", "-l"], [*STOPWATCH, "values"], [*STOPWATCH, "read"]]
 
 
 def least_of_rounds(paths):

@@ -6,7 +6,7 @@ Enters tasks, in a scrambled order except for one shape, and asks whether all en
 Prints seconds of the processor and peak memory, the least of five runs; or the instructions of the calls,
 which Valgrind counts, for fewer entries.
 
-`stopwatch ledger` does what the lines of its input say. From the seconds and the memory, what reading and
+`probe stopwatch ledger` does what the lines of its input say. From the seconds and the memory, what reading and
 printing a line take is subtracted: lines with the same path that ask for an empty span. Each shape has two
 sizes, the second twice the first; growth is that of entering and of asking. The last shape is a chain of
 1,000 tasks, and this many children of the last of them.
@@ -22,7 +22,7 @@ from multiprocessing import Process
 
 from common import COUNTED, STOPWATCH, row, table
 
-COMMAND = [STOPWATCH, "ledger"]
+COMMAND = [*STOPWATCH, "ledger"]
 RUNS = 5
 
 
@@ -117,7 +117,7 @@ def instructions(folder):
     """The instructions of all calls of `enter`, and of all questions beyond those for an empty span: the
     compiler puts `holds` into `held`, the only function that calls it."""
     asking, reading = counts_of(folder, "ask"), counts_of(folder, "read")
-    held = "stopwatch::ledger::held"
+    held = "probe::stopwatch::ledger::held"
     return (count_inside(asking, "credit_ledger::ledger::Ledger::enter"),
             count_inside(asking, held) - count_inside(reading, held))
 

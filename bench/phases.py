@@ -6,7 +6,7 @@ Counts them on runs of 2^POWER records (2^12 to 2^17). Valgrind counts, so the f
 machine.
 
 The phases follow one another, so each is the difference between two runs that end one phase apart:
-`stopwatch read` ends after reading; a file whose last record claims a wrong share is malformed once all
+`probe stopwatch read` ends after reading; a file whose last record claims a wrong share is malformed once all
 causes to ShareWrong were looked for; a file whose last record creates a task for a device is malformed once
 the order was found; the file itself goes to the end.
 """
@@ -62,7 +62,7 @@ def with_a_device(lines):
 
 def to_read(path, lines):
     """The instructions of reading alone."""
-    return instructions_of([STOPWATCH, "read"], path, lines, f"{len(lines) - 1} records")
+    return instructions_of([*STOPWATCH, "read"], path, lines, f"{len(lines) - 1} records")
 
 
 def to_the_causes(path, lines):

@@ -4,7 +4,7 @@
 Counts them on SIZE records (65,536). Valgrind counts, so that the figures are the same on a busy machine.
 The files: a run in the order of time, in the form in which it is written; the same with the members of each
 line shuffled; records of all ten callbacks. A record of the last is longer, so its figure is also given for
-130 bytes. Writing is what `stopwatch write` takes beyond `stopwatch read`.
+130 bytes. Writing is what `probe stopwatch write` takes beyond `probe stopwatch read`.
 """
 
 import json
@@ -36,7 +36,7 @@ def main():
         path = os.path.join(folder, "trace.jsonl")
         for name, lines in files.items():
             write_lines(path, lines)
-            reading, both = (instructions([STOPWATCH, word], path)[0] for word in ("read", "write"))
+            reading, both = (instructions([*STOPWATCH, word], path)[0] for word in ("read", "write"))
             length = os.path.getsize(path) / size
             figures = [length, reading / size, reading / size * 130 / length, (both - reading) / size]
             row(name, *(f"{figure:,.0f}" for figure in figures))

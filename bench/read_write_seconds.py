@@ -1,7 +1,7 @@
 #!/usr/bin/env python3
 """read_write_seconds.py [SIZE]: how many seconds do reading and writing take, compared with JSON alone?
 
-Takes SIZE mixed records (1,048,576) of `mixed.py`. The program `stopwatch` reads each line as a JSON value
+Takes SIZE mixed records (1,048,576) of `mixed.py`. `probe stopwatch` reads each line as a JSON value
 (`values`), reads the records (`read`), or reads and writes them (`write`), three times in turn. What writing
 takes is the difference of the last two; the bytes that are written must be those that were read.
 """
@@ -28,7 +28,7 @@ def main():
         runs = {word: [] for word in WORDS}
         for _ in range(RUNS):
             for word in WORDS:
-                runs[word].append(timed([STOPWATCH, word], path, output)[:2])
+                runs[word].append(timed([*STOPWATCH, word], path, output)[:2])
             if not filecmp.cmp(path, output, shallow=False):
                 sys.exit("what was written is not what was read")
         print(f"{size:,} records, {os.path.getsize(path) / 1e6:.1f} MB\n")

@@ -1,7 +1,7 @@
 #!/usr/bin/env python3
 """recorded_files.py: what does a check of files cost that the recorder of ompt/ wrote?
 
-Records the programs of recorded.py, and prints two tables of `taskaudit check` and of `stopwatch read` on
+Records the programs of recorded.py, and prints two tables of `taskaudit check` and of `probe stopwatch read` on
 the files.
 
 The first compares each file with the same without its members `codeptr`, which the audit ignores:
@@ -18,7 +18,7 @@ import subprocess
 import sys
 import tempfile
 
-from common import PROGRAM, STOPWATCH, instructions_of, row, table, timed, write_lines
+from common import PROBE, PROGRAM, instructions_of, row, table, timed, write_lines
 from phases import to_read, to_the_causes
 from recorded import recordings
 
@@ -80,7 +80,7 @@ def show_order(path, title, lines):
 def main():
     if len(sys.argv) > 1:
         sys.exit(__doc__)
-    for program in (PROGRAM, STOPWATCH):
+    for program in (PROGRAM, PROBE):
         if not os.access(program, os.X_OK):
             sys.exit(f"{program} is not built")
     with tempfile.TemporaryDirectory() as folder:

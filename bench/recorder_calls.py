@@ -2,7 +2,7 @@
 """recorder_calls.py [CALLS [RUNS]]: how many nanoseconds does a call of a recorder take, and how many bytes
 a record?
 
-Runs 1, 2, 4 and 8 threads that share a ledger. Each thread of `stopwatch` makes CALLS calls (200,000): it
+Runs 1, 2, 4 and 8 threads that share a ledger. Each thread of `probe stopwatch` makes CALLS calls (200,000): it
 creates tasks; switches to a task and back; creates a task, switches to it, and the task is complete; begins
 and ends a taskwait. `list` puts the records of creations into one list behind a mutex, with no recorder. A
 complete task is the time of the three calls beyond a creation and a switch. The least of RUNS runs (5).
@@ -25,7 +25,7 @@ RECORDS = {"create": 1, "switch": 2, "finish": 3, "region": 2, "list": 1}
 
 def run(work, pieces, threads):
     """The nanoseconds a piece of the work, and the peak of the process in bytes."""
-    _, memory, text = timed([STOPWATCH, work, str(pieces), str(threads)])
+    _, memory, text = timed([*STOPWATCH, work, str(pieces), str(threads)])
     return int(text), memory * 2**20
 
 
@@ -43,7 +43,7 @@ def bytes_of(work):
 
 def counted(work):
     """The instructions of a piece of the work: the additional ones of twice as many."""
-    more, less = (instructions([STOPWATCH, work, str(pieces), "1"], os.devnull)[0]
+    more, less = (instructions([*STOPWATCH, work, str(pieces), "1"], os.devnull)[0]
                   for pieces in (2 * COUNTED, COUNTED))
     return (more - less) / COUNTED
 

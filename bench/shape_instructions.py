@@ -28,7 +28,7 @@ SHAPES = [
 
 def counted(lines, path, answer):
     """The instructions of a check of these lines without reading."""
-    reading = instructions_of([STOPWATCH, "read"], path, lines, f"{len(lines) - 1} records")
+    reading = instructions_of([*STOPWATCH, "read"], path, lines, f"{len(lines) - 1} records")
     return instructions_of([PROGRAM, "check"], path, lines, answer) - reading
 
 

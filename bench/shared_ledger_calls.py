@@ -2,7 +2,7 @@
 """shared_ledger_calls.py [CALLS [RUNS]]: how many nanoseconds does a call of a ledger that threads share
 take, compared with a list behind a mutex?
 
-The threads of `stopwatch` make CALLS calls (200,000), or ten times as many of `look` and `len`, split among
+The threads of `probe stopwatch` make CALLS calls (200,000), or ten times as many of `look` and `len`, split among
 1, 2, 4 or 8 threads; a row has the time of the whole over the number of calls. `alone` is what the same
 entries take in a ledger of one thread: about what an `enter` does in its turn; its share is of `enter`. An
 entry is made before each call that takes one. The least of RUNS runs (5).
@@ -17,8 +17,8 @@ WORKS = (("enter", 1), ("one-enter", 1), ("look", 10), ("push", 1), ("len", 10))
 
 
 def least(work, calls, threads, runs):
-    """The nanoseconds a call of the quickest run. `stopwatch` prints them for a call of each thread."""
-    command = [STOPWATCH, work, str(calls // threads), str(threads)]
+    """The nanoseconds a call of the quickest run. `probe` prints them for a call of each thread."""
+    command = [*STOPWATCH, work, str(calls // threads), str(threads)]
     return min(int(timed(command)[2]) for _ in range(runs)) / threads
 
 

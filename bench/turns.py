@@ -7,7 +7,7 @@ rise, of the turn of each record, of the search for a gap and of the tasks' own 
 The files: a run of traces.py, where no task moves, with the turns that its lines imply, in the order of time
 and one thread after another; and tasks that begin on one thread and resume on another, whose later turns
 come first. Callgrind counts each call with all that it calls, so the figures are the same on a busy machine;
-the test has no symbol of its own, and is the time of `told_rising` of stopwatch.
+the test has no symbol of its own, and is the time of `told_rising` of `probe stopwatch`.
 """
 
 import os
@@ -23,10 +23,10 @@ CALLS = ("turn_table::turns_of", "gaps::find_gap", "own_order::arrange")
 
 
 def counted(word, function, path):
-    """The instructions of the function, with all that it calls, in the work of stopwatch that the word
+    """The instructions of the function, with all that it calls, in the work of `probe stopwatch` that the word
     names."""
     command = ["valgrind", "--tool=callgrind", "--callgrind-out-file=/dev/null",
-               f"--toggle-collect=*{function}*", STOPWATCH, word]
+               f"--toggle-collect=*{function}*", *STOPWATCH, word]
     with open(path, "rb") as source:
         run = subprocess.run(command, stdin=source, stdout=subprocess.DEVNULL, stderr=subprocess.PIPE,
                              env=COUNTED, check=True)
@@ -51,7 +51,7 @@ def main():
             count = len(lines) - 1
             rise = counted("rise", "turns::told_rising", path)
             each = [rise, *(counted("arrange", call, path) for call in CALLS)]
-            memory = [peak([STOPWATCH, word], path) for word in ("read", "rise", "arrange")]
+            memory = [peak([*STOPWATCH, word], path) for word in ("read", "rise", "arrange")]
             row(name, f"{count:,}", *(f"{one / count:.0f}" for one in each), *(f"{it:.0f}" for it in memory))
 
 

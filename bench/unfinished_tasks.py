@@ -3,8 +3,8 @@
 every end of a wait?
 
 Counts them on runs of SIZE records (65,536), compared with those of the same question in `check`. Asking is
-`Coverage::first_unfinished_all` of all ends: what `stopwatch unfinished` takes beyond `stopwatch coverage`, which ends
-when the coverage and the ledger are made. In `check` it is the phase of the waits: teams, `find_known`,
+`Coverage::first_unfinished_all` of all ends: what `probe stopwatch unfinished` takes beyond `probe stopwatch
+coverage`, which ends when the coverage and the ledger are made. In `check` it is the phase of the waits: teams, `find_known`,
 `find_unfinished` and the search for late starts (`phases.py`). Valgrind counts, so the figures are the same on a busy
 machine.
 """
@@ -20,7 +20,7 @@ from phases import phases
 def asking(path, size, order):
     """The instructions of `first_unfinished_all` of all ends."""
     lines = trace(size, order)
-    made, asked = (instructions_of([STOPWATCH, word], path, lines, " ends") for word in ("coverage", "unfinished"))
+    made, asked = (instructions_of([*STOPWATCH, word], path, lines, " ends") for word in ("coverage", "unfinished"))
     return asked - made
 
 

@@ -4,7 +4,7 @@ upgrade_command.py instructions [SIZE]: and how many instructions?
 
 Runs it on runs of 2^POWER records (2^20 and 2^22), in the order of time and one thread after another: the
 least seconds of nine rounds, and peak memory; or counts instructions, by Valgrind, on files of SIZE records
-(65,536) and of twice as many. It is compared with `stopwatch read`, which reads the same file; `taskaudit
+(65,536) and of twice as many. It is compared with `probe stopwatch read`, which reads the same file; `taskaudit
 check`; and `upgrade` of the upgraded file, which reads and writes a trace of version 2 and upgrades nothing.
 What is written goes to /dev/null. Each file is upgraded first, and its answer must stay the same.
 """
@@ -17,7 +17,7 @@ import tempfile
 from common import ORDERS, PROGRAM, STOPWATCH, instructions, numbers_of, row, table, timed, write_long_trace
 
 ROUNDS = 9
-NAMES = ("`stopwatch read`", "`check`", "`upgrade`", "`upgrade` again")
+NAMES = ("`probe stopwatch read`", "`check`", "`upgrade`", "`upgrade` again")
 
 
 def made(folder, size, order):
@@ -35,7 +35,7 @@ def made(folder, size, order):
 def commands(old, new):
     """What is measured, each a command and the file that it reads."""
     upgrade = [PROGRAM, "upgrade"]
-    return [([STOPWATCH, "read"], old), ([PROGRAM, "check"], old), (upgrade, old), (upgrade, new)]
+    return [([*STOPWATCH, "read"], old), ([PROGRAM, "check"], old), (upgrade, old), (upgrade, new)]
 
 
 def times(powers, folder):

@@ -14,9 +14,9 @@ use Rattle.credit_ledger.specs.Histories.{entries_after}
 use Rattle.credit_ledger.specs.Places.{seat_id, view_of}
 use Rattle.credit_ledger.specs.Seats.{AreClaims, claim_of}
 use Rattle.credit_ledger.proofs.ExtendsLemmas.{GoOn, starts-go_on}
-use Rattle.thread_buffers.specs.Buffers.{BufferView}
-use Rattle.recorder.specs.Logs.{AreOrderly, known_of}
-use Rattle.recorder.specs.Recorders.{RecorderView, HaveEntries, IsBacked}
+use Rattle.callbacks.specs.Buffers.{BufferView}
+use Rattle.callbacks.specs.Logs.{AreOrderly, known_of}
+use Rattle.callbacks.specs.Recorders.{RecorderView, HaveEntries, IsBacked}
 use Rattle.callbacks.specs.Closed.{thread_of, recorded_by, IsBuffer, AreClosed, IsPart, AreParts}
 
 pub parts-claims : (recorders : List RecorderView) (seats : List Seat) (buffers : List BufferView)

@@ -12,9 +12,9 @@ use Rattle.std.proofs.Math.Seq.{take-append-add}
 use Rattle.ompt_events.specs.declared.records.Record.{Record}
 use Rattle.ompt_events.specs.Places.{seen_at}
 use Rattle.ompt_events.proofs.ListLemmas.{all_get, filter_none, filter_all}
-use Rattle.thread_buffers.specs.Buffers.{BufferView}
-use Rattle.trace_ledger.proofs.EntryLemmas.{get_take}
-use Rattle.recorder.specs.Logs.{Follows}
+use Rattle.callbacks.specs.Buffers.{BufferView}
+use Rattle.credit_ledger.proofs.EntryLemmas.{get_take}
+use Rattle.callbacks.specs.Logs.{Follows}
 use Rattle.callbacks.specs.Closed.{ClosedView, IsBuffer, AreClosed}
 use Rattle.callbacks.specs.Gathered.{gathered, HaveOwnThreads}
 

@@ -9,7 +9,7 @@ use Rattle.std.proofs.lemmas.Option.{none-some, same_Some, slice_get_within, sli
 use Rattle.std.proofs.lemmas.Option.{get_or_from_slice_get}
 use Rattle.ompt_events.specs.declared.records.Record.{Record}
 use Rattle.ompt_events.specs.Records.{finish, made}
-use Rattle.thread_buffers.specs.Buffers.{BufferView}
+use Rattle.callbacks.specs.Buffers.{BufferView}
 use Rattle.callbacks.specs.declared.gathering.Counted.{Counted}
 use Rattle.callbacks.specs.declared.gathering.Counted.TheVariants.{Entries, Records, Tasks}
 use Rattle.callbacks.specs.Gathered.{gathered, HaveOwnThreads, count_of}

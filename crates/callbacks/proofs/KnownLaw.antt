@@ -19,8 +19,8 @@ use Rattle.ompt_events.specs.Causes.{IsFreeOf, known_after, length_back}
 use Rattle.ompt_events.proofs.PlaceLemmas.{get_at, thread_get}
 use Rattle.ompt_events.proofs.ListLemmas.{all_get, get_within}
 use Rattle.ompt_events.proofs.RecordLemmas.{created_unfinished}
-use Rattle.recorder.specs.Logs.{known_from, known_of, AreOrderly}
-use Rattle.recorder.proofs.LogLemmas.{known-pushed}
+use Rattle.callbacks.specs.Logs.{known_from, known_of, AreOrderly}
+use Rattle.callbacks.proofs.LogLemmas.{known-pushed}
 use Rattle.callbacks.specs.Closed.{ClosedView, IsBuffer, AreClosed}
 use Rattle.callbacks.specs.Gathered.{gathered, HaveOwnThreads, AreHandedOver, started, was_discarded}
 use Rattle.callbacks.specs.Gathered.{was_fulfilled}

@@ -1,3 +1,9 @@
+-- Lemmas of a recorder.
+pub mod BegunLemmas
+pub mod LogLemmas
+pub mod RecorderLemmas
+pub mod CreditLemmas
+-- Lemmas of closed recorders and of the trace that is gathered.
 pub mod ClosedLemmas
 pub mod GatheredLemmas
 pub mod GatherLemmas

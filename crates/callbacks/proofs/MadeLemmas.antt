@@ -28,11 +28,11 @@ use Rattle.credit_ledger.specs.declared.view.View.{View}
 use Rattle.credit_ledger.specs.Histories.{after_call, entries_after}
 use Rattle.credit_ledger.specs.Seats.{seat_calls, is_enter, AreClaims, AreOfOthers, AreSeatsApart, IsClaimed}
 use Rattle.credit_ledger.specs.Seats.{AreAll, AreEntersOf, HasCallsOf, claim_of, claims_of}
-use Rattle.trace_ledger.specs.Entries.{claimed_entry}
-use Rattle.thread_buffers.specs.Buffers.{BufferView}
-use Rattle.recorder.specs.Logs.{AreOrderly}
-use Rattle.recorder.specs.Recorders.{RecorderView, IsBacked, uses_ledger, replied, ledger_call, ledger_calls}
-use Rattle.recorder.specs.Recorders.{IsWithLooks}
+use Rattle.credit_ledger.specs.TraceEntries.{claimed_entry}
+use Rattle.callbacks.specs.Buffers.{BufferView}
+use Rattle.callbacks.specs.Logs.{AreOrderly}
+use Rattle.callbacks.specs.Recorders.{RecorderView, IsBacked, uses_ledger, replied, ledger_call, ledger_calls}
+use Rattle.callbacks.specs.Recorders.{IsWithLooks}
 use Rattle.callbacks.specs.Closed.{HasUnusedSeat, AreParts}
 use Rattle.callbacks.specs.Gathered.{gathered}
 

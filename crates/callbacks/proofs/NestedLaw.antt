@@ -28,9 +28,9 @@ use Rattle.ompt_events.specs.Causes.{nested_parallel, forked_inside, joined_insi
 use Rattle.ompt_events.specs.Causes.{region_nesting, other_region, other_league}
 use Rattle.ompt_events.proofs.PlaceLemmas.{none_from_test, at_get, get_at}
 use Rattle.ompt_events.proofs.ListLemmas.{get_within}
-use Rattle.trace_ledger.proofs.EntryLemmas.{get_take}
-use Rattle.recorder.specs.Begun.{begins_it, begins_one, has_begun, has_begun_one}
-use Rattle.recorder.specs.Standing.{Standing, standing_of, innermost, is_outside, begins_own_region}
+use Rattle.credit_ledger.proofs.EntryLemmas.{get_take}
+use Rattle.callbacks.specs.Begun.{begins_it, begins_one, has_begun, has_begun_one}
+use Rattle.callbacks.specs.Standing.{Standing, standing_of, innermost, is_outside, begins_own_region}
 use Rattle.callbacks.specs.Closed.{ClosedView, AreClosed}
 use Rattle.callbacks.specs.Gathered.{gathered, HaveOwnThreads}
 use Rattle.callbacks.proofs.GatherLemmas.{IsGathered, from_buffer, in_gathered, follows_of, buffer_of}

@@ -6,8 +6,8 @@ use Rattle.ompt_events.specs.declared.records.Body.{Body}
 use Rattle.credit_ledger.specs.declared.view.Call.TheVariants.{Enter, Look}
 use Rattle.credit_ledger.specs.Seats.{Extends, told_of}
 use Rattle.credit_ledger.proofs.ExtendsLemmas.{reply-known}
-use Rattle.recorder.specs.Logs.{AreRecorded}
-use Rattle.recorder.specs.Recorders.{RecorderView, NoteView, IsBacked, entries_of}
+use Rattle.callbacks.specs.Logs.{AreRecorded}
+use Rattle.callbacks.specs.Recorders.{RecorderView, NoteView, IsBacked, entries_of}
 use Rattle.callbacks.specs.Noted.{HasOneMore}
 use Rattle.callbacks.specs.Noted as more
 use Rattle.callbacks.proofs.KnownLaw.{seen_known, known_within}

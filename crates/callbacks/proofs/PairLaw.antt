@@ -17,8 +17,8 @@ use Rattle.ompt_events.specs.Causes.{entry, ledger_length}
 use Rattle.ompt_events.proofs.PlaceLemmas.{seen_within}
 use Rattle.ompt_events.proofs.ListLemmas.{get_within}
 use Rattle.credit_ledger.specs.declared.entry.Entry.{Entry}
-use Rattle.trace_ledger.specs.Entries.{claimed_entry, entry_of, IsEntryAt}
-use Rattle.recorder.specs.Logs.{known_from}
+use Rattle.credit_ledger.specs.TraceEntries.{claimed_entry, entry_of, IsEntryAt}
+use Rattle.callbacks.specs.Logs.{known_from}
 use Rattle.callbacks.specs.Closed.{ClosedView, AreClosed}
 use Rattle.callbacks.specs.Gathered.{gathered, HaveOwnThreads, ArePaired}
 use Rattle.callbacks.proofs.GatherLemmas.{from_buffer, buffer_of, follows_of, seen_get}

@@ -14,7 +14,7 @@ use Rattle.ompt_events.specs.Names.{demands_next}
 use Rattle.ompt_events.specs.Records.{begun_initial}
 use Rattle.ompt_events.specs.Threads as threads
 use Rattle.ompt_events.specs.Threads.{Walk, after_record}
-use Rattle.recorder.specs.Standing.{Standing, standing_at_start, next_standing, standing_of}
+use Rattle.callbacks.specs.Standing.{Standing, standing_at_start, next_standing, standing_of}
 use Rattle.callbacks.proofs.GatherLemmas.{get_first, get_second}
 
 -- ---- the walk

@@ -16,8 +16,8 @@ use Rattle.ompt_events.specs.Records.{made, flags}
 use Rattle.ompt_events.specs.Causes.{HasSeqGap, MakesTarget, IsFreeOf, seq_gap, target_task}
 use Rattle.ompt_events.specs.Traces.{IsSoundIn, IsInRange, IsTrace, IsTraceOf}
 use Rattle.ompt_events.proofs.PlaceLemmas.{at_get, get_at}
-use Rattle.recorder.specs.Standing.{standing_of, fits, is_outside, is_on_host, begins_own_region, allows}
-use Rattle.recorder.specs.Logs.{AreOfKind}
+use Rattle.callbacks.specs.Standing.{standing_of, fits, is_outside, is_on_host, begins_own_region, allows}
+use Rattle.callbacks.specs.Logs.{AreOfKind}
 use Rattle.callbacks.specs.Closed.{ClosedView, AreClosed}
 use Rattle.callbacks.specs.Gathered.{gathered, HaveOwnThreads, IsWithinLimits, version_of}
 use Rattle.callbacks.proofs.GatherLemmas.{all_from_get, from_buffer, follows_of, buffer_before}

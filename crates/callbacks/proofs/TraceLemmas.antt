@@ -3,8 +3,8 @@ use Rattle.std.proofs.Common.{◌≡◌, Bool, List, Result, Ok, Err, sym, ap, s
 use Rattle.std.specs.Prelude.{IfOk, IfErr, OnOk}
 use Rattle.ompt_events.specs.declared.records.Record.{Record}
 use Rattle.ompt_events.specs.Traces.{TraceView}
-use Rattle.recorder.specs.declared.fault.CallFault.{CallFault}
-use Rattle.recorder.specs.declared.fault.CallFault.TheVariants.{Memory}
+use Rattle.callbacks.specs.declared.fault.CallFault.{CallFault}
+use Rattle.callbacks.specs.declared.fault.CallFault.TheVariants.{Memory}
 use Rattle.callbacks.specs.Closed.{ClosedView, AreClosed}
 use Rattle.callbacks.specs.Gathered.{gathered, BelongTogether, IsGatherFault, version_of}
 

@@ -6,9 +6,9 @@ use Rattle.ompt_events.specs.Limits.{max_records}
 use Rattle.credit_ledger.specs.declared.entry.Entry.{Entry}
 use Rattle.credit_ledger.specs.declared.shared.Seat.{Seat}
 use Rattle.credit_ledger.specs.Places.{seat_id, view_of}
-use Rattle.thread_buffers.specs.Buffers.{BufferView}
-use Rattle.recorder.specs.Logs.{AreOrderly, AreRecorded, known_of}
-use Rattle.recorder.specs.Recorders.{RecorderView, HaveEntries, IsBacked}
+use Rattle.callbacks.specs.Buffers.{BufferView}
+use Rattle.callbacks.specs.Logs.{AreOrderly, AreRecorded, known_of}
+use Rattle.callbacks.specs.Recorders.{RecorderView, HaveEntries, IsBacked}
 
 -- the view of closed recorders
 pub record ClosedView : Type 0 where

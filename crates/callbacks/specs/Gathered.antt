@@ -9,11 +9,11 @@ use Rattle.ompt_events.specs.Records.{created, discarded, fulfilled}
 use Rattle.ompt_events.specs.HappensBefore.{IsStart, IsResumption}
 use Rattle.ompt_events.specs.Causes.{IsFreeOf, entries_in}
 use Rattle.ompt_events.specs.Traces.{tasks_in}
-use Rattle.thread_buffers.specs.Buffers.{BufferView}
-use Rattle.trace_ledger.specs.Entries.{IsLedgerOf}
-use Rattle.recorder.specs.Logs.{AreOfKind}
-use Rattle.recorder.specs.declared.fault.CallFault.{CallFault}
-use Rattle.recorder.specs.declared.fault.CallFault.TheVariants.{Memory, Full, WrongState}
+use Rattle.callbacks.specs.Buffers.{BufferView}
+use Rattle.credit_ledger.specs.TraceEntries.{IsLedgerOf}
+use Rattle.callbacks.specs.Logs.{AreOfKind}
+use Rattle.callbacks.specs.declared.fault.CallFault.{CallFault}
+use Rattle.callbacks.specs.declared.fault.CallFault.TheVariants.{Memory, Full, WrongState}
 use Rattle.callbacks.specs.declared.gathering.Counted.{Counted}
 use Rattle.callbacks.specs.declared.gathering.Counted.TheVariants.{Entries, Records, Tasks}
 use Rattle.callbacks.specs.Closed.{ClosedView}

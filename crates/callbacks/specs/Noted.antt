@@ -2,7 +2,7 @@
 use Rattle.std.specs.Prelude.{ℕ, ◌≡◌}
 use Rattle.ompt_events.specs.declared.records.Body.{Body}
 use Rattle.credit_ledger.specs.declared.entry.Entry.{Entry}
-use Rattle.recorder.specs.Recorders.{RecorderView, recorded_alone, IsObserved, IsConcluded}
+use Rattle.callbacks.specs.Recorders.{RecorderView, recorded_alone, IsObserved, IsConcluded}
 
 -- the recorder has one more record with this body, which names `seen`: that of a call that does not use the
 -- ledger, of one that looked at it, or of one that put an entry into it

@@ -8,17 +8,16 @@ ghost use Rattle.credit_ledger.specs.declared.view.Step.{Step};
 ghost use Rattle.credit_ledger.specs.Histories.{IsLegal, entries_after};
 ghost use Rattle.credit_ledger.specs.Places.{ledger_id};
 ghost use Rattle.credit_ledger.specs.Seats.{AreClaims, AreSeatsApart, AreAll, HasCallsOf, claim_of};
-ghost use Rattle.recorder.specs.declared.fault.CallFault.TheVariants.{Memory};
-ghost use Rattle.recorder.specs.Recorders.{IsBacked};
+ghost use Rattle.callbacks.specs.declared.fault.CallFault.TheVariants.{Memory};
+ghost use Rattle.callbacks.specs.Recorders.{IsBacked};
 ghost use Rattle.callbacks.specs.Closed.{thread_of, recorded_by, HasUnusedSeat, AreClosed, AreParts};
 ghost use Rattle.callbacks.specs.Gathered.{gathered};
 
+use crate::{Buffer, CallFault, Recorder};
 use credit_ledger::{Ledger, Seat, SharedLedger};
-use recorder::{CallFault, Recorder};
 use std::alloc::Global;
 use std::marker::Model;
 use std::sync::Wait;
-use thread_buffers::Buffer;
 
 /// What closed recorders leave: the ledger, and the records of each thread, sorted by thread number.
 #[derive(Drop)]

@@ -7,17 +7,16 @@ ghost use Rattle.ompt_events.specs.declared.cause.Cause.TheVariants.{SeqGap, Cre
 ghost use Rattle.ompt_events.specs.declared.cause.Cause.TheVariants.{EntryTwice, LengthAhead, LengthBack};
 ghost use Rattle.ompt_events.specs.declared.cause.Cause.TheVariants.{RegionNesting, TargetTask};
 ghost use Rattle.ompt_events.specs.Causes.{IsFreeOf, entries_in};
-ghost use Rattle.recorder.specs.Logs.{AreOfKind};
-ghost use Rattle.recorder.specs.declared.fault.CallFault.TheVariants.{Memory};
+ghost use Rattle.callbacks.specs.Logs.{AreOfKind};
+ghost use Rattle.callbacks.specs.declared.fault.CallFault.TheVariants.{Memory};
 ghost use Rattle.callbacks.specs.Closed.{AreClosed};
 ghost use Rattle.callbacks.specs.Gathered.{gathered, HaveOwnThreads, ArePaired, BelongTogether, IsWithinLimits};
 ghost use Rattle.callbacks.specs.Gathered.{IsGatherFault, AreHandedOver, version_of, count_of};
 
 use crate::closed::Closed;
+use crate::{Buffer, CallFault};
 use ompt_events::{MAX_RECORDS, MAX_TASKS, Record, Trace, finish};
-use recorder::CallFault;
 use std::alloc::Global;
-use thread_buffers::Buffer;
 
 /// What is counted in the records of all threads.
 #[derive(Clone, Copy)]

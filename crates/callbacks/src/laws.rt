@@ -10,8 +10,8 @@ ghost use Rattle.ompt_events.specs.declared.cause.Cause.TheVariants.{RegionNesti
 ghost use Rattle.ompt_events.specs.Causes.{IsFreeOf, entries_in};
 ghost use Rattle.credit_ledger.specs.declared.view.Call.TheVariants.{Look};
 ghost use Rattle.credit_ledger.specs.Seats.{Extends, told_of};
-ghost use Rattle.recorder.specs.Logs.{AreRecorded};
-ghost use Rattle.recorder.specs.Recorders.{RecorderView, NoteView, IsBacked, entries_of};
+ghost use Rattle.callbacks.specs.Logs.{AreRecorded};
+ghost use Rattle.callbacks.specs.Recorders.{RecorderView, NoteView, IsBacked, entries_of};
 ghost use Rattle.callbacks.specs.Closed.{ClosedView, AreClosed};
 ghost use Rattle.callbacks.specs.Gathered.{gathered, HaveOwnThreads, ArePaired, AreHandedOver};
 ghost use Rattle.callbacks.specs.Noted.{HasOneMore};

@@ -1,5 +1,5 @@
--- What a trace file stands for, and which of its lines is the first faulty one. The newest version of the
--- format that is read is 1 or 2: a header that names a later one is a faulty line.
+-- What a trace file stands for, and which of its lines is the first faulty one. A header that names a later
+-- version of the format than the newest one that is read is a faulty line.
 use Rattle.std.specs.Prelude.{◌≡◌, ◌≤◌, ◌<◌, ℕ, ◌+◌, ◌==◌, ◌&&◌, ◌||◌, Bool, not, List, [], ◌∷◌, ◌++◌, length}
 use Rattle.std.specs.Prelude.{take, drop, Option, Some, None, Result, Ok, Err, is_some, nat_lt, if◌then◌else◌}
 use Rattle.std.specs.Prelude.{slice_get}

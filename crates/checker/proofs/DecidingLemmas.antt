@@ -7,7 +7,7 @@ use Rattle.task_tree.specs.Own.{OwnView, IsOwn}
 use Rattle.task_tree.specs.Families.{IsOwnOf}
 use Rattle.task_tree.proofs.ShownLemmas.{own_long}
 use Rattle.teams.specs.Teams.{own_of}
-use Rattle.trace_ledger.specs.Entries.{HasRightEntries}
+use Rattle.credit_ledger.specs.TraceEntries.{HasRightEntries}
 use Rattle.wait_coverage.specs.Done.{DoneView, records_of}
 use Rattle.wait_coverage.specs.Known.{AreCreditLengths}
 use Rattle.wait_coverage.specs.Shown.{IsCompleteShown, IsFirstUnfinishedShown}

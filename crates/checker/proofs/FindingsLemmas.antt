@@ -31,7 +31,7 @@ use Rattle.task_tree.specs.Runs.{RunView}
 use Rattle.task_tree.proofs.OwnRunLemmas.{own_covers}
 use Rattle.teams.specs.Teams.{own_of}
 use Rattle.depend_edges.specs.Edges.{ArePredecessors, ArePredecessorLengths}
-use Rattle.trace_ledger.specs.Entries.{IsDone}
+use Rattle.credit_ledger.specs.TraceEntries.{IsDone}
 use Rattle.wait_coverage.specs.Done.{DoneView, AreOwnLengths, AreDone, records_of}
 use Rattle.wait_coverage.specs.Shown.{IsCompleteShown, IsUnfinishedShown}
 use Rattle.wait_coverage.specs.Spans.{IsCoverComplete}

@@ -32,7 +32,7 @@ use Rattle.task_tree.proofs.OwnRunLemmas.{own_predecessor}
 use Rattle.task_tree.proofs.OnceLemmas.{made_once}
 use Rattle.depend_edges.specs.Edges.{ArePredecessors, ArePredecessorLengths}
 use Rattle.wait_coverage.specs.Done.{AreOwnLengths}
-use Rattle.trace_ledger.specs.Entries.{IsDone}
+use Rattle.credit_ledger.specs.TraceEntries.{IsDone}
 use Rattle.checker.specs.declared.starts.Late.{Late}
 use Rattle.checker.specs.Readings.{by_task, IsPrecededBy}
 use Rattle.checker.specs.Starts.{IsPredecessorUnfinished, AreReady, IsFirstLateAt, IsDependentAt}

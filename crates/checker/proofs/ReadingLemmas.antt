@@ -43,8 +43,8 @@ use Rattle.task_tree.specs.Own.{OwnView, IsOwn, of_claims}
 use Rattle.task_tree.specs.Families.{IsOwnOf}
 use Rattle.task_tree.proofs.OwnRunLemmas.{place_of_number}
 use Rattle.task_tree.proofs.ShownLemmas.{shown_there}
-use Rattle.trace_ledger.specs.Entries.{HasRightEntries}
-use Rattle.trace_ledger.proofs.RightLemmas.{own_entries}
+use Rattle.credit_ledger.specs.TraceEntries.{HasRightEntries}
+use Rattle.credit_ledger.proofs.RightEntryLemmas.{own_entries}
 use Rattle.teams.specs.Teams.{own_of}
 use Rattle.wait_coverage.specs.Done.{AreDone}
 use Rattle.wait_coverage.specs.Known.{KnownView, AreCreditLengths}

@@ -19,7 +19,7 @@ use Rattle.ompt_events.specs.Places.{at, seen_at}
 use Rattle.ompt_events.specs.HappensBefore.{IsFinishing}
 use Rattle.ompt_events.specs.Completion.{IsPartFinished, IsFinished, IsCompleteAt, CountsAt, StartsTask}
 use Rattle.index_tables.specs.Numbering.{AreApart}
-use Rattle.trace_ledger.specs.Entries.{IsDone}
+use Rattle.credit_ledger.specs.TraceEntries.{IsDone}
 use Rattle.wait_coverage.specs.Done.{IsDoneFrom, AreOwnLengths}
 use Rattle.checker.specs.Schedule.{first_started}
 use Rattle.checker.proofs.ScheduleLemmas.{first_begun_starts}

@@ -17,7 +17,7 @@ use Rattle.task_tree.specs.Families.{IsOwnOf}
 use Rattle.task_states.specs.States.{StatesView, IsStates}
 use Rattle.depend_edges.specs.Edges.{EdgesView}
 use Rattle.teams.specs.Teams.{own_of}
-use Rattle.trace_ledger.specs.Entries.{HasRightEntries}
+use Rattle.credit_ledger.specs.TraceEntries.{HasRightEntries}
 use Rattle.wait_coverage.specs.Done.{AreDone}
 use Rattle.wait_coverage.specs.Known.{KnownView, AreCreditLengths}
 use Rattle.checker.specs.Readings.{Reading, IsPrecededBy}

@@ -16,7 +16,7 @@ use Rattle.task_tree.specs.Own.{OwnView, IsOwn}
 use Rattle.task_tree.specs.Families.{IsOwnOf}
 use Rattle.depend_edges.specs.Edges.{ArePredecessorLengths}
 use Rattle.wait_coverage.specs.Done.{AreOwnLengths}
-use Rattle.trace_ledger.specs.Entries.{IsDone}
+use Rattle.credit_ledger.specs.TraceEntries.{IsDone}
 use Rattle.checker.specs.declared.starts.Late.{Late}
 use Rattle.checker.specs.Readings.{by_task, IsPrecededBy}
 use Rattle.checker.specs.Verdicts.{IsPredecessorUnfinishedBy}

@@ -8,7 +8,7 @@ ghost use Rattle.ompt_events.specs.Tree.{IsExplicit};
 ghost use Rattle.depend_edges.specs.Edges.{ArePredecessors};
 ghost use Rattle.wait_coverage.specs.Done.{AreOwnLengths};
 ghost use Rattle.wait_coverage.specs.Waits.{AreEach};
-ghost use Rattle.trace_ledger.specs.Entries.{IsDone};
+ghost use Rattle.credit_ledger.specs.TraceEntries.{IsDone};
 ghost use Rattle.checker.specs.Starts.{IsPredecessorUnfinished, AreReady, IsPrecededByNone, IsDependentAt, IsFirstLateAt, IsBound, AreNoLengths, AreStarts, AreStartsBelow, StartsAt, StartsNoneAt, IsUnfinishedPredecessor, AreDoneBefore, IsFirstBehind, IsFirstOf, IsBehindAt, IsEarlierOf};
 
 use crate::schedule::first_started;

@@ -1,7 +1,3 @@
--- The shares of a credit, their machine (`Credits`), and the purse of shares that have come back (`Trees`).
--- Read `Shares` first, then `Credits`.
+-- The definitions of shares and of their machine, under the name of a crate of their own.
 pub mod Shares
 pub mod Credits
-pub mod Paths
-pub mod Links
-pub mod Trees

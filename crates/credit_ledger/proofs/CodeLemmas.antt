@@ -6,10 +6,10 @@ use Rattle.std.specs.Prelude.{◌==◌, ◌&&◌, nat_eq}
 use Rattle.std.specs.List.{flat_map}
 use Rattle.std.proofs.lemmas.Bool.{and_parts, and_from, false≢true, cases_Bool, or_cases, eqb-true, eq-eqb}
 use Rattle.ompt_events.specs.declared.records.Part.{Part}
-use Rattle.credit.specs.declared.share.Half.{Half}
-use Rattle.credit.specs.declared.share.Half.TheVariants.{Keep, Give}
-use Rattle.credit.specs.Shares.{begins_with, overlaps, start_share}
-use Rattle.credit.proofs.RunLemmas.{begins_with-both, start_share-append}
+use Rattle.credit_ledger.specs.declared.share.Half.{Half}
+use Rattle.credit_ledger.specs.declared.share.Half.TheVariants.{Keep, Give}
+use Rattle.credit_ledger.specs.Shares.{begins_with, overlaps, start_share}
+use Rattle.credit_ledger.proofs.RunLemmas.{begins_with-both, start_share-append}
 use Rattle.credit_ledger.specs.declared.entry.Entry.{Entry}
 use Rattle.credit_ledger.specs.Entries.{part_halves, tree_share, parent_and_number, is_same_path, tree_shares}
 use Rattle.credit_ledger.specs.Codes.{region_code, tree_code, pool_runs, second_code, codes, all_codes}

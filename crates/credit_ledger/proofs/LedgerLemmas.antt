@@ -8,9 +8,9 @@ use Rattle.std.proofs.lemmas.Bool.{and_parts, and_from, false≢true, or_cases, 
 use Rattle.std.proofs.lemmas.Bool.{eq-eqb, leb-true, le-leb, lt-leb, cases_lt, cond-false}
 use Rattle.std.proofs.lemmas.List.{append-nil, take_all}
 use Rattle.ompt_events.specs.declared.records.Part.{Part}
-use Rattle.credit.specs.declared.share.Half.{Half}
-use Rattle.credit.specs.Shares.{begins_with, overlaps, overlaps_either, start_share, Hold}
-use Rattle.credit.specs.Trees.{is_by}
+use Rattle.credit_ledger.specs.declared.share.Half.{Half}
+use Rattle.credit_ledger.specs.Shares.{begins_with, overlaps, overlaps_either, start_share, Hold}
+use Rattle.credit_ledger.specs.Trees.{is_by}
 use Rattle.credit_ledger.specs.declared.entry.Entry.{Entry}
 use Rattle.credit_ledger.specs.declared.entry.Cover.{Cover}
 use Rattle.credit_ledger.specs.declared.entry.Cover.TheVariants.{Children, Descendants}

@@ -1,3 +1,22 @@
+-- Lemmas of shares and purses.
+pub mod HalvedLemmas
+pub mod CreditLemmas
+pub mod TileLaw
+pub mod HoldLaw
+pub mod HoldLemmas
+pub mod RunLemmas
+pub mod PathLemmas
+pub mod HeldLemmas
+pub mod CountLemmas
+pub mod KnownLemmas
+pub mod SettleLemmas
+pub mod LinkLemmas
+pub mod TreeLemmas
+pub mod GrowLemmas
+pub mod UpdateLemmas
+pub mod PurseLemmas
+pub mod StepLemmas
+-- Lemmas of the ledger.
 pub mod RegionLemmas
 pub mod CodeLemmas
 pub mod LedgerLemmas
@@ -9,3 +28,18 @@ pub mod SeatLemmas
 pub mod OverlapLemmas
 pub mod OverLemmas
 pub mod ExtendsLemmas
+-- Lemmas of the ledger of a trace.
+pub mod HalfLemmas
+pub mod EntryLemmas
+pub mod StandLemmas
+pub mod ThereLemmas
+pub mod MeetLemmas
+pub mod CompleteLemmas
+pub mod TreeLaw
+pub mod PoolLaw
+pub mod MoveLemmas
+pub mod CreditLaw
+pub mod ApartLaw
+pub mod MakerLemmas
+pub mod TraceLedgerLemmas
+pub mod RightEntryLemmas

@@ -11,13 +11,13 @@ use Rattle.std.proofs.lemmas.List.{append_assoc, length-replicate, length_push}
 use Rattle.std.proofs.lemmas.List.Folds.{list_any-from_Any}
 use Rattle.std.proofs.lemmas.List.Elements.{All-from_recursion}
 use Rattle.ompt_events.proofs.ListLemmas.{get_pushed, get_last}
-use Rattle.credit.specs.declared.share.Half.{Half}
-use Rattle.credit.specs.declared.share.Half.TheVariants.{Keep}
-use Rattle.credit.specs.Shares.{begins_with, overlaps, start_share, finish_share, Hold}
-use Rattle.credit.proofs.ShareLemmas.{IsAsLong, begins_with-longer, length-begins_with}
-use Rattle.credit.proofs.HoldLemmas.{begins_with-either, span as halves_of, IsAsLong-span}
-use Rattle.credit.proofs.HoldLaw.{HasAllOf, Hold-within}
-use Rattle.credit.proofs.RunLemmas.{start_share-append}
+use Rattle.credit_ledger.specs.declared.share.Half.{Half}
+use Rattle.credit_ledger.specs.declared.share.Half.TheVariants.{Keep}
+use Rattle.credit_ledger.specs.Shares.{begins_with, overlaps, start_share, finish_share, Hold}
+use Rattle.credit_ledger.proofs.HalvedLemmas.{IsAsLong, begins_with-longer, length-begins_with}
+use Rattle.credit_ledger.proofs.HoldLemmas.{begins_with-either, span as halves_of, IsAsLong-span}
+use Rattle.credit_ledger.proofs.HoldLaw.{HasAllOf, Hold-within}
+use Rattle.credit_ledger.proofs.RunLemmas.{start_share-append}
 use Rattle.credit_ledger.specs.declared.entry.Entry.{Entry}
 use Rattle.credit_ledger.specs.declared.entry.Span.{Span}
 use Rattle.credit_ledger.specs.declared.entry.Cover.TheVariants.{Descendants}

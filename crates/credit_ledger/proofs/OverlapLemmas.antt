@@ -10,8 +10,8 @@ use Rattle.std.proofs.lemmas.List.{append-nil}
 use Rattle.std.proofs.lemmas.Option.{unwrap_or-slice_get}
 use Rattle.ompt_events.specs.declared.records.Part.{Part}
 use Rattle.ompt_events.specs.declared.records.Part.TheVariants.{Whole, Body, Event}
-use Rattle.credit.specs.Shares.{begins_with, overlaps, start_share, finish_share}
-use Rattle.credit.proofs.RunLemmas.{begins_with-runs, finish_share-keep, finish_share-give}
+use Rattle.credit_ledger.specs.Shares.{begins_with, overlaps, start_share, finish_share}
+use Rattle.credit_ledger.proofs.RunLemmas.{begins_with-runs, finish_share-keep, finish_share-give}
 use Rattle.credit_ledger.specs.declared.entry.Entry.{Entry}
 use Rattle.credit_ledger.specs.Entries.{part_halves, parent_and_number, pool_share, is_same_path}
 use Rattle.credit_ledger.specs.Entries.{overlaps_in_pool}

@@ -6,12 +6,12 @@ use Rattle.std.proofs.lemmas.Bool.{and_parts, false≢true, or_cases, or_left, o
 use Rattle.std.proofs.lemmas.List.{length-replicate}
 use Rattle.std.proofs.lemmas.List.Folds.{list_any-from_Any, Any-from_list_any}
 use Rattle.std.proofs.lemmas.List.Elements.{recursion_from_All, All-from_recursion}
-use Rattle.credit.specs.declared.share.Half.{Half}
-use Rattle.credit.specs.declared.share.Half.TheVariants.{Keep}
-use Rattle.credit.specs.Shares.{is_same_half, begins_with, overlaps, Hold}
-use Rattle.credit.proofs.ShareLemmas.{same_half, is_same_half-itself, begins_with-append, IsAsLong}
-use Rattle.credit.proofs.HoldLemmas.{begins_with-either, span, IsAsLong-span}
-use Rattle.credit.proofs.HeldLemmas.{begins_with-cut}
+use Rattle.credit_ledger.specs.declared.share.Half.{Half}
+use Rattle.credit_ledger.specs.declared.share.Half.TheVariants.{Keep}
+use Rattle.credit_ledger.specs.Shares.{is_same_half, begins_with, overlaps, Hold}
+use Rattle.credit_ledger.proofs.HalvedLemmas.{same_half, is_same_half-itself, begins_with-append, IsAsLong}
+use Rattle.credit_ledger.proofs.HoldLemmas.{begins_with-either, span, IsAsLong-span}
+use Rattle.credit_ledger.proofs.HeldLemmas.{begins_with-cut}
 
 -- the share is one of these
 abbrev pub IsShareIn : List Half → List (List Half) → Type 0

@@ -9,9 +9,9 @@ use Rattle.std.proofs.lemmas.List.{length-map}
 use mathlib.Core.Option.{some, some-ne-none, some-injective}
 use lib.ListN.{get_elem?}
 use Rattle.atomic_table.proofs.Lists.{at_set, at_longer, set_here, set_else}
-use Rattle.credit.specs.declared.share.Half.{Half}
-use Rattle.credit.specs.declared.share.Half.TheVariants.{Keep, Give}
-use Rattle.credit.specs.Shares.{overlaps, keep_half, give_half}
+use Rattle.credit_ledger.specs.declared.share.Half.{Half}
+use Rattle.credit_ledger.specs.declared.share.Half.TheVariants.{Keep, Give}
+use Rattle.credit_ledger.specs.Shares.{overlaps, keep_half, give_half}
 use Rattle.credit_ledger.specs.declared.view.Step.{Step}
 use Rattle.credit_ledger.specs.declared.view.Claim.{Claim}
 use Rattle.credit_ledger.specs.declared.view.View.{View}

@@ -8,7 +8,7 @@ use mathlib.Core.Option.{some, some-ne-none, some-injective}
 use lib.ListN.{get_elem?}
 use Rattle.atomic_table.specs.Table.{State, Me, keeps, opening, Allows, Enters, Splits, Joins}
 use Rattle.atomic_table.proofs.Lists.{at_longer, set_here, set_else}
-use Rattle.credit.specs.declared.share.Half.{Half}
+use Rattle.credit_ledger.specs.declared.share.Half.{Half}
 use Rattle.credit_ledger.specs.declared.view.Step.{Step}
 use Rattle.credit_ledger.specs.declared.view.Claim.{Claim}
 use Rattle.credit_ledger.specs.declared.view.Stage.TheVariants.{Fresh, Idle, Turn, Spent}

@@ -6,11 +6,11 @@ use Rattle.std.specs.List.{list_any}
 use Rattle.std.specs.List.Sorted.{IsPermutation}
 use Rattle.std.proofs.lemmas.List.Sorted.{list_any-IsPermutation}
 use Rattle.std.proofs.lemmas.Bool.{and_parts, and_from, false≢true, or_cases, or_left, or_right}
-use Rattle.credit.specs.declared.share.Half.{Half}
-use Rattle.credit.specs.declared.share.Half.TheVariants.{Keep, Give}
-use Rattle.credit.specs.Shares.{is_same_half, begins_with, overlaps, keep_half, give_half}
-use Rattle.credit.proofs.ShareLemmas.{begins_with-append, begins_with-longer}
-use Rattle.credit.proofs.ShareLemmas.{begins_with_through, is_same_half-itself, same_half}
+use Rattle.credit_ledger.specs.declared.share.Half.{Half}
+use Rattle.credit_ledger.specs.declared.share.Half.TheVariants.{Keep, Give}
+use Rattle.credit_ledger.specs.Shares.{is_same_half, begins_with, overlaps, keep_half, give_half}
+use Rattle.credit_ledger.proofs.HalvedLemmas.{begins_with-append, begins_with-longer}
+use Rattle.credit_ledger.proofs.HalvedLemmas.{begins_with_through, is_same_half-itself, same_half}
 use Rattle.credit_ledger.specs.Seats.{AreAll, IsShareOf}
 
 -- ---- two shares

@@ -7,8 +7,8 @@ use Rattle.std.specs.Prelude.{ℕ, ◌+◌, ◌*◌, ◌/◌, ◌%◌, ◌^◌, 
 use Rattle.std.specs.List.{flat_map}
 use Rattle.ompt_events.specs.declared.records.Part.{Part}
 use Rattle.ompt_events.specs.declared.records.Part.TheVariants.{Whole, Body, Event}
-use Rattle.credit.specs.declared.share.Half.{Half}
-use Rattle.credit.specs.Shares.{start_share}
+use Rattle.credit_ledger.specs.declared.share.Half.{Half}
+use Rattle.credit_ledger.specs.Shares.{start_share}
 use Rattle.credit_ledger.specs.declared.entry.Entry.{Entry}
 use Rattle.credit_ledger.specs.declared.entry.Cover.{Cover}
 use Rattle.credit_ledger.specs.declared.entry.Cover.TheVariants.{Children, Descendants}

@@ -7,9 +7,9 @@ use Rattle.std.specs.Option.{option_map_or}
 use Rattle.std.specs.Cmp.Lexicographic.{pointwise}
 use Rattle.ompt_events.specs.declared.records.Part.{Part}
 use Rattle.ompt_events.specs.declared.records.Part.TheVariants.{Whole, Body, Event}
-use Rattle.credit.specs.declared.share.Half.{Half}
-use Rattle.credit.specs.declared.share.Half.TheVariants.{Keep, Give}
-use Rattle.credit.specs.Shares.{overlaps, start_share, finish_share, Hold}
+use Rattle.credit_ledger.specs.declared.share.Half.{Half}
+use Rattle.credit_ledger.specs.declared.share.Half.TheVariants.{Keep, Give}
+use Rattle.credit_ledger.specs.Shares.{overlaps, start_share, finish_share, Hold}
 use Rattle.credit_ledger.specs.declared.entry.Entry.{Entry}
 use Rattle.credit_ledger.specs.declared.entry.Span.{Span}
 use Rattle.credit_ledger.specs.declared.entry.Cover.{Cover}

@@ -6,8 +6,8 @@ use Rattle.std.specs.List.{filter, flat_map, list_any}
 use mathlib.Core.Option.{some, none}
 use lib.ListN.{get_elem?}
 use Rattle.atomic_table.specs.Table.{State, Me}
-use Rattle.credit.specs.declared.share.Half.{Half}
-use Rattle.credit.specs.Shares.{overlaps, keep_half, give_half}
+use Rattle.credit_ledger.specs.declared.share.Half.{Half}
+use Rattle.credit_ledger.specs.Shares.{overlaps, keep_half, give_half}
 use Rattle.credit_ledger.specs.declared.entry.Entry.{Entry}
 use Rattle.credit_ledger.specs.declared.view.Call.{Call}
 use Rattle.credit_ledger.specs.declared.view.Call.TheVariants.{Enter, Look}

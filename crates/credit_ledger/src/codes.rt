@@ -1,11 +1,11 @@
 //! The shares of entries and children, in the regions where the ledger's purse keeps them.
 ghost use Rattle.std.specs.Prelude.{◌≡◌, ◌≤◌, ◌<◌, ◌+◌, ◌*◌, ◌^◌, ◌++◌, ◌∷◌, [], length, map, IfOk, OnOk, Some};
-ghost use Rattle.credit.specs.Shares.{start_share, finish_share};
+ghost use Rattle.credit_ledger.specs.Shares.{start_share, finish_share};
 ghost use Rattle.credit_ledger.specs.Entries.{part_halves, tree_share, parent_and_number};
 ghost use Rattle.credit_ledger.specs.Codes.{region_code, tree_code as code_in_tree, second_code as code_besides, pool_runs};
 
+use crate::Share;
 use crate::entry::Entry;
-use credit::Share;
 use ompt_events::Part;
 use std::alloc::{AllocError, Global};
 

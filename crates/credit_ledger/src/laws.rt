@@ -2,8 +2,8 @@
 //! `SharedLedger::close` that have all seats of a ledger. The functions do nothing.
 ghost use Rattle.std.specs.Prelude.{◌++◌, ◌∷◌, [], List, map};
 ghost use Rattle.std.specs.List.Sorted.{IsPermutation};
-ghost use Rattle.credit.specs.declared.share.Half.{Half};
-ghost use Rattle.credit.specs.Shares.{keep_half, give_half};
+ghost use Rattle.credit_ledger.specs.declared.share.Half.{Half};
+ghost use Rattle.credit_ledger.specs.Shares.{keep_half, give_half};
 ghost use Rattle.credit_ledger.specs.Seats.{AreAll};
 
 /// The share of the first seat is all.

@@ -2,7 +2,7 @@
 ghost use Rattle.std.specs.Prelude.{◌≡◌, ◌≤◌, ◌<◌, ◌^◌, ◌++◌, ◌∷◌, [], ℕ, length, take, slice_get, IsTrue, ◌↔◌, IfOk, IfErr, OnOk, OnErr, IsErr, IsOkUnless};
 ghost use Rattle.std.specs.List.{list_any};
 ghost use Rattle.std.specs.Option.{option_copied};
-ghost use Rattle.credit.specs.Trees.{is_by};
+ghost use Rattle.credit_ledger.specs.Trees.{is_by};
 ghost use Rattle.credit_ledger.specs.Entries.{is_overlap, is_ledger_full, entry_fault, IsChildHeld, IsSpanHeld};
 ghost use Rattle.credit_ledger.specs.Codes.{all_codes, start_code};
 
@@ -10,7 +10,7 @@ use crate::codes::{child_code, pool_code, second_code, tree_code};
 use crate::entry::{Cover, Entry, Span};
 use crate::fault::LedgerFault;
 use crate::overlap::do_overlap;
-use credit::{Purse, Share};
+use crate::{Purse, Share};
 use ompt_events::Part;
 use std::alloc::{AllocError, Global};
 use std::marker::Model;

@@ -1,6 +1,6 @@
 //! Whether two entries overlap, decided without allocation.
 ghost use Rattle.std.specs.Prelude.{◌≡◌, length, slice_get};
-ghost use Rattle.credit.specs.Shares.{begins_with, overlaps};
+ghost use Rattle.credit_ledger.specs.Shares.{begins_with, overlaps};
 ghost use Rattle.credit_ledger.specs.Entries.{part_halves, tree_share, parent_and_number, overlaps_in_pool, is_overlap};
 ghost use Rattle.credit_ledger.specs.Codes.{tree_runs, tree_last};
 

@@ -8,7 +8,7 @@ ghost use Rattle.credit_ledger.specs.declared.view.View.{View};
 ghost use Rattle.credit_ledger.specs.declared.entry.Cover.{Cover};
 ghost use Rattle.credit_ledger.specs.Entries.{entry_fault, IsSpanHeld};
 ghost use Rattle.credit_ledger.specs.Histories.{entries_after, IsPossible, IsLegal, IsOver};
-ghost use Rattle.credit.specs.Shares.{give_half};
+ghost use Rattle.credit_ledger.specs.Shares.{give_half};
 ghost use Rattle.credit_ledger.specs.Seats.{seat_calls, newcomer, halved, told_of, joined_of, with_given, with_number, with_ticket, turn_taken, IsLater, HasTurn, IsCopy, Extends, AreClaims, AreSeatsApart, HasCallsOf, claim_of};
 
 use crate::entry::{Cover, Entry, Span};

@@ -1,6 +1,6 @@
 //! What a seat of the shared ledger knows: types for contracts alone, of which no value is made.
+use crate::Half;
 use crate::entry::Entry;
-use credit::Half;
 use std::collections::LinkedList;
 
 /// A call on a ledger.

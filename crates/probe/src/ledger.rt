@@ -1,7 +1,7 @@
 //! A ledger of finished tasks, by commands.
 use crate::again::{again, tell_refused};
 use crate::shares::path_of;
-use crate::standard_input::text_of_input;
+use crate::standard_input::{text_of_input, words_of};
 use anyhow::{Result, bail};
 use credit_ledger::{Cover, Entry, Ledger, LedgerFault, Span};
 use ompt_events::{Part, Path};
@@ -21,20 +21,9 @@ pub fn each(rt: &HostRuntime) -> Result<()> {
     Ok(())
 }
 
-/// Returns the first seven words of the text; those that it lacks are empty.
-fn words_of(text: &str) -> [&str; 7] {
-    let mut words = [""; 7];
-    for (place, word) in text.split(' ').take(7).enumerate() {
-        if let Some(slot) = words.get_mut(place) {
-            *slot = word;
-        }
-    }
-    words
-}
-
 /// Prints what a command answers.
-fn answer(rt: &HostRuntime, ledger: &mut Ledger, words: [&str; 7]) -> Result<()> {
-    let [verb, first, second, third, fourth, fifth, sixth] = words;
+fn answer(rt: &HostRuntime, ledger: &mut Ledger, words: [&str; 8]) -> Result<()> {
+    let [verb, first, second, third, fourth, fifth, sixth, _] = words;
     match verb {
         "new" => renewed(rt, ledger),
         "len" => Ok(println!(rt; "{}", ledger.len())?),
@@ -89,7 +78,7 @@ fn held_from(rt: &HostRuntime, ledger: &Ledger, words: [&str; 4]) -> Result<()> 
 }
 
 /// Returns the entry of thread 0 and task 2 with this claim and part.
-fn entry_of(alloc: Global, root: &str, path: &str, kept: &str, part: &str) -> Result<Entry> {
+pub fn entry_of(alloc: Global, root: &str, path: &str, kept: &str, part: &str) -> Result<Entry> {
     let part = match part {
         "body" => Part::Body,
         "event" => Part::Event,
@@ -105,7 +94,8 @@ fn entry_of(alloc: Global, root: &str, path: &str, kept: &str, part: &str) -> Re
     })
 }
 
-fn span_of(alloc: Global, root: &str, path: &str, from: &str, to: &str) -> Result<Span> {
+/// Returns the span of these words.
+pub fn span_of(alloc: Global, root: &str, path: &str, from: &str, to: &str) -> Result<Span> {
     Ok(Span {
         from: from.parse()?,
         to: to.parse()?,
@@ -114,7 +104,8 @@ fn span_of(alloc: Global, root: &str, path: &str, from: &str, to: &str) -> Resul
     })
 }
 
-fn cover_of(word: &str) -> Result<Cover> {
+/// Returns the cover of this name.
+pub fn cover_of(word: &str) -> Result<Cover> {
     match word {
         "children" => Ok(Cover::Children),
         "descendants" => Ok(Cover::Descendants),
@@ -142,7 +133,7 @@ fn entered(rt: &HostRuntime, ledger: &mut Ledger, entry: Entry) -> Result<()> {
 }
 
 /// Enters the entry, whose path may be longer than a trace's.
-fn enter(ledger: &mut Ledger, entry: Entry) -> Result<Result<u32, (Entry, LedgerFault)>> {
+pub fn enter(ledger: &mut Ledger, entry: Entry) -> Result<Result<u32, (Entry, LedgerFault)>> {
     if entry.path.as_slice().len() > 1_024 {
         bail!("the path has more than 1,024 numbers");
     }
@@ -150,7 +141,7 @@ fn enter(ledger: &mut Ledger, entry: Entry) -> Result<Result<u32, (Entry, Ledger
 }
 
 /// Prints the index, or the fault.
-fn tell(rt: &HostRuntime, answer: Result<u32, (Entry, LedgerFault)>) -> Result<()> {
+pub fn tell(rt: &HostRuntime, answer: Result<u32, (Entry, LedgerFault)>) -> Result<()> {
     match answer {
         Ok(index) => println!(rt; "{index}")?,
         Err((_, fault)) => println!(rt; "{fault:?}")?,

@@ -1,9 +1,10 @@
-//! Prints what calls of the libraries answer that the program `taskaudit` does not show, for `tests/`.
-//! Nothing is promised but safety.
+//! Prints what calls of the libraries answer that the program `taskaudit` does not show, for `tests/`; and runs
+//! one layer alone or measures calls, for `bench/`. Nothing is promised but safety.
 //!
-//! A word says which calls; most take a trace file or commands on standard input. The calls of recorders are
-//! those of `recorder_probe`. Begin at `run`. `standard_input` reads standard input; `again` makes a call that is
-//! refused memory once more; each other module has the calls of one library, or of several workers.
+//! A word says which calls; most take a trace file or commands on standard input. Begin at `run`.
+//! `standard_input` reads standard input; `again` makes a call that is refused memory once more; `recorders` has
+//! the calls of recorders, `stopwatch` what `bench/` measures, and each other module the calls of one library, or
+//! of several workers.
 #![tactic(auto)]
 
 mod again;
@@ -13,6 +14,7 @@ mod gates;
 mod in_turns;
 mod ledger;
 mod names;
+mod recorders;
 mod refusals;
 mod script;
 mod seats;
@@ -21,6 +23,7 @@ mod shares;
 mod slow;
 mod standard_input;
 mod states;
+mod stopwatch;
 mod tables;
 mod threads;
 mod tree;
@@ -33,8 +36,9 @@ use std::env;
 
 const WORDS: &str =
     "write, lines, lines_with_turns, scripts, turns, names, tables, shares, states, ledger, \
-     refusals, tree, edges, verdict, counters, waits, seats, shared, devices, workers N GATE [REFUSED] \
-     or blocks N SIZE";
+     refusals, tree, edges, verdict, counters, waits, seats, shared, recorders, devices, \
+     workers N GATE [REFUSED], blocks N SIZE, program TASKS THREADS SEED [hasty], stopwatch LAYER or \
+     stopwatch WORK COUNT THREADS";
 
 /// Makes the calls that the word names.
 fn run(rt: &HostRuntime, word: &str) -> Result<()> {
@@ -68,6 +72,7 @@ fn main(rt: HostRuntime) -> Result<()> {
     match (word.as_str(), words.next(), words.next()) {
         ("shared", ..) => shared::each(&rt),
         ("seats", ..) => seats::each(&rt),
+        ("recorders", ..) => recorders::each(&rt),
         ("devices", ..) => devices::all(&rt, &standard_input::input(&rt)?),
         ("workers", Some(count), Some(gate)) => {
             let refused = words.next();
@@ -77,6 +82,13 @@ fn main(rt: HostRuntime) -> Result<()> {
         ("blocks", Some(count), Some(size)) => {
             workers::rewritten(&rt, count.parse()?, size.parse()?)
         }
+        ("program", Some(tasks), Some(threads)) => {
+            recorders::program(&rt, tasks.parse()?, threads.parse()?, words)
+        }
+        ("stopwatch", Some(work), Some(count)) => {
+            stopwatch::timed(&rt, work.as_str(), count.parse()?, words)
+        }
+        ("stopwatch", Some(word), None) => stopwatch::run(&rt, word.as_str()),
         (word, ..) => run(&rt, word),
     }
 }

@@ -32,9 +32,14 @@ pub fn trace_of_input(rt: &HostRuntime) -> Result<Trace> {
     trace_of(rt.alloc(), input(rt)?.as_slice())
 }
 
+/// Returns the trace that stands on standard input, which is read block by block. Fails where it cannot be read.
+pub fn read_trace(rt: &HostRuntime) -> Result<Trace> {
+    Ok(read(rt.alloc(), &mut FromRead::new(rt.reader()))?)
+}
+
 /// Reads the records of standard input, and writes them to standard output.
 pub fn rewrite(rt: &HostRuntime) -> Result<()> {
-    let trace = read(rt.alloc(), &mut FromRead::new(rt.reader()))?;
+    let trace = read_trace(rt)?;
     write(rt.alloc(), &trace, &mut ToWrite::new(io::writer(rt)))?;
     Ok(())
 }
@@ -71,9 +76,20 @@ fn trace_of(alloc: Global, file: &[u8]) -> Result<Trace> {
     }
 }
 
+/// Returns the first eight words of a line; those that it lacks are empty.
+pub fn words_of(line: &str) -> [&str; 8] {
+    let mut words = [""; 8];
+    for (place, word) in line.split(' ').take(8).enumerate() {
+        if let Some(slot) = words.get_mut(place) {
+            *slot = word;
+        }
+    }
+    words
+}
+
 /// Returns the first part of the bytes that this byte ends, without it, and the bytes after it; none where
 /// no such byte is left.
-fn split_part(bytes: &[u8], end: u8) -> Option<(&[u8], &[u8])> {
+pub fn split_part(bytes: &[u8], end: u8) -> Option<(&[u8], &[u8])> {
     let at = memchr(end, bytes)?;
     if at >= bytes.len() {
         return None;

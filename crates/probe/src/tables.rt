@@ -2,7 +2,7 @@
 use anyhow::Result;
 use certificate::{DeviceFault, ReadCause, ReadFault, WriteFault};
 use checker::CheckFault;
-use credit::CreditFault;
+use credit_ledger::CreditFault;
 use ompt_events::{DepKind, State, Status, conflicts};
 use task_states::{discard_state, next_state, start_state};
 

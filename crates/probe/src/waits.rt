@@ -6,11 +6,10 @@ use crate::again::again;
 use crate::standard_input::traces_of_input;
 use crate::tree::built;
 use anyhow::{Result, bail};
-use credit_ledger::Ledger;
+use credit_ledger::{Ledger, ledger_of};
 use ompt_events::Trace;
 use task_states::{StateFault, States, run};
 use task_tree::Tree;
-use trace_ledger::ledger_of;
 use wait_coverage::{CoverFault, Coverage};
 
 /// Prints for each of the trace files that stand one after another on standard input: each end of a wait,

@@ -2,9 +2,9 @@
 use Rattle.std.proofs.Common.{ℕ, List, Option}
 use Rattle.std.specs.Io.KnownBytes.{Keeps}
 use Rattle.scripts.specs.Scripts.{ScriptView}
-use Rattle.script_runs.specs.Runs.{IsRunFault}
-use Rattle.script_runs.specs.declared.fault.RunFault.{RunFault}
-use Rattle.script_runs.specs.declared.fault.RunFault.TheVariants.{Memory, Thread, Call}
+use Rattle.scripts.specs.Runs.{IsRunFault}
+use Rattle.scripts.specs.declared.run_fault.RunFault.{RunFault}
+use Rattle.scripts.specs.declared.run_fault.RunFault.TheVariants.{Memory, Thread, Call}
 use Rattle.taskaudit.specs.Recordings.{ReadsAs, LeavesRecording, fault_of_run}
 
 pub run_leaves : (bytes old : Option (List ℕ)) (script : ScriptView) (fault : RunFault)

@@ -7,11 +7,11 @@ use Rattle.certificate.specs.Reading.{IsToldIn}
 use Rattle.certificate.specs.ScriptFiles.{scripts}
 use Rattle.certificate.specs.TraceTexts.{trace_text}
 use Rattle.checker.specs.declared.verdict.CheckFault.TheVariants as check
-use Rattle.recorder.specs.declared.fault.CallFault.{CallFault}
+use Rattle.callbacks.specs.declared.fault.CallFault.{CallFault}
 use Rattle.scripts.specs.Scripts.{ScriptView}
-use Rattle.script_runs.specs.Runs.{IsRunOf, IsRunFault}
-use Rattle.script_runs.specs.declared.fault.RunFault.{RunFault}
-use Rattle.script_runs.specs.declared.fault.RunFault.TheVariants as run
+use Rattle.scripts.specs.Runs.{IsRunOf, IsRunFault}
+use Rattle.scripts.specs.declared.run_fault.RunFault.{RunFault}
+use Rattle.scripts.specs.declared.run_fault.RunFault.TheVariants as run
 use Rattle.taskaudit.specs.declared.work.AuditFault.{AuditFault}
 use Rattle.taskaudit.specs.declared.work.AuditFault.TheVariants.{Read, Write, Check, Call, Upgrade, Memory}
 

@@ -21,8 +21,8 @@ use Rattle.certificate.specs.FaultNames.{write_fault_number}
 use Rattle.lines.specs.CauseNames.{read_cause_number, read_cause_name}
 use Rattle.certificate.specs.FaultNames.{write_fault_name, upgrade_fault_number, upgrade_fault_name}
 use Rattle.checker.specs.declared.verdict.CheckFault.TheVariants as check
-use Rattle.recorder.specs.declared.fault.CallFault.{CallFault}
-use Rattle.recorder.specs.declared.fault.CallFault.TheVariants as call
+use Rattle.callbacks.specs.declared.fault.CallFault.{CallFault}
+use Rattle.callbacks.specs.declared.fault.CallFault.TheVariants as call
 use Rattle.taskaudit.specs.declared.work.Outcome.{Outcome}
 use Rattle.taskaudit.specs.declared.work.Outcome.TheVariants as outcome
 use Rattle.taskaudit.specs.declared.work.AuditFault.{AuditFault}

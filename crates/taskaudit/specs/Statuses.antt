@@ -8,8 +8,8 @@ use Rattle.certificate.specs.declared.faults.UpgradeFault.{UpgradeFault}
 use Rattle.certificate.specs.declared.faults.UpgradeFault.TheVariants as upgrade
 use Rattle.clap.specs.declared.error.kind.ErrorKind.{ErrorKind}
 use Rattle.clap.specs.declared.error.kind.ErrorKind.TheVariants.{DisplayHelp, DisplayVersion, OutOfMemory}
-use Rattle.recorder.specs.declared.fault.CallFault.{CallFault}
-use Rattle.recorder.specs.declared.fault.CallFault.TheVariants as call
+use Rattle.callbacks.specs.declared.fault.CallFault.{CallFault}
+use Rattle.callbacks.specs.declared.fault.CallFault.TheVariants as call
 use Rattle.taskaudit.specs.declared.work.Done.{Done}
 use Rattle.taskaudit.specs.declared.work.Done.TheVariants.{Judged, Written}
 use Rattle.taskaudit.specs.declared.work.Outcome.{Outcome}

@@ -6,7 +6,7 @@ ghost use Rattle.taskaudit.specs.Recordings.{IsScriptReadRightly, LeavesRecordin
 use crate::work::AuditFault;
 use certificate::{Sink, Source, read_script, write};
 use checker::CheckFault;
-use script_runs::{RunFault, run};
+use scripts::{RunFault, run};
 use std::alloc::Global;
 use std::sync::Wait;
 use std::thread::Threads;

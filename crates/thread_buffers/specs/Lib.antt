@@ -1,2 +1,2 @@
--- What contracts see of a buffer. There is one module, Buffers.
+-- The definitions of buffers, under the name of a crate of their own.
 pub mod Buffers

@@ -1,9 +1,4 @@
-//! A buffer for each thread that records. Room is reserved before a record is made, so recording it cannot
-//! fail. Read `buffer`: `reserve_one`, then `push_reserved`.
+//! The buffers of `callbacks`, under the name of a crate of their own.
 #![tactic(auto)]
 
-mod buffer;
-mod fault;
-
-pub use buffer::Buffer;
-pub use fault::BufferFault;
+pub use callbacks::{Buffer, BufferFault};

@@ -15,7 +15,7 @@ use Rattle.ompt_events.specs.declared.records.Part.{Part}
 use Rattle.ompt_events.proofs.ListLemmas.{get_contains, contains_get}
 use Rattle.ompt_events.proofs.RegionLemmas.{region_starts_none}
 use Rattle.ompt_events.proofs.TreeLemmas.{children_stay}
-use Rattle.trace_ledger.specs.Entries.{IsDone}
+use Rattle.credit_ledger.specs.TraceEntries.{IsDone}
 
 -- ---- children by their numbers
 

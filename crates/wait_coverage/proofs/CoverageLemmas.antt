@@ -28,7 +28,7 @@ use Rattle.credit_ledger.specs.declared.entry.Span.{Span}
 use Rattle.credit_ledger.specs.declared.entry.Cover.{Cover}
 use Rattle.credit_ledger.specs.declared.entry.Cover.TheVariants.{Children, Descendants}
 use Rattle.credit_ledger.specs.Entries.{IsSpanHeld}
-use Rattle.trace_ledger.specs.Entries.{IsLedgerOf, HasRightEntries}
+use Rattle.credit_ledger.specs.TraceEntries.{IsLedgerOf, HasRightEntries}
 use Rattle.wait_coverage.specs.Spans as spans
 use Rattle.wait_coverage.specs.Spans.{AreSpans, AreMemberSpans, IsSpan, IsCoverComplete}
 use Rattle.task_tree.specs.Own.{OwnView, IsOwn}

@@ -23,7 +23,7 @@ use Rattle.credit_ledger.specs.declared.entry.Cover.{Cover}
 use Rattle.credit_ledger.specs.declared.entry.Cover.TheVariants.{Children, Descendants}
 use Rattle.credit_ledger.specs.Entries.{IsSpanHeld}
 use Rattle.ompt_events.proofs.ListLemmas.{get_contains, contains_get}
-use Rattle.trace_ledger.specs.Entries.{IsLedgerOf, HasRightEntries}
+use Rattle.credit_ledger.specs.TraceEntries.{IsLedgerOf, HasRightEntries}
 use Rattle.teams.specs.Teams.{IsMemberNumbered}
 use Rattle.wait_coverage.specs.Spans.{IsSpan, AreSpans, waited, grouped, synchronised, AreMemberSpans}
 use Rattle.wait_coverage.specs.Spans.{AreHeldAt, IsCoverComplete}
@@ -31,9 +31,9 @@ use Rattle.teams.proofs.RegionEndLemmas.{ends_at, one_region}
 use Rattle.wait_coverage.proofs.CoverLemmas.{child_with, dropped, number_between, done_there, complete_there}
 use Rattle.teams.proofs.BarrierLemmas.{one_number}
 use Rattle.wait_coverage.proofs.MateLemmas.{one_member, number_of_mate, mate_of_number, begin_within}
-use Rattle.trace_ledger.proofs.TreeLaw.{IsKnown, tree_held, tree_done}
-use Rattle.trace_ledger.proofs.PoolLaw.{pool_held, pool_done}
-use Rattle.trace_ledger.proofs.CreditLaw.{known_trace}
+use Rattle.credit_ledger.proofs.TreeLaw.{IsKnown, tree_held, tree_done}
+use Rattle.credit_ledger.proofs.PoolLaw.{pool_held, pool_done}
+use Rattle.credit_ledger.proofs.CreditLaw.{known_trace}
 
 -- ---- a span is held where its children are finished
 

@@ -21,7 +21,7 @@ use Rattle.task_tree.specs.Lineage.{parent_index}
 use Rattle.task_tree.proofs.OnceLemmas.{creation_made}
 use Rattle.task_tree.proofs.FamilyLemmas.{parent_noted}
 use Rattle.task_tree.proofs.LineageLemmas.{parent_at_is, parent_is_at, child_within}
-use Rattle.trace_ledger.specs.Entries.{IsLedgerOf}
+use Rattle.credit_ledger.specs.TraceEntries.{IsLedgerOf}
 use Rattle.wait_coverage.specs.Lengths.{done_length, AreLengthsBy, AreLengths, AreLengthsBelow}
 use Rattle.wait_coverage.specs.Done.{DoneView, records_of, tasks_of, AreFamilyLengths, IsDoneFrom}
 use Rattle.wait_coverage.specs.Done.{AreOwnLengths}

@@ -16,7 +16,7 @@ use Rattle.ompt_events.specs.Coverage.{Covers, IsFamily, waited, grouped, synchr
 use Rattle.ompt_events.proofs.TreeLemmas.{before_child, child_place}
 use Rattle.teams.proofs.RegionEndLemmas.{ends_at}
 use Rattle.wait_coverage.proofs.CoverLemmas.{child_with, number_between}
-use Rattle.trace_ledger.proofs.StandLemmas.{created_child}
+use Rattle.credit_ledger.proofs.StandLemmas.{created_child}
 
 -- a child created before a taskwait began
 pub record IsWaited (rs : List Record) (i task : ℕ) : Type 0 where

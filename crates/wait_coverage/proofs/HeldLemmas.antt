@@ -13,9 +13,9 @@ use Rattle.ompt_events.specs.Records.{creation}
 use Rattle.task_tree.specs.Family.{FamilyView, IsFamilyOf}
 use Rattle.task_tree.proofs.PathLemmas.{root_known}
 use Rattle.credit_ledger.specs.declared.entry.Entry.{Entry}
-use Rattle.trace_ledger.specs.Entries.{IsDone, IsLedgerOf, HasRightEntries}
-use Rattle.trace_ledger.specs.Credits.{IsFamilyDone}
-use Rattle.trace_ledger.proofs.CreditLaw.{held_in_pool, held_in_tree}
+use Rattle.credit_ledger.specs.TraceEntries.{IsDone, IsLedgerOf, HasRightEntries}
+use Rattle.credit_ledger.specs.TraceCredits.{IsFamilyDone}
+use Rattle.credit_ledger.proofs.CreditLaw.{held_in_pool, held_in_tree}
 use Rattle.wait_coverage.specs.Done.{DoneView, records_of, tasks_of, IsEarly, IsFamilyEarly, IsDoneView}
 use Rattle.wait_coverage.specs.Done.{AreDone, AreChildrenDone}
 use Rattle.wait_coverage.specs.Known.{AreHeldFrom}

@@ -21,8 +21,8 @@ use Rattle.index_tables.specs.Numbering.{AreApart}
 use Rattle.task_tree.proofs.LinkLemmas.{get_set_same, get_set_other}
 use Rattle.task_tree.proofs.LookupLemmas.{subject_calls}
 use Rattle.task_tree.proofs.NamedLemmas.{finish_subject, subject_index}
-use Rattle.trace_ledger.specs.Entries.{IsDone, IsLedgerOf}
-use Rattle.trace_ledger.proofs.EntryLemmas.{entry_says, entry_made}
+use Rattle.credit_ledger.specs.TraceEntries.{IsDone, IsLedgerOf}
+use Rattle.credit_ledger.proofs.EntryLemmas.{entry_says, entry_made}
 use Rattle.wait_coverage.specs.declared.lengths.Lengths.{Lengths}
 use Rattle.wait_coverage.specs.Lengths.{never, no_lengths, length_of, with_length, done_length, AreLeast}
 use Rattle.wait_coverage.specs.Lengths.{AreLengthsBy, AreLengths, AreLengthsBelow}

@@ -15,7 +15,7 @@ use Rattle.task_tree.specs.Families.{IsOwnOf}
 use Rattle.task_tree.proofs.ShownLemmas.{own_record}
 use Rattle.task_tree.proofs.OwnRunLemmas.{own_says, own_covers, place_of_number, number_of_place}
 use Rattle.teams.proofs.RegionEndLemmas.{EndsAt, ends_at}
-use Rattle.trace_ledger.specs.Entries.{IsDone}
+use Rattle.credit_ledger.specs.TraceEntries.{IsDone}
 use Rattle.wait_coverage.specs.Spans.{IsCoverComplete}
 use Rattle.wait_coverage.specs.Waits.{IsCoveredUnfinished, IsFirstCoveredUnfinished}
 use Rattle.wait_coverage.specs.Shown.{IsUnfinishedShown, IsCompleteShown, IsFirstUnfinishedShown}

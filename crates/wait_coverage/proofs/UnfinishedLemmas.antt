@@ -20,7 +20,7 @@ use Rattle.teams.specs.Teams.{own_of}
 use Rattle.ompt_events.proofs.TreeLemmas.{child_before}
 use Rattle.credit_ledger.specs.declared.entry.Cover.{Cover}
 use Rattle.credit_ledger.specs.declared.entry.Cover.TheVariants.{Children, Descendants}
-use Rattle.trace_ledger.specs.Entries.{IsDone}
+use Rattle.credit_ledger.specs.TraceEntries.{IsDone}
 use Rattle.wait_coverage.specs.Spans.{IsCoverComplete}
 use Rattle.wait_coverage.specs.Done.{DoneView, records_of, tasks_of, IsDoneView, AreChildrenDone}
 use Rattle.wait_coverage.specs.Limits.{IsEndLimit, IsEndLeast}
@@ -36,8 +36,8 @@ use Rattle.wait_coverage.specs.declared.waits.Wait.TheVariants.{Barrier as ForBa
 use Rattle.teams.proofs.BarrierLemmas.{one_number, barrier_is_other}
 use Rattle.teams.proofs.RegionEndLemmas.{EndsAt, ends_at, one_region}
 use Rattle.wait_coverage.proofs.CoverLemmas.{child_with, child_stays, dropped, done_there, complete_there}
-use Rattle.trace_ledger.proofs.CompleteLemmas.{done_or_not}
-use Rattle.trace_ledger.proofs.StandLemmas.{created_child}
+use Rattle.credit_ledger.proofs.CompleteLemmas.{done_or_not}
+use Rattle.credit_ledger.proofs.StandLemmas.{created_child}
 use Rattle.wait_coverage.proofs.EndCoverLemmas.{covers_cases}
 
 -- ---- what is waited for is what is covered

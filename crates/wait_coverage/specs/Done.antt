@@ -8,7 +8,7 @@ use Rattle.ompt_events.specs.Coverage.{IsFamily}
 use Rattle.task_tree.specs.Family.{FamilyView}
 use Rattle.task_tree.specs.Lineage.{parent_index, depth_in}
 use Rattle.teams.specs.Teams.{TeamsView, IsTeams}
-use Rattle.trace_ledger.specs.Entries.{IsDone}
+use Rattle.credit_ledger.specs.TraceEntries.{IsDone}
 
 -- the view of the lengths of tasks: by index of the task a ledger length of its own, and one of the task
 -- and all its descendants

@@ -2,8 +2,8 @@
 use Rattle.std.specs.Prelude.{ℕ, ◌≡◌, ◌<◌, ◌≤◌, ◌^◌, ◌↔◌, List, Some, slice_get, take}
 use Rattle.ompt_events.specs.Tree.{HasPath, IsChild}
 use Rattle.credit_ledger.specs.declared.entry.Entry.{Entry}
-use Rattle.trace_ledger.specs.Entries.{IsLedgerOf}
-use Rattle.trace_ledger.specs.Credits.{IsHeldInTree, IsHeldInPool}
+use Rattle.credit_ledger.specs.TraceEntries.{IsLedgerOf}
+use Rattle.credit_ledger.specs.TraceCredits.{IsHeldInTree, IsHeldInPool}
 use Rattle.wait_coverage.specs.Done.{DoneView, records_of, tasks_of}
 use Rattle.wait_coverage.specs.Limits.{AreEndLimits}
 use Rattle.wait_coverage.specs.declared.limits.Node.{Node}

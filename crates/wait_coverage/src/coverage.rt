@@ -12,7 +12,7 @@ ghost use Rattle.teams.specs.Teams.{own_of};
 ghost use Rattle.credit_ledger.specs.declared.entry.Span.{Span};
 ghost use Rattle.credit_ledger.specs.declared.entry.Cover.{Cover};
 ghost use Rattle.credit_ledger.specs.Entries.{IsSpanHeld};
-ghost use Rattle.trace_ledger.specs.Entries.{IsLedgerOf, HasRightEntries};
+ghost use Rattle.credit_ledger.specs.TraceEntries.{IsLedgerOf, HasRightEntries};
 ghost use Rattle.wait_coverage.specs.declared.waits.Wait.TheVariants.{Barrier};
 ghost use Rattle.wait_coverage.specs.Spans.{AreSpans, AreMemberSpans, IsSpan, IsCoverComplete};
 ghost use Rattle.wait_coverage.specs.Waits.{IsWaitAt, cover_of};

@@ -5,7 +5,7 @@ ghost use Rattle.ompt_events.specs.Regions.{IsRegion};
 ghost use Rattle.task_states.specs.Regions.{IsRegionBegin};
 ghost use Rattle.task_tree.specs.Lineage.{parent_index};
 ghost use Rattle.teams.specs.Missed.{IsBarrierEnd, EndsNoBarrier};
-ghost use Rattle.trace_ledger.specs.Entries.{IsLedgerOf};
+ghost use Rattle.credit_ledger.specs.TraceEntries.{IsLedgerOf};
 ghost use Rattle.wait_coverage.specs.Done.{IsDoneView, AreDone, AreRaised, IsParentsFirst, raised};
 ghost use Rattle.wait_coverage.specs.Lengths.{done_length};
 

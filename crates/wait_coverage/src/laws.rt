@@ -10,7 +10,7 @@ ghost use Rattle.task_tree.specs.Families.{IsOwnOf};
 ghost use Rattle.credit_ledger.specs.declared.entry.Entry.{Entry};
 ghost use Rattle.credit_ledger.specs.declared.entry.Span.{Span};
 ghost use Rattle.credit_ledger.specs.declared.entry.Cover.{Cover};
-ghost use Rattle.trace_ledger.specs.Entries.{IsLedgerOf, HasRightEntries};
+ghost use Rattle.credit_ledger.specs.TraceEntries.{IsLedgerOf, HasRightEntries};
 ghost use Rattle.wait_coverage.specs.Spans.{AreSpans, AreHeldAt, IsCoverComplete};
 ghost use Rattle.wait_coverage.specs.Waits.{IsFirstCoveredUnfinished};
 ghost use Rattle.wait_coverage.specs.Shown.{IsCompleteShown, IsFirstUnfinishedShown};
@@ -20,7 +20,7 @@ ghost use Rattle.wait_coverage.specs.Shown.{IsCompleteShown, IsFirstUnfinishedSh
 /// its parent's pool for a taskwait, in the tree for the others (F. Mattern, 1989: work is over exactly where
 /// all of its credit has come back). Requires that the trace has right entries, and that each team and
 /// barrier has all its members. A trace without the causes 1 to 13 is such a one
-/// (`trace_ledger::laws::entries_are_right`).
+/// (`credit_ledger::trace_laws::entries_are_right`).
 pub fn held_is_complete()
     ensures { (rs : List Record) (entries : List Entry) (i : ℕ) (cover : Cover) (spans : List Span)
         → IsTrace rs → HasRightEntries rs → IsFreeOf rs TeamShort → IsLedgerOf rs entries

@@ -2,7 +2,7 @@
 //! a ledger.
 ghost use Rattle.std.specs.Prelude.{◌≡◌, ◌<◌, ◌+◌, List, Some, IfOk, length, replicate, slice_get};
 ghost use Rattle.credit_ledger.specs.declared.entry.Entry.{Entry};
-ghost use Rattle.trace_ledger.specs.Entries.{IsLedgerOf};
+ghost use Rattle.credit_ledger.specs.TraceEntries.{IsLedgerOf};
 ghost use Rattle.wait_coverage.specs.Lengths.{no_lengths, with_length, done_length, AreLengths, AreLengthsBelow};
 
 use credit_ledger::{Entry, Ledger};

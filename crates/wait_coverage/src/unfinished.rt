@@ -4,7 +4,7 @@ ghost use Rattle.std.specs.Prelude.{◌≡◌, ◌<◌, ◌↔◌, List, IfOk, I
 ghost use Rattle.ompt_events.specs.Places.{seen_at};
 ghost use Rattle.ompt_events.specs.declared.fault.Fault.TheVariants.{Memory};
 ghost use Rattle.teams.specs.Teams.{own_of};
-ghost use Rattle.trace_ledger.specs.Entries.{HasRightEntries, IsLedgerOf};
+ghost use Rattle.credit_ledger.specs.TraceEntries.{HasRightEntries, IsLedgerOf};
 ghost use Rattle.wait_coverage.specs.Done.{IsDoneView, AreDone, AreChildrenDone};
 ghost use Rattle.wait_coverage.specs.Known.{AreHeldFrom, AreCreditLengths};
 ghost use Rattle.wait_coverage.specs.Limits.{IsEndLeast, IsEndLimit};
@@ -149,7 +149,8 @@ pub fn find_unfinished(alloc: Global, known: &Known, number: usize) -> Result<Op
 }
 
 /// Returns, of the tasks that the end with this number covers and that are unfinished there, the one
-/// created first in the file.
+/// created first in the file. Inlined into the loop over all ends.
+#[inline(always)]
 pub(crate) fn unfinished_at(
     alloc: Global,
     known: &Known,
@@ -231,7 +232,8 @@ pub fn covers_unfinished(
 }
 
 /// Returns what the end with this number waits for, unless its limit shows that all of it is finished
-/// there.
+/// there. Inlined with `unfinished_at`.
+#[inline(always)]
 fn unmet_wait(known: &Known, number: usize) -> Option<Wait>
     requires { number < length known.now.done.teams.run.records }
     ensures { MatchOption result

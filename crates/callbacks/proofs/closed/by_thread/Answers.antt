@@ -1,6 +1,6 @@
 use Rattle.std.proofs.Common.{rules, ℕ}
 use Rattle.std.proofs.lemmas.List.Sorted.{IsNonDecreasingBy-from_sort, answers_always}
-use Rattle.thread_buffers.specs.Buffers.{BufferView}
+use Rattle.callbacks.specs.Buffers.{BufferView}
 use Rattle.callbacks.proofs.closed.by_thread.Goals as goal
 
 pub returns-clause-sorted : goal.returns-clause-sorted

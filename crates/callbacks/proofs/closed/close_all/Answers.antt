@@ -6,8 +6,8 @@ use Rattle.credit_ledger.specs.declared.shared.Seat.{Seat}
 use Rattle.credit_ledger.specs.declared.view.Step.{Step}
 use Rattle.credit_ledger.specs.Places.{ledger_id, view_of}
 use Rattle.credit_ledger.specs.Seats.{AreClaims, AreSeatsApart, HasCallsOf}
-use Rattle.thread_buffers.specs.Buffers.{BufferView}
-use Rattle.recorder.specs.Recorders.{RecorderView}
+use Rattle.callbacks.specs.Buffers.{BufferView}
+use Rattle.callbacks.specs.Recorders.{RecorderView}
 use Rattle.callbacks.specs.Closed.{AreParts, thread_of}
 use Rattle.callbacks.proofs.MadeLemmas.{all-made}
 use Rattle.callbacks.proofs.ClosedLemmas.{parts-claims, parts-seen, parts-threads, parts-seats}

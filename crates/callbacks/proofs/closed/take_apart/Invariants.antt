@@ -1,7 +1,7 @@
 use Rattle.std.proofs.Common.{◌≡◌, ◌++◌, ◌+◌, ◌≤◌, List, length}
 use Rattle.std.specs.Prelude.{reverse}
 use Rattle.std.specs.Vec.{vec_capacity}
-use Rattle.recorder.specs.Recorders.{RecorderView}
+use Rattle.callbacks.specs.Recorders.{RecorderView}
 use Rattle.callbacks.specs.Closed.{AreParts}
 use Rattle.callbacks.proofs.closed.take_apart.Given as goal
 

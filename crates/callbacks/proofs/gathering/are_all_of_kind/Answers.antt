@@ -3,7 +3,7 @@ use Rattle.std.specs.Prelude.{slice_get}
 use Rattle.std.proofs.lemmas.Bool.{false≢true, cases_lt}
 use Rattle.std.proofs.lemmas.Option.{slice_get_within, slice_get-get_or, same_Some}
 use Rattle.ompt_events.specs.declared.records.Record.{Record}
-use Rattle.recorder.specs.Logs.{AreOfKind}
+use Rattle.callbacks.specs.Logs.{AreOfKind}
 use Rattle.callbacks.proofs.GatherLemmas.{all_gathered, all_of_buffer}
 use Rattle.callbacks.proofs.gathering.are_all_of_kind.Goals as goal
 

@@ -1,7 +1,7 @@
 use Rattle.std.proofs.Common.{◌≡◌, ◌<◌, ℕ, Some}
 use Rattle.std.specs.Prelude.{slice_get}
-use Rattle.thread_buffers.specs.Buffers.{BufferView}
-use Rattle.recorder.specs.Logs.{AreOfKind}
+use Rattle.callbacks.specs.Buffers.{BufferView}
+use Rattle.callbacks.specs.Logs.{AreOfKind}
 use Rattle.callbacks.proofs.gathering.are_all_of_kind.Given as goal
 
 -- those before are of the kind

@@ -1,6 +1,6 @@
 use Rattle.std.proofs.Common.{◌≡◌, ◌<◌, ◌+◌, ℕ, Some}
 use Rattle.std.specs.Prelude.{◌≢◌, slice_get}
-use Rattle.thread_buffers.specs.Buffers.{BufferView}
+use Rattle.callbacks.specs.Buffers.{BufferView}
 use Rattle.callbacks.proofs.gathering.are_apart.Given as goal
 
 -- those before differ from the ones next to them

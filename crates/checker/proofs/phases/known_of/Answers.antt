@@ -1,7 +1,7 @@
 use Rattle.std.proofs.Common.{◌∙◌, sym, ap, subst}
 use Rattle.task_tree.specs.Own.{OwnView}
 use Rattle.teams.specs.Teams.{own_of}
-use Rattle.trace_ledger.specs.Entries.{HasRightEntries}
+use Rattle.credit_ledger.specs.TraceEntries.{HasRightEntries}
 use Rattle.checker.proofs.phases.known_of.Goals as goal
 
 pub returns-clause-known : goal.returns-clause-known

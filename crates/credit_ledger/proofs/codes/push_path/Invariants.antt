@@ -1,5 +1,5 @@
 use Rattle.std.proofs.Common.{◌≡◌, ◌≤◌, ◌*◌, ◌^◌, ◌++◌, take, length}
-use Rattle.credit.specs.Shares.{start_share}
+use Rattle.credit_ledger.specs.Shares.{start_share}
 use Rattle.credit_ledger.proofs.codes.push_path.Given as goal
 
 abbrev pub invariant-numbers : goal.invariant-numbers

@@ -1,5 +1,5 @@
 use Rattle.std.proofs.Common.{◌≡◌, true, ◌∙◌, ap}
-use Rattle.credit.specs.Shares.{overlaps_either}
+use Rattle.credit_ledger.specs.Shares.{overlaps_either}
 use Rattle.credit_ledger.specs.Entries.{tree_share, parent_and_number}
 use Rattle.credit_ledger.specs.Codes.{tree_code, second_code}
 use Rattle.credit_ledger.proofs.LedgerLemmas.{overlaps_either-entry}

@@ -1,5 +1,5 @@
 use Rattle.std.proofs.Common.{◌≡◌, length}
-use Rattle.trace_ledger.specs.Entries.{IsLedgerOf}
+use Rattle.credit_ledger.specs.TraceEntries.{IsLedgerOf}
 use Rattle.wait_coverage.specs.Lengths.{AreLengthsBelow}
 use Rattle.wait_coverage.proofs.lengths.find_entered.Given as goal
 

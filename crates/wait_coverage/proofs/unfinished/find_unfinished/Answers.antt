@@ -1,4 +1,4 @@
-use Rattle.trace_ledger.proofs.ThereLemmas.{ledger_there}
+use Rattle.credit_ledger.proofs.ThereLemmas.{ledger_there}
 use Rattle.wait_coverage.specs.Done.{records_of}
 use Rattle.wait_coverage.proofs.HeldLemmas.{held_children_done, own_children_done}
 use Rattle.wait_coverage.proofs.unfinished.find_unfinished.Goals as goal

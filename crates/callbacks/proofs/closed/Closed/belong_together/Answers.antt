@@ -1,5 +1,5 @@
 use Rattle.std.proofs.Common.{subst}
-use Rattle.recorder.specs.Logs.{AreOfKind}
+use Rattle.callbacks.specs.Logs.{AreOfKind}
 use Rattle.callbacks.specs.Gathered.{gathered, HaveOwnThreads}
 use Rattle.callbacks.proofs.PairLaw.{as_many_pair}
 use Rattle.callbacks.proofs.closed.Closed.belong_together.Goals as goal

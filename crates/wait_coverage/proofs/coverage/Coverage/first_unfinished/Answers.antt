@@ -1,6 +1,6 @@
 use Rattle.std.proofs.Common.{◌∙◌, sym, subst}
 use Rattle.teams.specs.Teams.{TeamsView}
-use Rattle.trace_ledger.specs.Entries.{IsLedgerOf}
+use Rattle.credit_ledger.specs.TraceEntries.{IsLedgerOf}
 use Rattle.wait_coverage.proofs.CoverageLemmas.{one_number_of, first_of_unfinished}
 use Rattle.wait_coverage.proofs.coverage.Coverage.first_unfinished.Goals as goal
 

@@ -1,7 +1,7 @@
 use Rattle.std.proofs.Common.{◌∙◌, get_or, sym, subst}
 use Rattle.std.proofs.lemmas.Option.{slice_get-get_or}
 use Rattle.teams.specs.Teams.{TeamsView}
-use Rattle.trace_ledger.specs.Entries.{IsLedgerOf}
+use Rattle.credit_ledger.specs.TraceEntries.{IsLedgerOf}
 use Rattle.wait_coverage.proofs.CoverageLemmas.{none_asked, one_number_of, one_more, first_of_unfinished}
 use Rattle.wait_coverage.proofs.coverage.Coverage.first_unfinished_all.Goals as goal
 

@@ -1,4 +1,4 @@
-use Rattle.trace_ledger.specs.Entries.{IsLedgerOf, HasRightEntries}
+use Rattle.credit_ledger.specs.TraceEntries.{IsLedgerOf, HasRightEntries}
 use Rattle.wait_coverage.specs.Coverage.{AreFirstUnfinished}
 use Rattle.wait_coverage.proofs.coverage.Coverage.first_unfinished_all.Given as goal
 

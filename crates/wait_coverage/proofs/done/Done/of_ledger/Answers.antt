@@ -3,7 +3,7 @@ use Rattle.std.proofs.Common.{◌≡◌, ◌∙◌, length, sym, ap, subst}
 use Rattle.std.specs.Prelude.{map}
 use Rattle.teams.specs.Teams.{TeamsView}
 use Rattle.task_tree.specs.Runs.{RunView}
-use Rattle.trace_ledger.specs.Entries.{IsLedgerOf}
+use Rattle.credit_ledger.specs.TraceEntries.{IsLedgerOf}
 use Rattle.wait_coverage.specs.Lengths.{done_length, AreLengthsBelow}
 use Rattle.wait_coverage.specs.Done.{AreDone, AreOwnLengths}
 use Rattle.wait_coverage.proofs.DoneLemmas.{ok_both, own_of_entries}

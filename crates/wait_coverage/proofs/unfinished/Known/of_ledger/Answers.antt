@@ -1,5 +1,5 @@
 use Rattle.std.proofs.Common.{◌∙◌, sym, ap, subst}
-use Rattle.trace_ledger.specs.Entries.{HasRightEntries, IsLedgerOf}
+use Rattle.credit_ledger.specs.TraceEntries.{HasRightEntries, IsLedgerOf}
 use Rattle.teams.specs.Teams.{TeamsView}
 use Rattle.wait_coverage.specs.Done.{DoneView, AreDone}
 use Rattle.wait_coverage.proofs.HeldLemmas.{held_from}

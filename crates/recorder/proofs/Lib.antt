@@ -1,4 +1,0 @@
-pub mod BegunLemmas
-pub mod LogLemmas
-pub mod RecorderLemmas
-pub mod CreditLemmas

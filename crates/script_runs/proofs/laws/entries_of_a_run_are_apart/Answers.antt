@@ -1,5 +1,0 @@
-use Rattle.script_runs.proofs.TilingLemmas.{entries_apart}
-use Rattle.script_runs.proofs.laws.entries_of_a_run_are_apart.Goals as goal
-
-pub returns : goal.returns
-returns c = entries_apart

@@ -1,5 +1,0 @@
-use Rattle.std.proofs.Common.{length}
-use Rattle.script_runs.proofs.running.+run_below.Given as goal
-
-abbrev pub decreases-run_below : goal.decreases-run_below
-decreases-run_below g l = length l.seats.items

@@ -1,6 +1,0 @@
-use Rattle.std.proofs.Common.{◌≡◌, length}
-use Rattle.script_runs.proofs.shared.conditions.Given as goal
-
--- so many conditions are made
-abbrev pub invariant-loop : goal.invariant-loop
-invariant-loop l = length l.conditions.items ≡ l.counter

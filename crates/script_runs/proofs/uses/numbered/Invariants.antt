@@ -1,6 +1,0 @@
-use Rattle.script_runs.proofs.UseLemmas.{AreMade}
-use Rattle.script_runs.proofs.uses.numbered.Given as goal
-
--- the tasks that the steps so far make
-abbrev pub invariant-loop-step : goal.invariant-loop-step
-invariant-loop-step l = AreMade l.steps l.step-index l.made.items

@@ -1,6 +1,0 @@
-use Rattle.std.proofs.Common.{◌≡◌}
-use Rattle.stopwatch.proofs.recorder_calls.finishes.Given as goal
-
--- the recorder stays at its ledger
-abbrev pub invariant-tasks : goal.invariant-tasks
-invariant-tasks g l = l.recorder.ledger ≡ l.initial.recorder.ledger

@@ -1,6 +1,0 @@
-use Rattle.std.proofs.Common.{◌≡◌}
-use Rattle.stopwatch.proofs.recorder_calls.regions.Given as goal
-
--- the recorder stays at its ledger
-abbrev pub invariant-regions : goal.invariant-regions
-invariant-regions g l = l.recorder.ledger ≡ l.initial.recorder.ledger

@@ -1,6 +1,0 @@
-use Rattle.std.proofs.Common.{◌≡◌}
-use Rattle.stopwatch.proofs.recorder_calls.switches.Given as goal
-
--- the recorder stays at its ledger
-abbrev pub invariant-switches : goal.invariant-switches
-invariant-switches g l = l.recorder.ledger ≡ l.initial.recorder.ledger

@@ -1,6 +1,0 @@
-use Rattle.trace_ledger.specs.Makers.{AreEntryRecords}
-use Rattle.trace_ledger.proofs.makers.find_makers.Given as goal
-
--- the table has the records so far that make entries
-abbrev pub invariant-loop-at : goal.invariant-loop-at
-invariant-loop-at l = AreEntryRecords l.run.records l.at l.makers.items
