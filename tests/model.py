@@ -473,7 +473,8 @@ def covered(records, i):
         return families(records, children_between(records, task, begin, i))
     number = barrier_begins(records, task).index(begin)
     return families(records, [child for other in teammates(records, task)
-                              for child in children_before(records, other, barrier_begins(records, other)[number])])
+                              for start in barrier_begins(records, other)[number:number + 1]
+                              for child in children_before(records, other, start)])
 
 
 def depends_on(records, task):

@@ -11,21 +11,36 @@ use task_tree::{Families, Family, Own, OwnOrder, arrange, find_gap, turns_of, tu
 /// gap, the places in the tasks' own order, whether turns are found to rise along the file, and the children
 /// of each task.
 pub fn of_input(rt: &HostRuntime) -> Result<()> {
-    let trace = trace_of_input(rt)?;
-    let trace = PackedTrace::of(rt.alloc(), &trace)?;
+    let trace = PackedTrace::of(rt.alloc(), &trace_of_input(rt)?)?;
     let family = family_of(rt, &trace)?;
-    let found = turns_of(rt.alloc(), &trace, &family)?;
-    let gap = find_gap(rt.alloc(), &trace, &family, &found)?;
-    let turns = found.as_slice();
-    println!(rt; "version {}, turns {turns:?}, gap {gap:?}", trace.version())?;
-    of_order(rt, &arrange(rt.alloc(), &trace, turns)?)?;
-    let rise = turns_rise(rt.alloc(), &trace, &family)?;
-    println!(rt; "rise: {rise}")?;
+    of_turns(rt, &trace, &family)?;
+    told_rising(rt, &trace, &family)?;
     of_families(rt, &trace)
 }
 
+/// Prints the turns, the gap and the own order.
+fn of_turns(rt: &HostRuntime, trace: &PackedTrace, family: &Family) -> Result<()>
+    requires { IsFamilyOf trace.now.records family.now }
+{
+    let found = turns_of(rt.alloc(), trace, family)?;
+    let gap = find_gap(rt.alloc(), trace, family, &found)?;
+    let (version, turns) = (trace.version(), found.as_slice());
+    println!(rt; "version {version}, turns {turns:?}, gap {gap:?}")?;
+    of_order(rt, &arrange(rt.alloc(), trace, turns)?)
+}
+
+/// Prints whether turns are found to rise. `bench/turns.py` counts it, so it is not put into its caller.
+#[inline(never)]
+pub fn told_rising(rt: &HostRuntime, trace: &PackedTrace, family: &Family) -> Result<()>
+    requires { IsFamilyOf trace.now.records family.now }
+{
+    let rise = turns_rise(rt.alloc(), trace, family)?;
+    println!(rt; "rise: {rise}")?;
+    Ok(())
+}
+
 /// Returns the family of the trace's tasks. Fails where it has none.
-fn family_of(rt: &HostRuntime, trace: &PackedTrace) -> Result<Family>
+pub fn family_of(rt: &HostRuntime, trace: &PackedTrace) -> Result<Family>
     ensures { IfOk result (IsFamilyOf trace.now.records) }
 {
     match Family::build(rt.alloc(), trace) {

@@ -1,0 +1,6 @@
+mod OrderLemmas
+mod ReadLemmas
+mod NameLemmas
+mod CurrentLemmas
+mod NestingLemmas
+mod CauseLaw
