@@ -1,22 +1,21 @@
 -- From the records so far in the order of the ledger to the causes that this excludes; and what is kept of
 -- the tasks.
-use Rattle.std.proofs.Common.{[], ◌∷◌, ◌≡◌, ◌∙◌, ℕ, ◌<◌, ◌≤◌, ◌+◌, Bool, true, false, cond, List, length}
-use Rattle.std.proofs.Common.{get_or, set, take, Option, Some, None, refl, sym, ap, subst, arith, inl, inr}
-use Rattle.std.specs.Prelude.{is_some, slice_get, option_and_then}
-use Rattle.std.proofs.lemmas.Bool.{false≢true, cases_eq, cases_lt}
+use Rattle.std.proofs.Common.{[], ◌≡◌, ◌∙◌, ℕ, ◌<◌, ◌≤◌, ◌+◌, Bool, true, false, cond, List, length}
+use Rattle.std.proofs.Common.{set, Some, refl, sym, ap, subst, arith, inl, inr}
+use Rattle.std.specs.Prelude.{is_some, slice_get}
+use Rattle.std.proofs.lemmas.Bool.{cases_eq, cases_lt}
 use Rattle.std.proofs.lemmas.Option.{none-some, same_Some, some_pair_parts, slice_get_within}
 use Rattle.std.proofs.lemmas.Option.{slice_get-get_or}
-use Rattle.std.proofs.lemmas.List.{take-take, length-set, get_or-set_same, get_or-set_other}
+use Rattle.std.proofs.lemmas.List.{length-set, get_or-set_same, get_or-set_other}
 use Rattle.std.proofs.Math.Nat.{max-eq_left, max-eq_right}
 use Rattle.std.specs.Prelude.{max}
-use Rattle.std.proofs.lemmas.List.Sums.{sum_by-take-le, count_by_more_yes, count_by_more_no}
 use Rattle.ompt_events.specs.declared.records.Record.{Record}
 use Rattle.ompt_events.specs.declared.cause.Cause.TheVariants.{EntryTwice, LengthAhead}
 use Rattle.ompt_events.specs.Records.{finish, suspended_turn}
 use Rattle.ompt_events.specs.Places.{at, seen_at}
 use Rattle.ompt_events.specs.HappensBefore.{IsFinishing}
 use Rattle.ompt_events.specs.Causes.{known_after, RepeatsEntry, IsAhead, entry, ledger_length, entries_in}
-use Rattle.ompt_events.specs.Causes.{IsFreeOf}
+use Rattle.ompt_events.specs.Causes.{IsFreeOf, entries_before}
 use Rattle.ompt_events.proofs.PlaceLemmas.{seen_within}
 use Rattle.checker.specs.declared.in_order.Suspension.{Suspension}
 use Rattle.checker.specs.Schedule.{Awaits, awaits_creation, awaits_end, EachAwaitsOne}
@@ -25,62 +24,10 @@ use Rattle.task_tree.specs.Rising.{IsStartOf}
 use Rattle.ompt_events.specs.Tree.{IsExplicit}
 use Rattle.ompt_events.proofs.HappensBeforeLemmas.{finishing_within}
 use Rattle.checker.proofs.ScheduleLemmas.{later_awaits_none}
-use Rattle.checker.specs.InOrder.{entries_before, FitsBehind, AreLastSuspensions}
+use Rattle.ompt_events.proofs.FileOrderLemmas.{entries_same, entries_more, entries_le, entries_all}
+use Rattle.ompt_events.proofs.FileOrderLemmas.{entries_less}
+use Rattle.checker.specs.InOrder.{FitsBehind, AreLastSuspensions}
 use Rattle.checker.proofs.EntryLemmas.{free_of_repeats, free_of_ahead}
-
--- ---- how many entries there are before a record
-
-abbrev finishes : Record → Bool
-finishes r = is_some (finish r.body)
-
--- the record at a place, as it counts
-counts_there : (rs : List Record) (i : ℕ) (r : Record) (b : Bool) → i < length rs
-    → is_some (at finish rs i) ≡ b → finishes (get_or rs i r) ≡ b
-counts_there rs i r b within is =
-    sym
-    (ap (λ o. is_some (option_and_then (λ (q : Record). finish q.body) o))
-    (slice_get-get_or rs i r within))
-    ∙ is
-
-pub entries_same : (rs : List Record) (i : ℕ) (r : Record) → i < length rs → is_some (at finish rs i) ≡ false
-    → entries_before rs (i + 1) ≡ entries_before rs i
-entries_same rs i r within is = count_by_more_no finishes rs i r within (counts_there rs i r false within is)
-
-pub entries_more : (rs : List Record) (i : ℕ) (r : Record) → i < length rs → is_some (at finish rs i) ≡ true
-    → entries_before rs (i + 1) ≡ entries_before rs i + 1
-entries_more rs i r within is = count_by_more_yes finishes rs i r within (counts_there rs i r true within is)
-
--- with more records there are no fewer
-before_le : (rs : List Record) (k n : ℕ) → k ≤ n → entries_before rs k ≤ entries_before rs n
-before_le rs k n low =
-    let same : entries_in (take k (take n rs)) ≡ entries_before rs k = ap entries_in (take-take k n rs low) in
-    let fewer : entries_in (take k (take n rs)) ≤ entries_before rs n =
-    sum_by-take-le (λ (r : Record). cond (is_some (finish r.body)) 1 0) (take n rs) k in
-    omega (arith, same, fewer)
-
-before_all : (rs : List Record) (n : ℕ) → entries_before rs n ≤ entries_in rs
-before_all rs n = sum_by-take-le (λ (r : Record). cond (is_some (finish r.body)) 1 0) rs n
-
--- and behind one that makes an entry more
-before_less : (rs : List Record) (k n : ℕ) → IsFinishing rs k → k < n
-    → entries_before rs k < entries_before rs n
-before_less rs k n makes low =
-    let more = entries_more rs k (get_or rs k (some_record rs k makes)) (finishing_within rs k makes) makes in
-    let most = before_le rs (k + 1) n (omega (arith, low)) in
-    omega (arith, more, most)
-  where
-    some_record : (rs : List Record) (k : ℕ) → IsFinishing rs k → Record
-    some_record rs k makes = there (slice_get rs k) makes
-      where
-        there : (o : Option Record) → is_some (option_and_then (λ (r : Record). finish r.body) o) ≡ true
-            → Record
-        there None is = absurd (false≢true is)
-        there (Some r) is = r
-
--- some record, where there is one
-any_record : (rs : List Record) (n : ℕ) → n < length rs → Record
-any_record [] n within = absurd (omega arith)
-any_record (r ∷ rs) n within = r
 
 -- ---- one record more
 
@@ -99,13 +46,10 @@ pub entries_count_more : (rs : List Record) (n entries after : ℕ) → n < leng
     → after ≡ cond (is_some (at finish rs n)) (entries + 1) entries → after ≡ entries_before rs (n + 1)
 entries_count_more rs n entries after within count is = of (is_some (at finish rs n)) refl is
   where
-    r : Record
-    r = any_record rs n within
-
     of : (b : Bool) → is_some (at finish rs n) ≡ b → after ≡ cond b (entries + 1) entries
         → after ≡ entries_before rs (n + 1)
-    of true makes is' = is' ∙ ap (λ k. k + 1) count ∙ sym (entries_more rs n r within makes)
-    of false none is' = is' ∙ count ∙ sym (entries_same rs n r within none)
+    of true makes is' = is' ∙ ap (λ k. k + 1) count ∙ sym (entries_more rs n makes)
+    of false none is' = is' ∙ count ∙ sym (entries_same rs n within none)
 
 pub entries_most : (rs : List Record) (n entries after : ℕ)
     → after ≡ cond (is_some (at finish rs n)) (entries + 1) entries → after ≤ entries + 1
@@ -148,7 +92,7 @@ no_repeat : (rs : List Record) (i : ℕ) → AllFit rs → RepeatsEntry rs i →
 no_repeat rs i fit (k, below, earlier, own, same) =
     let first = (fit k (finishing_within rs k earlier)).own earlier in
     let second = (fit i (finishing_within rs i own)).own own in
-    let less = before_less rs k i earlier below in
+    let less = entries_less rs k i earlier below in
     omega (arith, first, second, less, same)
 
 pub fit_once : (rs : List Record) → AllFit rs → IsFreeOf rs EntryTwice
@@ -157,12 +101,12 @@ fit_once rs fit = free_of_repeats rs (length rs) (λ k below. no_repeat rs k fit
 not_ahead : (rs : List Record) (i : ℕ) → AllFit rs → IsAhead rs i → ⊥
 not_ahead rs i fit (entry makes most) =
     let own = (fit i (finishing_within rs i makes)).own makes in
-    let less = before_less rs i (i + 1) makes (omega arith) in
-    let all = before_all rs (i + 1) in
+    let less = entries_less rs i (i + 1) makes (omega arith) in
+    let all = entries_all rs (i + 1) in
     omega (arith, own, less, all, most)
 not_ahead rs i fit (ledger_length most) =
     let named = (fit i (seen_within rs i (entries_in rs) most)).named in
-    let all = before_all rs i in
+    let all = entries_all rs i in
     omega (arith, named, all, most)
 
 pub fit_reached : (rs : List Record) → AllFit rs → IsFreeOf rs LengthAhead
@@ -175,7 +119,7 @@ fit_entered rs fit a b makes less = elim (cases_lt a b) [
   | inr past ↦
       let own = (fit a (finishing_within rs a makes)).own makes in
       let named = (fit b (seen_within rs b (seen_at rs a) less)).named in
-      let most = before_le rs b a past in
+      let most = entries_le rs b a past in
       absurd (omega (arith, own, named, most, less))
 ]
 

@@ -437,15 +437,6 @@ key_turn rs tasks rows i index turn facts apart begins later =
 
 -- ---- when file order is an order
 
--- what steps do, what happens before does
-pub before_less : (rs : List Record) → ((a b : ℕ) → IsStep rs a b → a < b) → (a b : ℕ) → HappensBefore rs a b
-    → a < b
-before_less rs steps a b (step s) = steps a b s
-before_less rs steps a b (chain {b = mid} first second) =
-    let one = before_less rs steps a mid first in
-    let two = before_less rs steps mid b second in
-    omega (arith, one, two)
-
 -- each kind of step, as the two tests have it
 pub steps_less : (rs : List Record) → EachAwaitsOne rs → ((i c : ℕ) → Awaits rs i c → c < i)
     → ((a b : ℕ) → IsFinishing rs a → seen_at rs a < seen_at rs b → a < b) → (a b : ℕ) → IsStep rs a b → a < b

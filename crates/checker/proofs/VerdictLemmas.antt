@@ -1,7 +1,7 @@
 -- From what the searches find to the verdict.
-use Rattle.std.proofs.Common.{zero-add, ◌≡◌, ◌∙◌, ℕ, ◌<◌, ◌⊎◌, List, length, take, Option, Some, None, refl}
-use Rattle.std.proofs.Common.{sym, ap, subst, arith, inl, inr}
-use Rattle.std.specs.Prelude.{is_some, Contains, ⊤, slice_get, option_and_then}
+use Rattle.std.proofs.Common.{◌≡◌, ℕ, ◌<◌, ◌⊎◌, List, Option, Some, None, refl}
+use Rattle.std.proofs.Common.{ap, arith, inl, inr}
+use Rattle.std.specs.Prelude.{is_some, Contains, slice_get, option_and_then}
 use Rattle.std.proofs.lemmas.Option.{none-some}
 use Rattle.ompt_events.specs.declared.records.Record.{Record}
 use Rattle.ompt_events.specs.declared.records.Part.{Part}
@@ -16,7 +16,7 @@ use Rattle.ompt_events.specs.declared.cause.Cause.TheVariants.{LengthBack, NoOrd
 use Rattle.ompt_events.specs.Records.{finish, region, started, wait_completed}
 use Rattle.ompt_events.specs.Places.{at, places}
 use Rattle.ompt_events.specs.HappensBefore.{IsStep, ledger, step}
-use Rattle.ompt_events.specs.Linearization.{IsLinearization, IsGreedy, IsFirstReady}
+use Rattle.ompt_events.specs.Linearization.{IsLinearization, IsGreedy}
 use Rattle.ompt_events.specs.Completion.{IsPartFinished, CountsIn, CountsAt, IsCompleteIn, IsCompleteAt}
 use Rattle.ompt_events.specs.Coverage.{Covers}
 use Rattle.ompt_events.specs.Coverage as coverage
@@ -33,14 +33,10 @@ use Rattle.checker.specs.Readings.{Reading, IsPrecededBy}
 use Rattle.checker.specs.Verdicts.{ShowsNone, AreComplete, IsAlwaysComplete, IsUnfinished}
 use Rattle.checker.specs.Verdicts.{IsCoveredUnfinishedBy, IsPredecessorUnfinishedBy}
 use Rattle.checker.specs.Verdicts.{IsApproved}
-use Rattle.std.proofs.lemmas.List.{length-take, get_or-take}
-use Rattle.std.proofs.lemmas.List.FromFn.{length-range_with_len, get_or-range_with_len}
-use Rattle.std.proofs.lemmas.List.Sorted.{IsPermutation-refl}
 use Rattle.ompt_events.proofs.TurnLemmas.{start_starts}
 use Rattle.ompt_events.proofs.PlaceLemmas.{contains_place}
-use Rattle.ompt_events.proofs.HappensBeforeLemmas.{before_to}
 use Rattle.ompt_events.proofs.LinearizationLemmas.{greedy_grounded}
-use Rattle.checker.proofs.ScheduleLemmas.{before_less}
+use Rattle.ompt_events.proofs.FileOrderLemmas.{file_greedy}
 
 -- a finishing record that counts by what the record at i has seen counts in every order
 counts_in : (rs : List Record) (order : List ℕ) (i k task : ℕ) (p : Part) → IsLinearization rs order
@@ -139,59 +135,6 @@ approved reading order clear linear greedy complete = record {
   finished = λ i task unfinished. unfinished.incomplete (complete i task unfinished.required);
   always_complete = always_complete reading complete;
 }
-
--- file order is a linearization where each step leads on, and the greedy one
-pub file_linear : (rs : List Record) → ((a b : ℕ) → IsStep rs a b → a < b) → IsLinearization rs (places rs)
-file_linear rs steps = record {
-  all_once = IsPermutation-refl (places rs);
-  rising = λ a b before.
-      let inside = before_to rs a b before in
-      record {
-        first = a;
-        second = b;
-        apart = before_less rs steps a b before;
-        within = rw (length-range_with_len 0 (length rs)) inside;
-        a_stands =
-            get_or-range_with_len 0 (length rs) a 0
-            (let less = before_less rs steps a b before in omega arith)
-            ∙ zero-add a;
-        b_stands = get_or-range_with_len 0 (length rs) b 0 inside ∙ zero-add b;
-      };
-}
-
-pub file_greedy : (rs : List Record) → ((a b : ℕ) → IsStep rs a b → a < b) → IsGreedy rs (places rs)
-file_greedy rs steps k below =
-    let inside : k < length rs = rw (length-range_with_len 0 (length rs)) at below in
-    let P : ℕ → Type 0 = λ i. IsFirstReady rs (λ _. ⊤) (take k (places rs)) i in
-    subst P (sym (get_or-range_with_len 0 (length rs) k 0 inside ∙ zero-add k)) (record {
-      ready = record {
-        within = inside;
-        taken = tt;
-        missing = λ c. let h = taken_below k c in absurd (omega arith);
-        due = λ a before. below_taken k inside a (before_less rs steps a k before);
-      };
-      first = λ j earlier ready. ready.missing (below_taken k inside j earlier);
-    })
-  where
-    taken_below : (n : ℕ) {i : ℕ} → Contains (take n (places rs)) i → i < n
-    taken_below n {i} (q, low, is) =
-        let q_low : q < n = let t = length-take n (places rs) in omega (arith, low, t) in
-        let q_in : q < length rs =
-        let t = length-take n (places rs) in
-        let l = length-range_with_len 0 (length rs) in omega (arith, low, t, l) in
-        let same : q ≡ i =
-        sym (get_or-range_with_len 0 (length rs) q i q_in ∙ zero-add q)
-        ∙ sym (get_or-take n (places rs) q i q_low) ∙ is in
-        omega arith
-
-    below_taken : (n : ℕ) → n < length rs → (i : ℕ) → i < n → Contains (take n (places rs)) i
-    below_taken n inside i low = (
-      i,
-      (let t = length-take n (places rs) in
-          let l = length-range_with_len 0 (length rs) in omega (arith, t, l)),
-      get_or-take n (places rs) i i low ∙ get_or-range_with_len 0 (length rs) i i (omega arith)
-          ∙ zero-add i,
-    )
 
 -- then every record has an order
 pub file_orders : (rs : List Record) → ((a b : ℕ) → IsStep rs a b → a < b) → IsFreeOf rs NoOrder

@@ -1,17 +1,13 @@
 -- What a file in the order of time shows of the ledger, and what is kept of its tasks.
-use Rattle.std.specs.Prelude.{ℕ, ◌≡◌, ◌<◌, ◌≤◌, List, Some, length, slice_get, take}
+use Rattle.std.specs.Prelude.{ℕ, ◌≡◌, ◌<◌, ◌≤◌, List, Some, length, slice_get}
 use Rattle.ompt_events.specs.declared.records.Record.{Record}
 use Rattle.ompt_events.specs.Records.{suspended_turn}
 use Rattle.ompt_events.specs.Places.{at, seen_at}
 use Rattle.ompt_events.specs.HappensBefore.{IsFinishing}
-use Rattle.ompt_events.specs.Causes.{entries_in, IsBehind}
+use Rattle.ompt_events.specs.Causes.{entries_before, IsBehind}
 use Rattle.checker.specs.declared.in_order.Suspension.{Suspension}
 use Rattle.checker.specs.Lengths.{AreKnownLengths}
 use Rattle.checker.specs.Schedule.{Awaits}
-
--- how many entries the records before this place make
-abbrev pub entries_before : List Record → ℕ → ℕ
-entries_before rs n = entries_in (take n rs)
 
 -- the record names no more than this many entries, and makes the next one if it makes any
 pub record FitsBehind (rs : List Record) (i entries : ℕ) : Type 0 where

@@ -16,8 +16,7 @@ use Rattle.ompt_events.specs.Records.{finish}
 use Rattle.ompt_events.specs.Places.{at, seen_at}
 use Rattle.ompt_events.specs.HappensBefore.{IsFinishing}
 use Rattle.ompt_events.specs.Causes.{entry_twice, entries_in, entry, length_ahead, IsFreeOf}
-use Rattle.ompt_events.proofs.PlaceLemmas.{at_index}
-use Rattle.ompt_events.proofs.ListLemmas.{get_within}
+use Rattle.ompt_events.proofs.FileOrderLemmas.{entries_same, entries_more}
 use Rattle.task_tree.proofs.LinkLemmas.{get_set_same, get_set_other}
 use Rattle.credit_ledger.specs.TraceMakers.{IsEntryRecord, free_entries, AreEntryRecords}
 
@@ -46,22 +45,6 @@ none_placed : (n index place : ℕ) → slice_get (replicate n None) index ≡ S
 none_placed zero index place is = none-some (Some place) is
 none_placed (suc n) zero place is = none-some place (same_Some None (Some place) is)
 none_placed (suc n) (suc k) place is = none_placed n k place is
-
--- ---- entries of the first records
-
-entries_same : (rs : List Record) (n : ℕ) → n < length rs → is_some (at finish rs n) ≡ false
-    → entries_in (take (n + 1) rs) ≡ entries_in (take n rs)
-entries_same rs n within none =
-    let (r, here) = get_within rs n within in
-    count_by_more_no (λ (q : Record). is_some (finish q.body)) rs n r within
-    (sym (ap is_some (at_index finish rs n r within)) ∙ none)
-
-entries_more : (rs : List Record) (n : ℕ) → n < length rs → IsFinishing rs n
-    → entries_in (take (n + 1) rs) ≡ entries_in (take n rs) + 1
-entries_more rs n within finishes =
-    let (r, here) = get_within rs n within in
-    count_by_more_yes (λ (q : Record). is_some (finish q.body)) rs n r within
-    (sym (ap is_some (at_index finish rs n r within)) ∙ finishes)
 
 -- ---- the table
 
@@ -112,7 +95,7 @@ makers_more rs n old new within finishes noted are = record {
   all = λ apart ahead.
       let few = ap free_entries noted in
       let less = free_set old (seen_at rs n) n (entry_free rs n old finishes apart ahead are) in
-      let more = entries_more rs n within finishes in
+      let more = entries_more rs n finishes in
       let before = are.all apart ahead in
       let long = ap length noted ∙ length-set old (seen_at rs n) (Some n) in
       omega (arith, few, less, more, before, long);

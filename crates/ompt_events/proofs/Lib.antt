@@ -10,6 +10,7 @@ pub mod RegionLemmas
 pub mod HappensBeforeLemmas
 pub mod LinearizationLemmas
 pub mod FaultLemmas
+pub mod FileOrderLemmas
 pub mod ShownLemmas
 pub mod ListLemmas
 pub mod NumberMaps

@@ -220,6 +220,10 @@ RepeatsEntry rs i = (k : ℕ) × (k < i) × IsFinishing rs k × IsFinishing rs i
 abbrev pub entries_in : List Record → ℕ
 entries_in rs = count_by (λ r. is_some (finish r.body)) rs
 
+-- how many entries the records before the place make
+abbrev pub entries_before : List Record → ℕ → ℕ
+entries_before rs i = entries_in (take i rs)
+
 -- the record names a greater length than the ledger ever has
 pub data IsAhead (rs : List Record) (i : ℕ) : Type 0 where
   entry : IsFinishing rs i → entries_in rs ≤ seen_at rs i → IsAhead rs i

@@ -12,17 +12,15 @@ mod session;
 mod tasks;
 mod words;
 
+use crate::standard_input::text_of_input;
 use anyhow::{Result, bail};
 use std::env::Args;
-use std::io::Read;
 use std::sync::Wait;
 use std::thread::Threads;
 
 /// Makes the calls that standard input lists.
 pub fn each<R: Wait + Input + Print + AllocGlobal>(rt: &R) -> Result<()> {
-    let mut text = String::new(rt.alloc());
-    rt.reader().read_to_string(&mut text)?;
-    session::each(rt, text.as_str())
+    session::each(rt, text_of_input(rt)?.as_str())
 }
 
 /// Runs a random program of so many tasks on so many threads with a recorder each, and prints the trace that is

@@ -1,11 +1,11 @@
 //! Lists of records that are no trace for a reason that no file has, and a thread's buffer.
 use anyhow::Result;
-use callbacks::Buffer;
 use ompt_events::{
     Body, BoxedClaim, CancelFlags, Claim, ClaimPath, Endpoint, Record, Status, TaskFlags, Trace,
     Turns,
 };
 use std::alloc::{AllocError, Global};
+use thread_buffers::Buffer;
 
 /// Prints of each list where it is refused, and how many records come back.
 pub fn all(rt: &HostRuntime) -> Result<()> {

@@ -1,7 +1,7 @@
 //! Shares and a purse, by commands.
 use crate::standard_input::text_of_input;
 use anyhow::{Result, bail};
-use credit_ledger::{Purse, Share};
+use credit::{Purse, Share};
 use std::alloc::Global;
 
 /// Does what each line of standard input says to one purse, and prints the answer. A share is written by

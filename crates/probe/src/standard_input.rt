@@ -21,7 +21,7 @@ pub fn input(rt: &HostRuntime) -> Result<Vec<u8>> {
 }
 
 /// Returns standard input to its end, as text. Fails where it is not UTF-8.
-pub fn text_of_input(rt: &HostRuntime) -> Result<String> {
+pub fn text_of_input<R: Input + AllocGlobal>(rt: &R) -> Result<String> {
     let mut text = String::new(rt.alloc());
     rt.reader().read_to_string(&mut text)?;
     Ok(text)

@@ -23,18 +23,21 @@ pub fn built(rt: &HostRuntime, trace: &Trace) -> Result<Result<Tree, TreeFault>>
 /// Prints the tree, or why there is none.
 fn of_trace(rt: &HostRuntime, trace: &Trace) -> Result<()> {
     match built(rt, trace)? {
-        Ok(tree) => {
-            for task in tree.families().own_family().tasks().as_slice() {
-                of_task(rt, &tree, *task)?;
-            }
-            of_task(rt, &tree, u64::MAX)
-        }
+        Ok(tree) => of_tasks(rt, &tree),
         Err(TreeFault::Memory) => bail!("out of memory"),
         Err(TreeFault::Malformed { at, cause }) => {
             println!(rt; "malformed at {at}: {cause:?}")?;
             Ok(())
         }
     }
+}
+
+/// Prints where each task of the tree stands, and what it answers of a task that is none of these.
+fn of_tasks(rt: &HostRuntime, tree: &Tree) -> Result<()> {
+    for task in tree.families().own_family().tasks().as_slice() {
+        of_task(rt, tree, *task)?;
+    }
+    of_task(rt, tree, u64::MAX)
 }
 
 /// Prints where the task stands.

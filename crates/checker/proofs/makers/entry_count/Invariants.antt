@@ -1,5 +1,5 @@
 use Rattle.std.proofs.Common.{◌≡◌, ◌≤◌}
-use Rattle.checker.specs.InOrder.{entries_before}
+use Rattle.ompt_events.specs.Causes.{entries_before}
 use Rattle.checker.proofs.makers.entry_count.Given as goal
 
 -- the entries of the records so far are counted

@@ -4,7 +4,8 @@ use Rattle.ompt_events.specs.CauseNames.{before}
 use Rattle.ompt_events.specs.HappensBefore.{IsStep}
 use Rattle.checker.proofs.AwaitsOneLemmas.{sound_awaits_one}
 use Rattle.checker.proofs.PhaseLemmas.{clear_more, one_clear, only_clear}
-use Rattle.checker.proofs.VerdictLemmas.{file_linear, file_greedy, file_orders}
+use Rattle.ompt_events.proofs.FileOrderLemmas.{file_linear, file_greedy}
+use Rattle.checker.proofs.VerdictLemmas.{file_orders}
 use Rattle.checker.proofs.phases.order_of.Goals as goal
 
 pub is_in_order-requires : goal.is_in_order-requires

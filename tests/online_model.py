@@ -1,5 +1,5 @@
-"""The audit of a stream of records: an answer at each record, by what is kept of the records before it, and of none that
-follow. It serves a stream in which
+"""The audit of records one after another: an answer at each record, by what is kept of the records before it, and of none
+that follow. It serves records of which
 
 - a finishing record makes the next entry, and no record names more entries than are before it;
 - a task is named only where its creation, or its begin, is before;
@@ -7,7 +7,7 @@ follow. It serves a stream in which
 - a taskwait with dependences is complete, and an event is fulfilled, only while the task is not complete.
 
 The answer at a record, the first that applies: `malformed` with the least cause that every list of records has which
-begins with those so far, as far as single records show it; `unordered` where the stream is none of these; `no` with the
+begins with those so far, as far as single records show it; `unordered` where one of these does not hold; `no` with the
 first record so far at which a task is missed, and the task. At the end it is `malformed` with what only the end shows, or
 `yes`. The words are those of docs/MODEL.md."""
 from collections import defaultdict, namedtuple
@@ -70,7 +70,7 @@ class Team:
         self.members, self.joins, self.size, self.ends = {}, [], None, []
 
 
-class Stream:
+class Watch:
     """What is kept of the records so far."""
 
     def __init__(self, version):
@@ -228,7 +228,7 @@ class Stream:
     # The end
 
     def end(self):
-        """The answer at the end of the stream."""
+        """The answer at the end."""
         causes = [(3, place) for place in self.unforked.values()]
         for task in self.tasks.values():
             causes += self.causes_of_late(task)
@@ -266,52 +266,52 @@ def families(tasks):
 
 # The causes that single records show: each by what is kept, and the record
 
-def seq_gap(stream, thread, record):
+def seq_gap(watch, thread, record):
     return record.seq != thread.count
 
 
-def created_twice(stream, thread, record):
-    return record.made in stream.tasks or bool(record.forked) and record.forked[1] in stream.forked
+def created_twice(watch, thread, record):
+    return record.made in watch.tasks or bool(record.forked) and record.forked[1] in watch.forked
 
 
-def not_current(stream, thread, record):
-    started, waited = (stream.tasks.get(it) for it in (record.started, record.wait_completed))
+def not_current(watch, thread, record):
+    started, waited = (watch.tasks.get(it) for it in (record.started, record.wait_completed))
     return (record.running not in (None, thread.walk.current)
             or record.ended_root not in (None, innermost(thread.walk))
             or started and started.is_root() and started.task != innermost(thread.walk)
             or waited and not waited.is_root() and waited.parent.task != thread.walk.current)
 
 
-def moved(stream, thread, record):
-    task = stream.tasks.get(record.started)
+def moved(watch, thread, record):
+    task = watch.tasks.get(record.started)
     return task and not task.is_root() and not record.told_turns and task.threads - {record.thread}
 
 
-def turn_gap(stream, thread, record):
-    """But for the rule `missing`: where no suspension is before, the stream is unordered."""
+def turn_gap(watch, thread, record):
+    """But for the rule `missing`: where no suspension is before, the records are unordered."""
     if not record.told_turns:
         return False
-    (name, turn), task = record.begun_turn, stream.tasks.get(record.started)
+    (name, turn), task = record.begun_turn, watch.tasks.get(record.started)
     return (record.told_turns.prior != thread.turns.get(record.running, 0)
             or task and (turn in task.turns or turn < thread.turns.get(name, 0) or turn == 0 and task.is_root()))
 
 
-def status_order(stream, thread, record):
+def status_order(watch, thread, record):
     status, prior = record.schedule or (None, None)
-    stopped, started, discarded = (stream.tasks.get(it) for it in (prior, record.started, record.discarded))
-    return (stopped and not may_stop(stream, stopped, status, record.thread)
+    stopped, started, discarded = (watch.tasks.get(it) for it in (prior, record.started, record.discarded))
+    return (stopped and not may_stop(watch, stopped, status, record.thread)
             or started and not may_start(started, status, started is stopped, record)
             or discarded and (discarded.kind != 'any' or discarded.state != 'Created' or discarded.late))
 
 
-def may_stop(stream, task, status, thread):
+def may_stop(watch, task, status, thread):
     """Whether the status may be one of the task's now, in some list. Fulfilments are read apart from the turns unless they
     are on the task's own thread, and where the task moves there too."""
     if task.is_root():
         return status in ('yield', 'switch') and task.state == 'Running'
     if (task.kind == 'taskwait') != (status == 'taskwait_complete'):
         return False
-    is_apart = task.home != thread or stream.tells_turns
+    is_apart = task.home != thread or watch.tells_turns
     if status == 'late_fulfill' and task.state != 'Detached':
         return is_apart and not task.late and task.state in ('Created', 'Running', 'Suspended')
     if status == 'early_fulfill' and task.state == 'Done':
@@ -329,26 +329,26 @@ def may_start(task, status, is_stopped, record):
     return state in START_STATE or not is_stopped and bool(record.told_turns) and state in ('Running', 'EarlyRunning')
 
 
-def region_order(stream, thread, record):
-    task, kind = record.region and stream.tasks.get(record.region.task), kind_ended(record)
+def region_order(watch, thread, record):
+    task, kind = record.region and watch.tasks.get(record.region.task), kind_ended(record)
     ends_none = task and kind and record.region.endpoint == 'end' and (not task.regions or task.regions[-1].kind != kind)
     return ends_none or task and record.region.kind in CALLED_BARRIERS and not task.is_root()
 
 
-def team_short(stream, thread, record):
+def team_short(watch, thread, record):
     """The rules outside, same_index and other_size."""
-    member, team = record.joined, record.joined and stream.teams.get(record.joined.parallel)
+    member, team = record.joined, record.joined and watch.teams.get(record.joined.parallel)
     return member and (member.index >= member.actual
                        or team and (member.index in team.members or team.size not in (None, member.actual)))
 
 
-def nesting(stream, thread, record):
+def nesting(watch, thread, record):
     """NestedParallel, or in version 3 RegionNesting."""
     roots, begun = thread.walk.roots, thread.begun.get(thread.walk.current, ())
-    if stream.nests:
+    if watch.nests:
         return roots and (record.joined and record.joined.parallel not in begun
                           or record.begun_initial is not None and not begun)
-    outer, forks = (stream.tasks.get(it) for it in (innermost(thread.walk), record.forked and record.running))
+    outer, forks = (watch.tasks.get(it) for it in (innermost(thread.walk), record.forked and record.running))
     return (forks and not is_initial(forks) or record.joined and outer and not is_initial(outer)
             or record.begun_initial is not None and roots)
 
@@ -357,14 +357,14 @@ def is_initial(task):
     return task.is_root() and not task.team.joins
 
 
-def deps_place(stream, thread, record):
+def deps_place(watch, thread, record):
     listed = record.dependences[0] if record.dependences else None
     return listed != (thread.awaits[0] if thread.awaits else None)
 
 
-def share_wrong(stream, thread, record):
+def share_wrong(watch, thread, record):
     """An event that is fulfilled before the body's end may have more children than the task has now."""
-    task = record.finish and stream.tasks.get(record.finish[0])
+    task = record.finish and watch.tasks.get(record.finish[0])
     if not task or task.is_root():
         return False
     if (record.claim.root, record.claim.path) != (task.root, task.path) or record.claim.kept < len(task.children):
@@ -373,17 +373,17 @@ def share_wrong(stream, thread, record):
     return is_last and {record.claim.kept, task.late.kept if task.late else record.claim.kept} != {len(task.children)}
 
 
-def entry_twice(stream, thread, record):
-    return record.finish and record.seen < stream.entries
+def entry_twice(watch, thread, record):
+    return record.finish and record.seen < watch.entries
 
 
-def length_back(stream, thread, record):
+def length_back(watch, thread, record):
     """Less than the thread knows; or than the creation or the suspension that the record awaits."""
     lengths = [thread.known]
     starts = record.begun_turn and record.begun_turn[1] == 0 and record.started
-    for task in (stream.tasks.get(it) for it in (record.fulfilled, record.discarded)):
+    for task in (watch.tasks.get(it) for it in (record.fulfilled, record.discarded)):
         lengths += [task.seen] if task and not task.is_root() else []
-    started = stream.tasks.get(record.started)
+    started = watch.tasks.get(record.started)
     if started and starts and not started.is_root() and started.start is None:
         lengths.append(started.seen)
     if started and started.suspended and started.suspended[0] + 1 == record.begun_turn[1]:
@@ -391,8 +391,8 @@ def length_back(stream, thread, record):
     return record.seen < max(lengths)
 
 
-def target_task(stream, thread, record):
-    return not stream.nests and record.made is not None and 'target' in record.flags
+def target_task(watch, thread, record):
+    return not watch.nests and record.made is not None and 'target' in record.flags
 
 
 CAUSES = [(1, seq_gap), (2, created_twice), (4, not_current), (5, moved), (5, turn_gap), (6, status_order),
@@ -400,11 +400,11 @@ CAUSES = [(1, seq_gap), (2, created_twice), (4, not_current), (5, moved), (5, tu
           (14, length_back), (16, target_task)]
 
 
-def streamed(records, version):
+def watched(records, version):
     """The answer to the records, and how many were read by then."""
-    stream = Stream(version)
+    watch = Watch(version)
     for i, record in enumerate(records):
-        answer = stream.answer(i, record)
+        answer = watch.answer(i, record)
         if answer:
             return answer, i + 1
-    return stream.end(), len(records)
+    return watch.end(), len(records)

@@ -1,5 +1,5 @@
--- Records in an order in which a program may have made them, told record by record.
-use Rattle.std.specs.Prelude.{ℕ, ◌≡◌, ◌<◌, ◌≤◌, Bool, true, false, List, length, take, Some}
+-- Records that can be looked at one after another, in an order in which a program may have made them.
+use Rattle.std.specs.Prelude.{ℕ, ◌≡◌, ◌<◌, ◌≤◌, Bool, true, false, List, length, Some}
 use Rattle.ompt_events.specs.declared.records.Record.{Record}
 use Rattle.ompt_events.specs.declared.cause.Cause.{Cause}
 use Rattle.ompt_events.specs.declared.cause.Cause.TheVariants.{SeqGap, CreatedTwice, NotCurrent, Moved}
@@ -9,11 +9,7 @@ use Rattle.ompt_events.specs.declared.cause.Cause.TheVariants.{EntryTwice, Lengt
 use Rattle.ompt_events.specs.Records.{made, created, discarded, fulfilled}
 use Rattle.ompt_events.specs.Places.{at, seen_at}
 use Rattle.ompt_events.specs.HappensBefore.{IsFinishing, IsStart, IsResumption}
-use Rattle.ompt_events.specs.Causes.{entries_in, IsNamedAt}
-
--- how many entries the records before the place make
-abbrev pub entries_before : List Record → ℕ → ℕ
-entries_before rs i = entries_in (take i rs)
+use Rattle.ompt_events.specs.Causes.{entries_before, IsNamedAt}
 
 -- each record stands behind what it has seen, and behind the creation or the suspension with which it goes on
 pub record IsInOrder (rs : List Record) : Type 0 where
@@ -29,11 +25,11 @@ pub record IsInOrder (rs : List Record) : Type 0 where
   pub resumes : (a b : ℕ) → IsResumption rs a b → a < b
 
 -- the records are in order, and each task is named at the record that makes it or behind it
-pub record IsStream (rs : List Record) : Type 0 where
+pub record IsWatchable (rs : List Record) : Type 0 where
   pub in_order : IsInOrder rs
   pub named : (i task : ℕ) → IsNamedAt rs i task → (k : ℕ) × (k ≤ i) × (at made rs k ≡ Some task)
 
--- the causes that a record of a stream shows together with those before it, so that none after it matters
+-- the causes that a watchable record shows together with those before it, so that none after it matters
 abbrev pub is_told_at_once : Cause → Bool
 is_told_at_once SeqGap = true
 is_told_at_once CreatedTwice = true

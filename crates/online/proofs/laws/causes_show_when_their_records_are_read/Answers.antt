@@ -1,5 +1,5 @@
-use Rattle.streams.proofs.CauseLaw.{shown_at_once, stays_shown}
-use Rattle.streams.proofs.laws.causes_show_when_their_records_are_read.Goals as goal
+use Rattle.online.proofs.CauseLaw.{shown_at_once, stays_shown}
+use Rattle.online.proofs.laws.causes_show_when_their_records_are_read.Goals as goal
 
 pub returns-clause-shown : goal.returns-clause-shown
 returns-clause-shown c = shown_at_once

@@ -1,4 +1,4 @@
--- What tasks the records of a stream name, and which of them are made there.
+-- What tasks watchable records name, and which of them are made there.
 use Rattle.std.proofs.Common.{◌≡◌, ◌∙◌, ℕ, ◌<◌, List, Some, None, sym, ap}
 use Rattle.std.proofs.Common.{arith, Bool, true, false}
 use Rattle.std.specs.Prelude.{Contains, if◌then◌else◌}
@@ -21,7 +21,7 @@ use Rattle.ompt_events.specs.Teams.{IsInitial, IsMember}
 use Rattle.ompt_events.specs.Causes.{IsNamedAt}
 use Rattle.ompt_events.proofs.RecordLemmas.{begun_at_made, created_at_made, creation_at_created, initial_made}
 use Rattle.ompt_events.proofs.RecordLemmas.{member_made, at_through}
-use Rattle.streams.proofs.ReadLemmas.{IsSameTo, at_same}
+use Rattle.online.proofs.ReadLemmas.{IsSameTo, at_same}
 
 -- ---- the names in one record
 

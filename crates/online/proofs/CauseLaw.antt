@@ -13,21 +13,21 @@ use Rattle.ompt_events.specs.Causes.{team_short, nested_parallel, region_nesting
 use Rattle.ompt_events.specs.Causes.{entry_twice, length_ahead, length_back, no_order, target_task}
 use Rattle.ompt_events.proofs.PlaceLemmas.{at_within}
 use Rattle.ompt_events.proofs.HappensBeforeLemmas.{step_from}
-use Rattle.streams.specs.Streams.{IsStream, is_told_at_once, stays_told}
-use Rattle.streams.proofs.OrderLemmas.{steps_forward}
-use Rattle.streams.proofs.ReadLemmas.{IsSameTo, same_append, same_back, at_same, seq_same, made_same}
-use Rattle.streams.proofs.ReadLemmas.{forked_same}
-use Rattle.streams.proofs.NameLemmas.{IsRead}
-use Rattle.streams.proofs.CurrentLemmas.{current_same, moved_same, gap_left, begin_same, barrier_same}
-use Rattle.streams.proofs.NestingLemmas.{nested_same, misnested_same, repeat_same, behind_same, target_same}
+use Rattle.online.specs.Online.{IsWatchable, is_told_at_once, stays_told}
+use Rattle.online.proofs.OrderLemmas.{steps_forward}
+use Rattle.online.proofs.ReadLemmas.{IsSameTo, same_append, same_back, at_same, seq_same, made_same}
+use Rattle.online.proofs.ReadLemmas.{forked_same}
+use Rattle.online.proofs.NameLemmas.{IsRead}
+use Rattle.online.proofs.CurrentLemmas.{current_same, moved_same, gap_left, begin_same, barrier_same}
+use Rattle.online.proofs.NestingLemmas.{nested_same, misnested_same, repeat_same, behind_same, target_same}
 
--- ---- the first records of a stream, in it and alone
+-- ---- the first records of watchable ones, among all and alone
 
-read_whole : (before after : List Record) → IsStream (before ++ after)
+read_whole : (before after : List Record) → IsWatchable (before ++ after)
     → IsFreeOf (before ++ after) CreatedTwice → IsRead (length before) (before ++ after)
-read_whole before after stream once = record {
+read_whole before after watchable once = record {
   named = λ i task below name.
-      let found = stream.named i task name in
+      let found = watchable.named i task name in
       (found.0, (let low = found.1 in omega (arith, low, below)), found.2);
   once = λ k j task low makes again. elim (cases_lt j (length before)) [
     | inl inside ↦ inside
@@ -35,11 +35,11 @@ read_whole before after stream once = record {
   ];
 }
 
-read_part : (before after : List Record) → IsStream (before ++ after) → IsRead (length before) before
-read_part before after stream = record {
+read_part : (before after : List Record) → IsWatchable (before ++ after) → IsRead (length before) before
+read_part before after watchable = record {
   named = λ i task below name.
       let same = same_append before after in
-      let found = stream.named i task (name.0, same.there i below ∙ name.1, name.2) in
+      let found = watchable.named i task (name.0, same.there i below ∙ name.1, name.2) in
       let low : found.0 < length before = let l = found.1 in omega (arith, l, below) in
       (found.0, low, sym (at_same made (length before) (before ++ after) before same found.0 low) ∙ found.2);
   once = λ k j task low makes again. at_within made before j task again;
@@ -50,10 +50,10 @@ whole_long before after = let l = length-append before after in omega (arith, l)
 
 -- ---- the laws
 
-pub shown_at_once : (before after : List Record) (i : ℕ) (cause : Cause) → IsStream (before ++ after)
+pub shown_at_once : (before after : List Record) (i : ℕ) (cause : Cause) → IsWatchable (before ++ after)
     → IsFreeOf (before ++ after) CreatedTwice → is_told_at_once cause ≡ true → i < length before
     → HasCause (before ++ after) i cause → HasCause before i cause
-shown_at_once before after i cause stream once told below h = of h told
+shown_at_once before after i cause watchable once told below h = of h told
   where
     n : ℕ
     n = length before
@@ -62,10 +62,10 @@ shown_at_once before after i cause stream once told below h = of h told
     same = same_append before after
 
     read : IsRead (length before) (before ++ after)
-    read = read_whole before after stream once
+    read = read_whole before after watchable once
 
     other : IsRead (length before) before
-    other = read_part before after stream
+    other = read_part before after watchable
 
     of : {c : Cause} → HasCause (before ++ after) i c → is_told_at_once c ≡ true → HasCause before i c
     of (seq_gap g) is = seq_gap (seq_same n (before ++ after) before same i below g)
@@ -90,15 +90,15 @@ shown_at_once before after i cause stream once told below h = of h told
     of (length_back g) is =
         length_back (behind_same n (before ++ after) before same (omega arith) i below
         (λ k steps.
-        let less = steps_forward (before ++ after) stream.in_order k i (program steps) in
+        let less = steps_forward (before ++ after) watchable.in_order k i (program steps) in
         omega (arith, less, below)) g)
     of (no_order g) is = absurd (false≢true is)
     of (target_task g) is = target_task (target_same n (before ++ after) before same i below g)
 
-pub stays_shown : (before after : List Record) (i : ℕ) (cause : Cause) → IsStream (before ++ after)
+pub stays_shown : (before after : List Record) (i : ℕ) (cause : Cause) → IsWatchable (before ++ after)
     → IsFreeOf (before ++ after) CreatedTwice → stays_told cause ≡ true → i < length before
     → HasCause before i cause → HasCause (before ++ after) i cause
-stays_shown before after i cause stream once told below h = of h told
+stays_shown before after i cause watchable once told below h = of h told
   where
     n : ℕ
     n = length before
@@ -107,10 +107,10 @@ stays_shown before after i cause stream once told below h = of h told
     same = same_back (length before) (before ++ after) before (same_append before after)
 
     read : IsRead (length before) before
-    read = read_part before after stream
+    read = read_part before after watchable
 
     other : IsRead (length before) (before ++ after)
-    other = read_whole before after stream once
+    other = read_whole before after watchable once
 
     of : {c : Cause} → HasCause before i c → stays_told c ≡ true → HasCause (before ++ after) i c
     of (seq_gap g) is = seq_gap (seq_same n before (before ++ after) same i below g)

@@ -7,7 +7,7 @@ ghost use Rattle.ompt_events.specs.declared.cause.Cause.TheVariants.{CreatedTwic
 ghost use Rattle.ompt_events.specs.Places.{places};
 ghost use Rattle.ompt_events.specs.Causes.{HasCause, IsFreeOf};
 ghost use Rattle.ompt_events.specs.Linearization.{IsLinearization, IsGreedy};
-ghost use Rattle.streams.specs.Streams.{IsInOrder, IsStream, is_told_at_once, stays_told};
+ghost use Rattle.online.specs.Online.{IsInOrder, IsWatchable, is_told_at_once, stays_told};
 
 /// File order is an order of the records, and the greedy one, where each record stands behind what it has seen
 /// and what it goes on with. Conversely the records are so in each file whose order is one of them, unless an
@@ -20,17 +20,17 @@ pub fn file_order_is_an_order()
         → IsLinearization rs (places rs) → IsInOrder rs }
 {}
 
-/// Let records be a stream, in which no task is made twice. Then whether one of the first records shows a cause of
+/// Let records be watchable, and no task be made twice. Then whether one of the first records shows a cause of
 /// these is shown by the first records alone.
 ///
-/// - `shown`: a cause that it has in the stream, it has among the first records.
-/// - `stays`: a cause that it has among them, it has in the stream, but for TurnGap: a later record may begin the
+/// - `shown`: a cause that it has among all records, it has among the first.
+/// - `stays`: a cause that it has among the first, it has among all, but for TurnGap: a later record may begin the
 ///   turn that was missing.
 pub fn causes_show_when_their_records_are_read()
-    ensures shown { (before after : List Record) (i : ℕ) (cause : Cause) → IsStream (before ++ after)
+    ensures shown { (before after : List Record) (i : ℕ) (cause : Cause) → IsWatchable (before ++ after)
         → IsFreeOf (before ++ after) CreatedTwice → is_told_at_once cause ≡ true → i < length before
         → HasCause (before ++ after) i cause → HasCause before i cause }
-    ensures stays { (before after : List Record) (i : ℕ) (cause : Cause) → IsStream (before ++ after)
+    ensures stays { (before after : List Record) (i : ℕ) (cause : Cause) → IsWatchable (before ++ after)
         → IsFreeOf (before ++ after) CreatedTwice → stays_told cause ≡ true → i < length before
         → HasCause before i cause → HasCause (before ++ after) i cause }
 {}

@@ -24,9 +24,9 @@ use Rattle.ompt_events.specs.Causes.{known_after}
 use Rattle.ompt_events.specs.Causes.{MakesTarget}
 use Rattle.ompt_events.proofs.PlaceLemmas.{at_index}
 use Rattle.ompt_events.proofs.RecordLemmas.{begun_at_made, at_through}
-use Rattle.streams.proofs.ReadLemmas.{IsSameTo, same_back, at_same, thread_same, seen_same, nests_same}
-use Rattle.streams.proofs.NameLemmas.{IsRead, IsMadeBelow, initial_same, member_same, running_named}
-use Rattle.streams.proofs.CurrentLemmas.{named_by}
+use Rattle.online.proofs.ReadLemmas.{IsSameTo, same_back, at_same, thread_same, seen_same, nests_same}
+use Rattle.online.proofs.NameLemmas.{IsRead, IsMadeBelow, initial_same, member_same, running_named}
+use Rattle.online.proofs.CurrentLemmas.{named_by}
 
 -- ---- the roots of a walk began before
 

@@ -1,2 +1,2 @@
 -- When records stand in an order in which a program may have made them.
-pub mod Streams
+pub mod Online

@@ -1,124 +1,25 @@
 -- When file order is an order.
-use Rattle.std.proofs.Common.{zero-add, ◌≡◌, ◌∙◌, ℕ, zero, suc, ◌<◌, ◌≤◌, ◌+◌, ◌-◌, Bool, true, false, cond}
-use Rattle.std.proofs.Common.{List, [], ◌∷◌, length, take, get_or}
-use Rattle.std.proofs.Common.{refl, sym, ap, subst, arith, inl, inr}
-use Rattle.std.specs.Prelude.{is_some, Contains, ⊤, option_and_then}
+use Rattle.std.proofs.Common.{zero-add, ◌≡◌, ◌∙◌, ℕ, zero, suc, ◌<◌, ◌≤◌, ◌+◌, ◌-◌, Bool, true, false}
+use Rattle.std.proofs.Common.{List, length}
+use Rattle.std.proofs.Common.{refl, sym, ap, arith, inl, inr}
+use Rattle.std.specs.Prelude.{is_some}
 use Rattle.std.proofs.lemmas.Bool.{cases_eq, cases_lt}
-use Rattle.std.proofs.lemmas.Option.{slice_get-get_or}
-use Rattle.std.proofs.lemmas.List.{take-take, length-take, get_or-take, take_all}
-use Rattle.std.proofs.lemmas.List.Sums.{sum_by-take-le, count_by_more_yes, count_by_more_no}
+use Rattle.std.proofs.lemmas.List.{take_all}
 use Rattle.std.proofs.lemmas.List.FromFn.{length-range_with_len, get_or-range_with_len}
-use Rattle.std.proofs.lemmas.List.Sorted.{IsPermutation-refl}
 use Rattle.ompt_events.specs.declared.records.Record.{Record}
 use Rattle.ompt_events.specs.declared.cause.Cause.TheVariants.{EntryTwice, LengthAhead}
 use Rattle.ompt_events.specs.Records.{finish}
 use Rattle.ompt_events.specs.Places.{at, seen_at, places}
-use Rattle.ompt_events.specs.HappensBefore.{IsFinishing, IsStep, HappensBefore, thread_order}
+use Rattle.ompt_events.specs.HappensBefore.{IsFinishing, IsStep, thread_order}
 use Rattle.ompt_events.specs.HappensBefore.{creation, resumption, discard, fulfilment, program, ledger, step}
-use Rattle.ompt_events.specs.HappensBefore.{chain}
-use Rattle.ompt_events.specs.Linearization.{IsLinearization, IsGreedy, IsFirstReady, IsEarlier}
-use Rattle.ompt_events.specs.Causes.{IsFreeOf, entry, ledger_length, entries_in}
+use Rattle.ompt_events.specs.Linearization.{IsLinearization, IsGreedy, IsEarlier}
+use Rattle.ompt_events.specs.Causes.{IsFreeOf, entry, ledger_length, entries_in, entries_before}
 use Rattle.ompt_events.specs.Causes.{entry_twice, length_ahead}
 use Rattle.ompt_events.proofs.PlaceLemmas.{seen_within}
-use Rattle.ompt_events.proofs.HappensBeforeLemmas.{before_to, finishing_within}
-use Rattle.streams.specs.Streams.{entries_before, IsInOrder}
-
--- ---- how many entries there are before a record
-
-abbrev finishes : Record → Bool
-finishes r = is_some (finish r.body)
-
--- the record at a place, as it counts
-counts_there : (rs : List Record) (i : ℕ) (r : Record) (b : Bool) → i < length rs
-    → is_some (at finish rs i) ≡ b → finishes (get_or rs i r) ≡ b
-counts_there rs i r b within is =
-    sym
-    (ap (λ o. is_some (option_and_then (λ (q : Record). finish q.body) o))
-    (slice_get-get_or rs i r within))
-    ∙ is
-
-pub entries_same : (rs : List Record) (i : ℕ) (r : Record) → i < length rs → is_some (at finish rs i) ≡ false
-    → entries_before rs (i + 1) ≡ entries_before rs i
-entries_same rs i r within is = count_by_more_no finishes rs i r within (counts_there rs i r false within is)
-
-pub entries_more : (rs : List Record) (i : ℕ) (r : Record) → i < length rs → is_some (at finish rs i) ≡ true
-    → entries_before rs (i + 1) ≡ entries_before rs i + 1
-entries_more rs i r within is = count_by_more_yes finishes rs i r within (counts_there rs i r true within is)
-
--- with more records there are no fewer
-before_le : (rs : List Record) (k n : ℕ) → k ≤ n → entries_before rs k ≤ entries_before rs n
-before_le rs k n low =
-    let same : entries_in (take k (take n rs)) ≡ entries_before rs k = ap entries_in (take-take k n rs low) in
-    let fewer : entries_in (take k (take n rs)) ≤ entries_before rs n =
-    sum_by-take-le (λ (r : Record). cond (is_some (finish r.body)) 1 0) (take n rs) k in
-    omega (arith, same, fewer)
-
--- some record, where there is one
-any_record : (rs : List Record) (n : ℕ) → n < length rs → Record
-any_record [] n within = absurd (omega arith)
-any_record (r ∷ rs) n within = r
-
--- a chain of steps leads on
-pub before_less : (rs : List Record) → ((a b : ℕ) → IsStep rs a b → a < b) → (a b : ℕ) → HappensBefore rs a b
-    → a < b
-before_less rs steps a b (step s) = steps a b s
-before_less rs steps a b (chain {b = mid} first second) =
-    let one = before_less rs steps a mid first in
-    let two = before_less rs steps mid b second in
-    omega (arith, one, two)
-
--- file order is a linearization where each step leads on, and the greedy one
-pub file_linear : (rs : List Record) → ((a b : ℕ) → IsStep rs a b → a < b) → IsLinearization rs (places rs)
-file_linear rs steps = record {
-  all_once = IsPermutation-refl (places rs);
-  rising = λ a b before.
-      let inside = before_to rs a b before in
-      record {
-        first = a;
-        second = b;
-        apart = before_less rs steps a b before;
-        within = rw (length-range_with_len 0 (length rs)) inside;
-        a_stands =
-            get_or-range_with_len 0 (length rs) a 0
-            (let less = before_less rs steps a b before in omega arith)
-            ∙ zero-add a;
-        b_stands = get_or-range_with_len 0 (length rs) b 0 inside ∙ zero-add b;
-      };
-}
-
-pub file_greedy : (rs : List Record) → ((a b : ℕ) → IsStep rs a b → a < b) → IsGreedy rs (places rs)
-file_greedy rs steps k below =
-    let inside : k < length rs = rw (length-range_with_len 0 (length rs)) at below in
-    let P : ℕ → Type 0 = λ i. IsFirstReady rs (λ _. ⊤) (take k (places rs)) i in
-    subst P (sym (get_or-range_with_len 0 (length rs) k 0 inside ∙ zero-add k)) (record {
-      ready = record {
-        within = inside;
-        taken = tt;
-        missing = λ c. let h = taken_below k c in absurd (omega arith);
-        due = λ a before. below_taken k inside a (before_less rs steps a k before);
-      };
-      first = λ j earlier ready. ready.missing (below_taken k inside j earlier);
-    })
-  where
-    taken_below : (n : ℕ) {i : ℕ} → Contains (take n (places rs)) i → i < n
-    taken_below n {i} (q, low, is) =
-        let q_low : q < n = let t = length-take n (places rs) in omega (arith, low, t) in
-        let q_in : q < length rs =
-        let t = length-take n (places rs) in
-        let l = length-range_with_len 0 (length rs) in omega (arith, low, t, l) in
-        let same : q ≡ i =
-        sym (get_or-range_with_len 0 (length rs) q i q_in ∙ zero-add q)
-        ∙ sym (get_or-take n (places rs) q i q_low) ∙ is in
-        omega arith
-
-    below_taken : (n : ℕ) → n < length rs → (i : ℕ) → i < n → Contains (take n (places rs)) i
-    below_taken n inside i low = (
-      i,
-      (let t = length-take n (places rs) in
-          let l = length-range_with_len 0 (length rs) in omega (arith, t, l)),
-      get_or-take n (places rs) i i low ∙ get_or-range_with_len 0 (length rs) i i (omega arith)
-          ∙ zero-add i,
-    )
+use Rattle.ompt_events.proofs.HappensBeforeLemmas.{finishing_within}
+use Rattle.ompt_events.proofs.FileOrderLemmas.{entries_same, entries_more, entries_le}
+use Rattle.ompt_events.proofs.FileOrderLemmas.{file_linear, file_greedy}
+use Rattle.online.specs.Online.{IsInOrder}
 
 -- ---- where each record stands behind what it goes on with
 
@@ -133,7 +34,7 @@ steps_forward rs ordered a b (ledger makes less) = elim (cases_lt a b) [
   | inr past ↦
       let own = ordered.enters a makes in
       let named = ordered.names b (seen_within rs b (seen_at rs a) less) in
-      let most = before_le rs b a past in
+      let most = entries_le rs b a past in
       absurd (omega (arith, own, named, most, less))
 ]
 
@@ -193,13 +94,13 @@ entry_low rs linear once (suc n) i low makes =
         → entries_before rs (suc n) ≤ seen_at rs i
     of true is least =
         let more : entries_before rs (suc n) ≡ entries_before rs n + 1 =
-        ap (entries_before rs) next ∙ entries_more rs n (any_record rs n within) within is in
+        ap (entries_before rs) next ∙ entries_more rs n is in
         let before = least n (omega arith) is in
         let rise = entries_rise rs linear once n i is makes (omega (arith, low)) in
         omega (arith, more, before, rise)
     of false is least =
         let same : entries_before rs (suc n) ≡ entries_before rs n =
-        ap (entries_before rs) next ∙ entries_same rs n (any_record rs n within) within is in
+        ap (entries_before rs) next ∙ entries_same rs n within is in
         let before = least i (omega (arith, low)) makes in
         omega (arith, same, before)
 
@@ -223,12 +124,12 @@ entry_high rs linear once reached (suc left) n all i low makes =
         → ((j : ℕ) → j < n + 1 → IsFinishing rs j → seen_at rs j < entries_before rs (n + 1))
         → seen_at rs i < entries_before rs n
     of true is most =
-        let more = entries_more rs n (any_record rs n within) within is in
+        let more = entries_more rs n is in
         let next = most n (omega arith) is in
         let rise = entries_rise rs linear once i n makes is low in
         omega (arith, more, next, rise)
     of false is most =
-        let same = entries_same rs n (any_record rs n within) within is in
+        let same = entries_same rs n within is in
         let next = most i (omega (arith, low)) makes in
         omega (arith, same, next)
 
@@ -240,7 +141,7 @@ entry_exact rs linear once reached i makes =
     let high =
     entry_high rs linear once reached (length rs - (i + 1)) (i + 1) (omega (arith, within)) i (omega arith)
     makes in
-    let more = entries_more rs i (any_record rs i within) within makes in
+    let more = entries_more rs i makes in
     omega (arith, low, high, more)
 
 -- a record that names more entries than are before it names one that is made behind it
@@ -263,7 +164,7 @@ names_before rs linear once reached i inside most (suc left) n all low same =
         let back = step_less rs linear n i (ledger is (omega (arith, own, same, most))) in
         omega (arith, back, low)
     of false is rest =
-        let none = entries_same rs n (any_record rs n within) within is in rest (omega (arith, none, same))
+        let none = entries_same rs n within is in rest (omega (arith, none, same))
 
 pub linear_order : (rs : List Record) → IsFreeOf rs EntryTwice → IsFreeOf rs LengthAhead
     → IsLinearization rs (places rs) → IsInOrder rs

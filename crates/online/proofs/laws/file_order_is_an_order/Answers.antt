@@ -1,5 +1,5 @@
-use Rattle.streams.proofs.OrderLemmas.{order_linear, order_greedy, linear_order}
-use Rattle.streams.proofs.laws.file_order_is_an_order.Goals as goal
+use Rattle.online.proofs.OrderLemmas.{order_linear, order_greedy, linear_order}
+use Rattle.online.proofs.laws.file_order_is_an_order.Goals as goal
 
 pub returns-clause-order : goal.returns-clause-order
 returns-clause-order c = order_linear

@@ -25,9 +25,9 @@ use Rattle.ompt_events.proofs.PlaceLemmas.{range_more, at_within}
 use Rattle.ompt_events.proofs.TurnLemmas.{begun_started}
 use Rattle.ompt_events.proofs.RegionLemmas.{begin_before}
 use Rattle.ompt_events.proofs.RecordLemmas.{region_running, at_through}
-use Rattle.streams.proofs.ReadLemmas.{IsSameTo, same_back, at_same, thread_same}
-use Rattle.streams.proofs.NameLemmas.{IsRead, IsMadeBelow, root_same, explicit_same, creation_same}
-use Rattle.streams.proofs.NameLemmas.{started_named, wait_named, running_named}
+use Rattle.online.proofs.ReadLemmas.{IsSameTo, same_back, at_same, thread_same}
+use Rattle.online.proofs.NameLemmas.{IsRead, IsMadeBelow, root_same, explicit_same, creation_same}
+use Rattle.online.proofs.NameLemmas.{started_named, wait_named, running_named}
 
 -- ---- what a record says is said by a body
 

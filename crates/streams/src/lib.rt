@@ -1,5 +1,0 @@
-//! Streams: records that are looked at one after another, in an order in which a program may have made them.
-//! `laws` says when file order is such an order. The definitions are in `specs/Streams.antt`.
-#![tactic(auto)]
-
-pub mod laws;
