@@ -12,7 +12,8 @@ use Rattle.ompt_events.specs.Traces.{IsSoundIn, IsInRange}
 use Rattle.ompt_events.proofs.ListLemmas.{pushed_cases}
 use Rattle.callbacks.specs.Standing.{Standing, standing_at_start, next_standing, standing_of, allows}
 use Rattle.callbacks.specs.Begun.{AreBegun}
-use Rattle.callbacks.specs.Logs.{LogView, known_from, known_of, Follows, AreOrderly, AreRecorded, IsKept}
+use Rattle.callbacks.specs.declared.thread_state.ThreadState.{ThreadState}
+use Rattle.callbacks.specs.Logs.{LogView, known_from, known_of, Follows, AreOrderly, AreRecorded, IsKept, IsLeft}
 
 take-all : (own : List Record) → take (length own) own ≡ own
 take-all [] = refl
@@ -78,26 +79,21 @@ kept-pushed nests own r standing next begun later kept is_kind is_next begun_are
     of_one q = q.nests ≡ nests
 
 -- the log with one more record
-pub log-pushed : (v later : LogView) (standing next : Standing) (begun grown : BTreeSet (ℕ × ℕ)) (r : Record)
-    → AreRecorded v.thread v.records v.known × IsKept v.nests v.records standing begun
+pub log-pushed : (v later : LogView) (next : ThreadState) (r : Record) → AreRecorded v.thread v.records v.known
     → length v.records < max_records → v.known ≤ r.seen → allows v.nests v.records r.body ≡ true
     → IsSoundIn 2 r.body → IsInRange r → r.thread ≡ v.thread → r.nests ≡ v.nests
     → r.seq ≡ length v.records
-    → later.thread ≡ v.thread → later.nests ≡ v.nests → later.records ≡ v.records ++ r ∷ []
+    → later.thread ≡ v.thread → later.records ≡ v.records ++ r ∷ []
     → later.known ≡ known_from r.seen r.body
-    → next ≡ next_standing v.nests standing r.body
-    → (v.nests ≡ true → AreBegun (v.records ++ r ∷ []) grown)
-    → AreRecorded later.thread later.records later.known × IsKept later.nests later.records next grown
-log-pushed v later standing next begun grown r kept few rises allowed sound in_range is_thread is_kind is_seq
-    same same_kind is_later is_known is_next begun_are =
+    → IsLeft (v.records ++ r ∷ []) next
+    → AreRecorded later.thread later.records later.known × IsLeft later.records next
+log-pushed v later next r recorded few rises allowed sound in_range is_thread is_kind is_seq same is_later
+    is_known left =
     let may = subst (λ n. allows n v.records r.body ≡ true) (sym is_kind) allowed in
-    let all = recorded-pushed v.thread v.known v.records r kept.0 few rises may sound in_range is_thread
-    is_seq in
-    let beside =
-    kept-pushed v.nests v.records r standing next begun grown kept.1 is_kind is_next begun_are in (
+    let all = recorded-pushed v.thread v.known v.records r recorded few rises may sound in_range is_thread
+    is_seq in (
       subst (λ t. AreRecorded t later.records later.known) (sym same)
           (subst (λ l. AreRecorded v.thread l later.known) (sym is_later)
           (subst (AreRecorded v.thread (v.records ++ r ∷ [])) (sym is_known) all)),
-      subst (λ n. IsKept n later.records next grown) (sym same_kind)
-          (subst (λ l. IsKept v.nests l next grown) (sym is_later) beside),
+      subst (λ l. IsLeft l next) (sym is_later) left,
     )

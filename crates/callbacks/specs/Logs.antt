@@ -7,6 +7,7 @@ use Rattle.ompt_events.specs.declared.records.Body.{Body}
 use Rattle.ompt_events.specs.Limits.{max_records}
 use Rattle.ompt_events.specs.Records.{finish}
 use Rattle.ompt_events.specs.Traces.{IsSoundIn, IsInRange}
+use Rattle.callbacks.specs.declared.thread_state.ThreadState.{ThreadState}
 use Rattle.callbacks.specs.Begun.{AreBegun}
 use Rattle.callbacks.specs.Standing.{Standing, standing_of, allows}
 
@@ -58,6 +59,10 @@ pub record IsKept (nests : Bool) (own : List Record) (standing : Standing)
   pub of_kind : AreOfKind nests own
   pub standing_is : standing ≡ standing_of own
   pub begun_are : nests ≡ true → AreBegun own begun
+
+-- the state of a thread is what these records of it leave
+abbrev pub IsLeft : List Record → ThreadState → Type 0
+IsLeft own s = IsKept s.nests own s.standing s.begun
 
 -- the log is as it was, except for its room
 pub record IsSameLog (old new : LogView) : Type 0 where

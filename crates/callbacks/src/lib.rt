@@ -6,8 +6,8 @@
 //! `gather_version_3` makes the trace that an auditor takes. docs/RECORDER.md has a worked program.
 //!
 //! A thread's records are in a `Buffer`: room is reserved before a record is made, so recording it cannot
-//! fail (`reserve_one`, then `push_reserved`). Read `buffer`, `task`, `begun` and `standing` first, then
-//! `log`, `recording` and the calls (`calls`, `regions`, `schedule`), and then `closed`, `gathering` and
+//! fail (`reserve_one`, then `push_reserved`). Read `buffer`, `task`, `begun`, `standing` and `thread_state`
+//! first, then `log`, `recording` and the calls (`calls`, `regions`, `schedule`), and then `closed`, `gathering` and
 //! `laws`. The definitions are in `specs/`; `specs/Lib.antt` gives their order.
 #![tactic(auto)]
 
@@ -26,6 +26,7 @@ mod regions;
 mod schedule;
 mod standing;
 mod task;
+mod thread_state;
 
 pub use buffer::Buffer;
 pub use buffer_fault::BufferFault;
@@ -33,4 +34,7 @@ pub use closed::{Closed, close_all};
 pub use fault::CallFault;
 pub use gathering::{gather, gather_version_3};
 pub use recording::{Note, Recorder};
+pub use schedule::Schedule;
+pub use standing::Standing;
 pub use task::{Origin, TaskData, TeamPlace};
+pub use thread_state::ThreadState;

@@ -3,14 +3,14 @@ ghost use Rattle.std.specs.Prelude.{◌≡◌, ◌≤◌, ◌<◌, ◌+◌, ◌^
 ghost use Rattle.ompt_events.specs.Limits.{max_records};
 ghost use Rattle.ompt_events.specs.Records.{begun_root, forked};
 ghost use Rattle.ompt_events.specs.Traces.{IsSoundIn};
-ghost use Rattle.callbacks.specs.Standing.{standing_of, begins_own_region, allows};
+ghost use Rattle.callbacks.specs.Standing.{standing_of, allows};
 ghost use Rattle.callbacks.specs.Logs.{IsSameLog, AreRecorded, AreOfKind, known_from};
 ghost use Rattle.callbacks.specs.declared.fault.CallFault.TheVariants.{Memory};
 
 use crate::Buffer;
-use crate::begun::Begun;
 use crate::fault::CallFault;
-use crate::standing::{Standing, is_on_host};
+use crate::standing::Standing;
+use crate::thread_state::ThreadState;
 use ompt_events::{Body, MAX_RECORDS, Record, finish};
 use std::alloc::Global;
 use std::marker::Model;
@@ -21,29 +21,25 @@ use std::marker::Model;
 #[derive(Drop)]
 pub(crate) struct Log {
     buffer: Buffer,
-    standing: Standing,
-    /// The regions that were begun here, where regions may lie inside others.
-    begun: Begun,
+    state: ThreadState,
     known: u32,
-    /// Whether regions may lie inside others.
-    nests: bool,
 }
 
 impl Model for Log {
-    ghost use Rattle.callbacks.specs.Logs.{LogView, AreRecorded, IsKept};
+    ghost use Rattle.callbacks.specs.Logs.{LogView, AreRecorded, IsLeft};
 
     ghost Value = { LogView };
 
     ghost view = { λ log. record {
       thread = log.buffer.thread;
-      nests = log.nests;
+      nests = log.state.nests;
       records = log.buffer.records;
       known = log.known;
       spare = log.buffer.spare;
     } };
 
     ghost invariant = { λ log. AreRecorded log.buffer.thread log.buffer.records log.known
-        × IsKept log.nests log.buffer.records log.standing log.begun };
+        × IsLeft log.buffer.records log.state };
 }
 
 impl Log {
@@ -56,10 +52,8 @@ impl Log {
     {
         Log {
             buffer: Buffer::new(alloc, thread),
-            standing: Standing::at_start(alloc),
-            begun: Begun::new(alloc),
+            state: ThreadState::new(alloc, nests),
             known: 0,
-            nests,
         }
     }
 
@@ -74,43 +68,21 @@ impl Log {
     pub(crate) fn nests(&self) -> bool
         ensures { result ≡ self.now.nests }
     {
-        self.nests
+        self.state.nests()
     }
 
     /// Returns the state of the thread after its records.
     pub(crate) fn standing(&self) -> &Standing
         ensures { result.now ≡ standing_of self.now.records }
     {
-        &self.standing
+        self.state.standing()
     }
 
     /// Returns whether a record with this body may come next, as far as the thread's records show.
     pub(crate) fn allows(&self, body: &Body) -> bool
         ensures { result ≡ allows self.now.nests self.now.records body.now }
     {
-        self.standing.fits(body)
-            && if self.nests {
-                self.begins_own_region(body)
-            } else {
-                self.standing.is_outside(body) && is_on_host(body)
-            }
-    }
-
-    /// Returns whether a root that begins inside another one is of a region that the current task has begun on
-    /// this thread.
-    fn begins_own_region(&self, body: &Body) -> bool
-        requires { self.now.nests ≡ true }
-        ensures { result ≡ begins_own_region self.now.records body.now }
-    {
-        if self.standing.innermost().is_none() {
-            return true;
-        }
-        let current = self.standing.current();
-        let is_own = match body.joined() {
-            Some(member) => self.begun.has_begun(current, member.parallel),
-            None => true,
-        };
-        is_own && (body.begun_initial().is_none() || self.begun.has_begun_one(current))
+        self.state.allows(body)
     }
 
     /// Returns the ledger length that the thread knew last.
@@ -191,15 +163,12 @@ impl Log {
         ensures returned { IfErr result (λ back. back ≡ body) }
         ensures infallible { begun_root body ≡ None → forked body ≡ None → IsOk result }
     {
-        let Ok(()) = self.begun.note(&body, self.nests) else {
-            return Err(body);
-        };
-        let Ok(()) = self.standing.advance(&body, self.nests) else {
+        let Ok(()) = self.state.advance(&body) else {
             return Err(body);
         };
         let event = Record {
             thread: self.buffer.thread(),
-            nests: self.nests,
+            nests: self.state.nests(),
             seq: self.buffer.len() as u32,
             seen,
             body,

@@ -18,6 +18,7 @@ use crate::Buffer;
 use crate::fault::{CallFault, of_ledger};
 use crate::log::Log;
 use crate::past::Past;
+use crate::standing::Standing;
 use crate::task::TaskData;
 use credit_ledger::{Entry, News, Seat, SharedLedger};
 use ompt_events::Body;
@@ -133,6 +134,13 @@ impl Recorder {
         ensures { result ≡ self.now.thread }
     {
         self.log.thread()
+    }
+
+    /// Returns the open roots of the thread and the task that it runs, by its records.
+    pub(crate) fn standing(&self) -> &Standing
+        ensures { result.now ≡ standing_of self.now.records }
+    {
+        self.log.standing()
     }
 
     /// Returns the task that the thread runs, by its records.

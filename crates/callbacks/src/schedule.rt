@@ -10,12 +10,13 @@ ghost use Rattle.ompt_events.specs.Names.{status_part};
 ghost use Rattle.credit_ledger.specs.Places.{ledger_id};
 ghost use Rattle.callbacks.specs.Tasks.{TaskView, after_start, after_stop, entry_of_part, credit_of, entered_credit_of, MovesCredit};
 ghost use Rattle.callbacks.specs.Calls.{call_fault};
-ghost use Rattle.callbacks.specs.Recorders.{IsConcluded, IsFinishRefused, allowed};
+ghost use Rattle.callbacks.specs.Standing.{standing_of};
+ghost use Rattle.callbacks.specs.Recorders.{RecorderView, IsConcluded, IsFinishRefused, allowed};
 ghost use Rattle.callbacks.specs.Schedules.{turns_of, schedule_body, may_start, may_schedule, is_by_parent, has_its_next, is_last_turn, schedule_refusal, IsStopped, IsStoppedBy, stopped_entry, left_of, schedule_of, switch_refusal, is_pause, LeavesNext, with_discarded, discard_body, may_discard, discard_refusal};
 
 use crate::fault::CallFault;
 use crate::recording::Recorder;
-use crate::standing::is_task;
+use crate::standing::{Standing, is_task};
 use crate::task::TaskData;
 use bitflags::Flags;
 use credit_ledger::SharedLedger;
@@ -25,7 +26,7 @@ use std::sync::Wait;
 
 /// A task that stops or is fulfilled with a status, and the task that runs next, if there is one.
 #[derive(Drop)]
-struct Schedule<'a> {
+pub struct Schedule<'a> {
     prior: &'a TaskData,
     status: Status,
     next: Option<&'a TaskData>,
@@ -45,6 +46,28 @@ impl<'a> Model for Schedule<'a> {
 }
 
 impl<'a> Schedule<'a> {
+    /// Returns the schedule by which the task stops or is fulfilled, and none runs next.
+    pub fn of(prior: &'a TaskData, status: Status) -> Schedule<'a>
+        ensures { result ≡ schedule_of prior.now status None }
+    {
+        Schedule {
+            prior,
+            status,
+            next: None,
+        }
+    }
+
+    /// Returns the schedule by which the task stops, and the other one runs next.
+    pub fn before(prior: &'a TaskData, status: Status, next: &'a TaskData) -> Schedule<'a>
+        ensures { result ≡ schedule_of prior.now status (Some next.now) }
+    {
+        Schedule {
+            prior,
+            status,
+            next: Some(next),
+        }
+    }
+
     /// Returns the body of its record, with the claim of a task that it finishes.
     fn body(&self, claim: Option<BoxedClaim>) -> Body
         ensures { result ≡ schedule_body self.now claim }
@@ -59,7 +82,7 @@ impl<'a> Schedule<'a> {
     }
 
     /// Returns the id of the task that runs next.
-    fn next_id(&self) -> Option<u64>
+    pub fn next_id(&self) -> Option<u64>
         ensures { result ≡ option_map (λ n. n.id) self.now.next }
     {
         match self.next {
@@ -69,7 +92,7 @@ impl<'a> Schedule<'a> {
     }
 
     /// Returns the turn that ends, and the turn that begins.
-    fn turns(&self) -> Option<Turns>
+    pub fn turns(&self) -> Option<Turns>
         ensures { result ≡ option_map (turns_of self.now.prior) self.now.next }
     {
         match self.next {
@@ -82,7 +105,7 @@ impl<'a> Schedule<'a> {
     }
 
     /// Returns whether there is a next task that has no further turn.
-    fn is_last_turn(&self) -> bool
+    pub fn is_last_turn(&self) -> bool
         ensures { result ≡ is_last_turn self.now }
     {
         match self.next {
@@ -103,41 +126,44 @@ impl<'a> Schedule<'a> {
     }
 }
 
-impl Recorder {
-    /// Returns whether the task may run next here.
-    fn may_start(&self, next: &TaskData) -> bool
-        ensures { result ≡ may_start self.now next.now }
+impl<'a> Schedule<'a> {
+    /// Returns whether the tasks allow the schedule, on a thread of this number and state.
+    pub fn is_allowed(&self, thread: u8, standing: &Standing) -> bool
+        ensures { (r : RecorderView) → r.thread ≡ thread → standing.now ≡ standing_of r.records
+            → result ≡ may_schedule r self.now }
     {
-        let is_here = next.place().is_none()
-            || (next.is_root_on(self.thread()) && is_task(next.id(), self.innermost_root()));
-        next.state_started().is_some() && is_here
-    }
-
-    /// Returns whether the taskwait's parent runs, if the status is that of a complete taskwait; else true.
-    fn is_by_parent(&self, prior: &TaskData, status: Status) -> bool
-        ensures { result ≡ is_by_parent self.now prior.now status }
-    {
-        match status {
-            Status::TaskwaitComplete => match prior.parent() {
-                Some(parent) => is_task(parent, self.current()),
-                None => false,
-            },
-            _ => true,
-        }
-    }
-
-    /// Returns whether the tasks allow the schedule.
-    fn may_schedule(&self, schedule: &Schedule) -> bool
-        ensures { result ≡ may_schedule self.now schedule.now }
-    {
-        let may_start = match schedule.next {
-            Some(next) => self.may_start(next),
+        let may_start = match self.next {
+            Some(next) => may_start(thread, standing, next),
             None => true,
         };
-        schedule.prior.state_stopped(schedule.status).is_some()
-            && schedule.has_its_next()
-            && self.is_by_parent(schedule.prior, schedule.status)
+        self.prior.state_stopped(self.status).is_some()
+            && self.has_its_next()
+            && is_by_parent(standing, self.prior, self.status)
             && may_start
+    }
+}
+
+/// Returns whether the task may run next on a thread of this number and state.
+fn may_start(thread: u8, standing: &Standing, next: &TaskData) -> bool
+    ensures { (r : RecorderView) → r.thread ≡ thread → standing.now ≡ standing_of r.records
+        → result ≡ may_start r next.now }
+{
+    let is_here = next.place().is_none()
+        || (next.is_root_on(thread) && is_task(next.id(), standing.innermost()));
+    next.state_started().is_some() && is_here
+}
+
+/// Returns whether the taskwait's parent runs, if the status is that of a complete taskwait; else true.
+fn is_by_parent(standing: &Standing, prior: &TaskData, status: Status) -> bool
+    ensures { (r : RecorderView) → standing.now ≡ standing_of r.records
+        → result ≡ is_by_parent r prior.now status }
+{
+    match status {
+        Status::TaskwaitComplete => match prior.parent() {
+            Some(parent) => is_task(parent, standing.current()),
+            None => false,
+        },
+        _ => true,
     }
 }
 
@@ -159,7 +185,7 @@ impl Recorder {
             (stopped_entry self.old schedule.now) self.new) }
     {
         let body = schedule.body(None);
-        let may = self.may_schedule(schedule);
+        let may = schedule.is_allowed(self.thread(), self.standing());
         self.test(may, false, schedule.is_last_turn(), &body)?;
         match schedule.status.part() {
             None => {
@@ -216,12 +242,7 @@ impl Recorder {
             (schedule_refusal self.old (schedule_of prior.now status (Some next.now)))
             (stopped_entry self.old (schedule_of prior.now status (Some next.now))) self.new) }
     {
-        let schedule = Schedule {
-            prior,
-            status,
-            next: Some(next),
-        };
-        self.stop(ledger, wait, &schedule)
+        self.stop(ledger, wait, &Schedule::before(prior, status, next))
     }
 
     /// Records that the prior task stops, and the next one runs. Returns what is left of the prior task.
@@ -278,11 +299,7 @@ impl Recorder {
             (schedule_refusal self.old (schedule_of prior status None))
             (stopped_entry self.old (schedule_of prior status None)) self.new refused.1) }
     {
-        let schedule = Schedule {
-            prior: &prior,
-            status,
-            next: None,
-        };
+        let schedule = Schedule::of(&prior, status);
         match self.stop(ledger, wait, &schedule) {
             Ok(()) => Ok(left_of(prior, status)),
             Err(fault) => Err((prior, fault)),

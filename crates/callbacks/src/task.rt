@@ -86,6 +86,21 @@ impl TaskData {
         self.state
     }
 
+    /// Returns the turn that it began last, if it has begun one.
+    pub fn begun_turn(&self) -> Option<u32>
+        ensures { result ≡ self.now.turn }
+    {
+        self.turn
+    }
+
+    /// Returns what a record that finishes it now must claim: its root, its path from there, and how many
+    /// children it has.
+    pub fn claim(&self) -> &Claim
+        ensures { result.now ≡ self.now.claim }
+    {
+        &self.claim
+    }
+
     /// Returns the task that created it; an initial or implicit task has none.
     pub fn parent(&self) -> Option<u64>
         ensures { result ≡ parent_of self.now.origin }
@@ -94,6 +109,13 @@ impl TaskData {
             Origin::Explicit(parent) => Some(parent),
             Origin::Root(_) => None,
         }
+    }
+
+    /// Returns the flags with which it was created, or began.
+    pub fn flags(&self) -> TaskFlags
+        ensures { result ≡ self.now.flags }
+    {
+        self.flags
     }
 
     /// Returns the kinds of its open regions, the innermost last.
@@ -107,7 +129,7 @@ impl TaskData {
 // How a task is made, and how the calls change it.
 impl TaskData {
     /// Returns a root that begins. Takes no memory.
-    pub(crate) fn root(alloc: Global, id: u64, place: TeamPlace, flags: TaskFlags) -> TaskData
+    pub fn root(alloc: Global, id: u64, place: TeamPlace, flags: TaskFlags) -> TaskData
         requires { are_named task_flags flags.0 ≡ true }
         ensures { result ≡ root_of id place flags }
     {
@@ -127,7 +149,7 @@ impl TaskData {
     }
 
     /// Returns the child that the task creates next.
-    pub(crate) fn child(&self, id: u64, flags: TaskFlags) -> Result<TaskData, AllocError>
+    pub fn child(&self, id: u64, flags: TaskFlags) -> Result<TaskData, AllocError>
         requires shallow { length self.now.claim.path < 1024 }
         requires named { are_named task_flags flags.0 ≡ true }
         ensures { IfOk result (λ child. child ≡ child_of self.now id flags) }
@@ -149,7 +171,7 @@ impl TaskData {
     }
 
     /// Counts one more child of the task.
-    pub(crate) fn count_child(&mut self)
+    pub fn count_child(&mut self)
         requires { self.old.claim.kept + 1 < 2 ^ 32 }
         ensures { self.new ≡ with_child self.old }
     {
@@ -157,7 +179,7 @@ impl TaskData {
     }
 
     /// Stops or fulfils the task with this status, if that is allowed.
-    pub(crate) fn stop(&mut self, status: Status)
+    pub fn stop(&mut self, status: Status)
         ensures { self.new ≡ after_stop self.old status }
     {
         if let Some(state) = self.state_stopped(status) {
@@ -166,7 +188,7 @@ impl TaskData {
     }
 
     /// Starts the next turn of the task, if that is allowed.
-    pub(crate) fn start(&mut self)
+    pub fn start(&mut self)
         ensures { self.new ≡ after_start self.old }
     {
         let state = self.state_started();
@@ -178,7 +200,7 @@ impl TaskData {
     }
 
     /// Begins a region of the task. Fails only when out of memory.
-    pub(crate) fn begin_region(&mut self, kind: SyncKind) -> Result<(), AllocError>
+    pub fn begin_region(&mut self, kind: SyncKind) -> Result<(), AllocError>
         ensures begun { OnOk result (self.new ≡ with_region self.old kind) }
         ensures unchanged { OnErr result (self.new ≡ self.old) }
     {
@@ -187,7 +209,7 @@ impl TaskData {
     }
 
     /// Ends the innermost region of the task.
-    pub(crate) fn end_region(&mut self)
+    pub fn end_region(&mut self)
         ensures { self.new ≡ without_region self.old }
     {
         self.regions.pop();
@@ -195,7 +217,7 @@ impl TaskData {
 
     /// Returns the entry that the ledger gets when the part of the task is finished on the thread, and the
     /// claim of its record.
-    pub(crate) fn finish(&self, thread: u8, part: Part) -> Result<(Entry, BoxedClaim), AllocError>
+    pub fn finish(&self, thread: u8, part: Part) -> Result<(Entry, BoxedClaim), AllocError>
         ensures entry { IfOk result (λ made. made.0 ≡ entry_of_part thread part self.now) }
         ensures claim { IfOk result (λ made. made.1 ≡ self.now.claim) }
         ensures short { IfOk result (λ made. (length made.0.path ≤ 1024) × (length made.1.path ≤ 1024)) }
@@ -221,7 +243,7 @@ impl TaskData {
 // What a call asks about a task.
 impl TaskData {
     /// Returns the place of the task as a root, if it is one.
-    pub(crate) fn place(&self) -> Option<TeamPlace>
+    pub fn place(&self) -> Option<TeamPlace>
         ensures { result ≡ place_of self.now.origin }
     {
         match self.origin {
@@ -231,7 +253,7 @@ impl TaskData {
     }
 
     /// Returns whether it is a root that began on the thread.
-    pub(crate) fn is_root_on(&self, thread: u8) -> bool
+    pub fn is_root_on(&self, thread: u8) -> bool
         ensures { result ≡ is_root_on thread self.now }
     {
         match self.place() {
@@ -242,7 +264,7 @@ impl TaskData {
 
     /// Returns the body of the record with which it ends as a root, with the flags and the place in its
     /// team with which it began.
-    pub(crate) fn end_of_root(&self, parallel: u64) -> Body
+    pub fn end_of_root(&self, parallel: u64) -> Body
         ensures body { result ≡ end_of_root self.now parallel }
         ensures sound { IsSoundIn 2 result }
     {
@@ -261,28 +283,28 @@ impl TaskData {
     }
 
     /// Returns whether it is an initial task.
-    pub(crate) fn is_initial(&self) -> bool
+    pub fn is_initial(&self) -> bool
         ensures { result ≡ is_initial_task self.now }
     {
         self.place().is_some() && self.flags.contains(TaskFlags::INITIAL)
     }
 
     /// Returns the state after the task stops or is fulfilled with this status, if that is allowed.
-    pub(crate) fn state_stopped(&self, status: Status) -> Option<State>
+    pub fn state_stopped(&self, status: Status) -> Option<State>
         ensures { result ≡ state_moved self.now (states.Stopped status) }
     {
         self.state_moved(Move::Stopped(status))
     }
 
     /// Returns the state after the task runs next, if that is allowed.
-    pub(crate) fn state_started(&self) -> Option<State>
+    pub fn state_started(&self) -> Option<State>
         ensures { result ≡ state_moved self.now states.Started }
     {
         self.state_moved(Move::Started)
     }
 
     /// Returns the state after the task is discarded, if that is allowed.
-    pub(crate) fn state_discarded(&self) -> Option<State>
+    pub fn state_discarded(&self) -> Option<State>
         ensures { result ≡ state_moved self.now states.Discarded }
     {
         self.state_moved(Move::Discarded)
@@ -308,14 +330,14 @@ impl TaskData {
     }
 
     /// Returns the turn in which the task is, or 0 if it has begun none.
-    pub(crate) fn turn(&self) -> u32
+    pub fn turn(&self) -> u32
         ensures { result ≡ current_turn self.now }
     {
         self.turn.unwrap_or(0)
     }
 
     /// Returns the turn that the task begins next, if it is a number of 32 bits.
-    pub(crate) fn next_turn(&self) -> Option<u32>
+    pub fn next_turn(&self) -> Option<u32>
         ensures { result ≡ turn_begun_next self.now }
     {
         match self.turn {
@@ -325,21 +347,21 @@ impl TaskData {
     }
 
     /// Returns whether its children would be too deep.
-    pub(crate) fn is_deep(&self) -> bool
+    pub fn is_deep(&self) -> bool
         ensures { result ≡ is_deep self.now }
     {
         self.claim.path.len() >= MAX_DEPTH
     }
 
     /// Returns whether it has as many children as a task may have.
-    pub(crate) fn is_crowded(&self) -> bool
+    pub fn is_crowded(&self) -> bool
         ensures { result ≡ is_crowded self.now }
     {
         self.claim.kept == u32::MAX
     }
 
     /// Returns whether it runs, so that it may create other tasks.
-    pub(crate) fn is_running(&self) -> bool
+    pub fn is_running(&self) -> bool
         ensures { result ≡ is_running self.now.state }
     {
         match self.state {
@@ -349,7 +371,7 @@ impl TaskData {
     }
 
     /// Returns whether the innermost open region is of this kind.
-    pub(crate) fn is_innermost_region(&self, kind: SyncKind) -> bool
+    pub fn is_innermost_region(&self, kind: SyncKind) -> bool
         ensures { result ≡ is_innermost_region self.now kind }
     {
         match self.regions.last() {
@@ -360,7 +382,7 @@ impl TaskData {
 
     /// Returns whether the region is a barrier and the task is explicit. An explicit task may have no
     /// barrier (OpenMP 5.2, 15.3).
-    pub(crate) fn is_barred(&self, kind: SyncKind) -> bool
+    pub fn is_barred(&self, kind: SyncKind) -> bool
         ensures { result ≡ is_barred self.now kind }
     {
         kind.is_called_barrier() && self.parent().is_some()

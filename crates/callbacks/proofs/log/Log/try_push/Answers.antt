@@ -1,4 +1,4 @@
-use Rattle.std.proofs.Common.{◌≡◌, ◌<◌, ◌≤◌, true, refl, subst, sym, length}
+use Rattle.std.proofs.Common.{◌≡◌, ◌∙◌, ◌<◌, ◌≤◌, true, refl, subst, sym, length}
 use Rattle.ompt_events.specs.declared.records.Record.{Record}
 use Rattle.ompt_events.specs.Limits.{max_records}
 use Rattle.callbacks.specs.Logs.{LogView}
@@ -11,21 +11,21 @@ invariant_of-self-2 c =
     let i = c.self.inside in
     let before : LogView = record {
       thread = i.buffer.thread;
-      nests = i.nests;
+      nests = i.state.nests;
       records = i.buffer.records;
       known = i.known;
       spare = i.buffer.spare;
     } in
     let event : Record = record {
       thread = c.thread.result;
-      nests = c.self.inside.nests;
+      nests = c.nests.result;
       seq = c.len.result;
       seen = c.args.seen;
       body = c.args.body;
     } in
     let after : LogView = record {
       thread = c.push_reserved.new.self.thread;
-      nests = c.self.inside.nests;
+      nests = i.state.nests;
       records = c.push_reserved.new.self.records;
       known = c.known_from-self-inside.result;
       spare = 0;
@@ -35,8 +35,8 @@ invariant_of-self-2 c =
     let allowed =
     subst (λ (v : LogView). allows v.nests v.records c.args.body ≡ true) (sym c.self.view_is)
     c.requires.allowed in
-    log-pushed before after i.standing c.advance.new.self i.begun c.note.new.self event
-    c.self.invariant few rises allowed c.requires.sound c.read_numbers.ensures
-    c.thread.ensures refl c.len.ensures c.push_reserved.ensures.thread refl c.push_reserved.ensures.records
-    c.known_from-self-inside.ensures c.in-Ok-advance.ensures.advanced
-    (λ nests. c.in-Ok.ensures.noted nests i.buffer.records event refl (c.self.invariant.1.begun_are nests))
+    log-pushed before after c.advance.new.self event
+    c.self.invariant.0 few rises allowed c.requires.sound c.read_numbers.ensures
+    c.thread.ensures (c.nests.ensures ∙ c.advance.ensures.nests) c.len.ensures c.push_reserved.ensures.thread c.push_reserved.ensures.records
+    c.known_from-self-inside.ensures
+    (c.in-Ok.ensures.left i.buffer.records event refl (c.nests.ensures ∙ c.advance.ensures.nests) c.self.invariant.1)
