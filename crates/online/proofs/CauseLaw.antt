@@ -1,54 +1,21 @@
 -- Which causes a record shows when it is read.
-use Rattle.std.proofs.Common.{◌≡◌, ◌∙◌, ℕ, ◌<◌, ◌≤◌, true, List, ◌++◌, length, sym, arith, inl, inr}
-use Rattle.std.proofs.lemmas.Bool.{false≢true, cases_lt}
-use Rattle.std.proofs.lemmas.List.{length-append}
+use Rattle.std.proofs.Common.{◌≡◌, ℕ, ◌<◌, true, List, ◌++◌, length, arith}
+use Rattle.std.proofs.lemmas.Bool.{false≢true}
 use Rattle.ompt_events.specs.declared.records.Record.{Record}
 use Rattle.ompt_events.specs.declared.cause.Cause.{Cause}
 use Rattle.ompt_events.specs.declared.cause.Cause.TheVariants.{CreatedTwice}
-use Rattle.ompt_events.specs.Records.{made}
 use Rattle.ompt_events.specs.HappensBefore.{program}
 use Rattle.ompt_events.specs.Causes.{HasCause, IsFreeOf, seq_gap, created_twice, forked_twice, rootless}
 use Rattle.ompt_events.specs.Causes.{not_current, moved, turn_gap, status_order, region_order, barrier_order}
 use Rattle.ompt_events.specs.Causes.{team_short, nested_parallel, region_nesting, deps_place, share_wrong}
 use Rattle.ompt_events.specs.Causes.{entry_twice, length_ahead, length_back, no_order, target_task}
-use Rattle.ompt_events.proofs.PlaceLemmas.{at_within}
 use Rattle.ompt_events.proofs.HappensBeforeLemmas.{step_from}
 use Rattle.online.specs.Online.{IsWatchable, is_told_at_once, stays_told}
 use Rattle.online.proofs.OrderLemmas.{steps_forward}
-use Rattle.online.proofs.ReadLemmas.{IsSameTo, same_append, same_back, at_same, seq_same, made_same}
-use Rattle.online.proofs.ReadLemmas.{forked_same}
-use Rattle.online.proofs.NameLemmas.{IsRead}
+use Rattle.online.proofs.ReadLemmas.{IsSameTo, same_append, same_whole, seq_same, made_same, forked_same}
+use Rattle.online.proofs.NameLemmas.{IsRead, read_whole, read_part, whole_long}
 use Rattle.online.proofs.CurrentLemmas.{current_same, moved_same, gap_left, begin_same, barrier_same}
 use Rattle.online.proofs.NestingLemmas.{nested_same, misnested_same, repeat_same, behind_same, target_same}
-
--- ---- the first records of watchable ones, among all and alone
-
-read_whole : (before after : List Record) → IsWatchable (before ++ after)
-    → IsFreeOf (before ++ after) CreatedTwice → IsRead (length before) (before ++ after)
-read_whole before after watchable once = record {
-  named = λ i task below name.
-      let found = watchable.named i task name in
-      (found.0, (let low = found.1 in omega (arith, low, below)), found.2);
-  once = λ k j task low makes again. elim (cases_lt j (length before)) [
-    | inl inside ↦ inside
-    | inr past ↦ absurd (once j (created_twice (task, k, omega (arith, low, past), makes, again)))
-  ];
-}
-
-read_part : (before after : List Record) → IsWatchable (before ++ after) → IsRead (length before) before
-read_part before after watchable = record {
-  named = λ i task below name.
-      let same = same_append before after in
-      let found = watchable.named i task (name.0, same.there i below ∙ name.1, name.2) in
-      let low : found.0 < length before = let l = found.1 in omega (arith, l, below) in
-      (found.0, low, sym (at_same made (length before) (before ++ after) before same found.0 low) ∙ found.2);
-  once = λ k j task low makes again. at_within made before j task again;
-}
-
-whole_long : (before after : List Record) → length before ≤ length (before ++ after)
-whole_long before after = let l = length-append before after in omega (arith, l)
-
--- ---- the laws
 
 pub shown_at_once : (before after : List Record) (i : ℕ) (cause : Cause) → IsWatchable (before ++ after)
     → IsFreeOf (before ++ after) CreatedTwice → is_told_at_once cause ≡ true → i < length before
@@ -104,7 +71,7 @@ stays_shown before after i cause watchable once told below h = of h told
     n = length before
 
     same : IsSameTo (length before) before (before ++ after)
-    same = same_back (length before) (before ++ after) before (same_append before after)
+    same = same_whole before after
 
     read : IsRead (length before) before
     read = read_part before after watchable

@@ -158,7 +158,7 @@ gap_left n xs ys same read short i below (missing task turn tells none) =
 
 -- ---- RegionOrder
 
-own_same : (n : ℕ) (xs ys : List Record) → IsSameTo n xs ys → (task k : ℕ) → k < n
+pub own_same : (n : ℕ) (xs ys : List Record) → IsSameTo n xs ys → (task k : ℕ) → k < n
     → is_own xs task k ≡ is_own ys task k
 own_same n xs ys same task k below =
     ap (λ o. option_map_or (λ t. t == task) o false) (at_same running n xs ys same k below)

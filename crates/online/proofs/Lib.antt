@@ -1,6 +1,15 @@
-mod OrderLemmas
-mod ReadLemmas
-mod NameLemmas
-mod CurrentLemmas
+pub mod OrderLemmas
+pub mod ReadLemmas
+pub mod NameLemmas
+pub mod CurrentLemmas
+pub mod ChildLemmas
+pub mod BarrierLemmas
+pub mod TeamLemmas
+pub mod KeptLemmas
+pub mod CompleteLemmas
+pub mod CoverLemmas
+pub mod PrecededLemmas
+pub mod RequiredLemmas
+mod SizeLemmas
 mod NestingLemmas
 mod CauseLaw

@@ -1,8 +1,10 @@
 -- What tasks watchable records name, and which of them are made there.
-use Rattle.std.proofs.Common.{◌≡◌, ◌∙◌, ℕ, ◌<◌, List, Some, None, sym, ap}
-use Rattle.std.proofs.Common.{arith, Bool, true, false}
+use Rattle.std.proofs.Common.{◌≡◌, ◌∙◌, ℕ, ◌<◌, ◌≤◌, List, ◌++◌, length, Some, None, sym, ap, inl, inr, arith}
+use Rattle.std.proofs.Common.{Bool, true, false}
 use Rattle.std.specs.Prelude.{Contains, if◌then◌else◌}
+use Rattle.std.proofs.lemmas.Bool.{cases_lt}
 use Rattle.std.proofs.lemmas.Option.{none-some, same_Some}
+use Rattle.std.proofs.lemmas.List.{length-append}
 use Rattle.ompt_events.specs.declared.records.Record.{Record}
 use Rattle.ompt_events.specs.declared.records.Body.{Body}
 use Rattle.ompt_events.specs.declared.records.Body.TheVariants.{ParallelBegin, ParallelEnd, ImplicitTask}
@@ -13,15 +15,17 @@ use Rattle.ompt_events.specs.Names.{demands_next}
 use Rattle.ompt_events.specs.Flags.{has_flag}
 use Rattle.ompt_events.specs.Flags as flag
 use Rattle.ompt_events.specs.Records.{made, created, creation, begun_root, begun_initial, joined, named}
-use Rattle.ompt_events.specs.Records.{running}
-use Rattle.ompt_events.specs.Records.{started, wait_completed}
+use Rattle.ompt_events.specs.Records.{running, started, wait_completed}
 use Rattle.ompt_events.specs.Places.{at}
 use Rattle.ompt_events.specs.Tree.{IsRoot, IsExplicit, IsCreatedAt}
 use Rattle.ompt_events.specs.Teams.{IsInitial, IsMember}
-use Rattle.ompt_events.specs.Causes.{IsNamedAt}
+use Rattle.ompt_events.specs.Causes.{IsNamedAt, IsFreeOf, created_twice}
+use Rattle.ompt_events.specs.declared.cause.Cause.TheVariants.{CreatedTwice}
 use Rattle.ompt_events.proofs.RecordLemmas.{begun_at_made, created_at_made, creation_at_created, initial_made}
 use Rattle.ompt_events.proofs.RecordLemmas.{member_made, at_through}
-use Rattle.online.proofs.ReadLemmas.{IsSameTo, at_same}
+use Rattle.ompt_events.proofs.PlaceLemmas.{at_within}
+use Rattle.online.specs.Online.{IsWatchable}
+use Rattle.online.proofs.ReadLemmas.{IsSameTo, same_append, at_same}
 
 -- ---- the names in one record
 
@@ -67,7 +71,7 @@ pub record IsRead (n : ℕ) (rs : List Record) : Type 0 where
 abbrev pub IsMadeBelow : ℕ → List Record → ℕ → Type 0
 IsMadeBelow n rs task = (k : ℕ) × (k < n) × (at made rs k ≡ Some task)
 
-made_low : (n : ℕ) (rs : List Record) (task j : ℕ) → IsRead n rs → IsMadeBelow n rs task
+pub made_low : (n : ℕ) (rs : List Record) (task j : ℕ) → IsRead n rs → IsMadeBelow n rs task
     → at made rs j ≡ Some task → j < n
 made_low n rs task j read (k, low, makes) again = read.once k j task low makes again
 
@@ -106,3 +110,30 @@ member_same n xs ys same read task below (j, m, joins, is) =
     at_through joined made m m.member xs j (member_made m) joins ∙ ap Some is in
     let low = made_low n xs task j read below makes in
     (j, m, sym (at_same joined n xs ys same j low) ∙ joins, is)
+
+-- ---- the first records of watchable ones, among all and alone
+
+pub read_whole : (before after : List Record) → IsWatchable (before ++ after)
+    → IsFreeOf (before ++ after) CreatedTwice → IsRead (length before) (before ++ after)
+read_whole before after watchable once = record {
+  named = λ i task below name.
+      let found = watchable.named i task name in
+      (found.0, (let low = found.1 in omega (arith, low, below)), found.2);
+  once = λ k j task low makes again. elim (cases_lt j (length before)) [
+    | inl inside ↦ inside
+    | inr past ↦ absurd (once j (created_twice (task, k, omega (arith, low, past), makes, again)))
+  ];
+}
+
+pub read_part : (before after : List Record) → IsWatchable (before ++ after) → IsRead (length before) before
+read_part before after watchable = record {
+  named = λ i task below name.
+      let same = same_append before after in
+      let found = watchable.named i task (name.0, same.there i below ∙ name.1, name.2) in
+      let low : found.0 < length before = let l = found.1 in omega (arith, l, below) in
+      (found.0, low, sym (at_same made (length before) (before ++ after) before same found.0 low) ∙ found.2);
+  once = λ k j task low makes again. at_within made before j task again;
+}
+
+pub whole_long : (before after : List Record) → length before ≤ length (before ++ after)
+whole_long before after = let l = length-append before after in omega (arith, l)

@@ -171,7 +171,7 @@ repeat_same n xs ys same i below (k, earlier, first, second, is) =
       sym (seen_same n xs ys same k low) ∙ is ∙ seen_same n xs ys same i below,
     )
 
-start_same : (n : ℕ) (xs ys : List Record) → IsSameTo n xs ys → (i task : ℕ) → i < n → IsStart xs i task
+pub start_same : (n : ℕ) (xs ys : List Record) → IsSameTo n xs ys → (i task : ℕ) → i < n → IsStart xs i task
     → IsStart ys i task
 start_same n xs ys same i task below start = record {
   starts = sym (at_same begun_turn n xs ys same i below) ∙ start.starts;

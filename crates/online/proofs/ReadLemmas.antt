@@ -33,6 +33,9 @@ same_append xs ys = record {
   before = λ k most. take-append-le k xs ys most;
 }
 
+pub same_whole : (xs ys : List Record) → IsSameTo (length xs) xs (xs ++ ys)
+same_whole xs ys = same_back (length xs) (xs ++ ys) xs (same_append xs ys)
+
 pub at_same : {X : Type 0} (f : Body → Option X) (n : ℕ) (xs ys : List Record) → IsSameTo n xs ys → (k : ℕ)
     → k < n
     → at f xs k ≡ at f ys k

@@ -1,15 +1,25 @@
 -- Records that can be looked at one after another, in an order in which a program may have made them.
-use Rattle.std.specs.Prelude.{ℕ, ◌≡◌, ◌<◌, ◌≤◌, Bool, true, false, List, length, Some}
+use Rattle.std.specs.Prelude.{ℕ, ◌≡◌, ◌≢◌, ◌<◌, ◌≤◌, ◌⊎◌, Bool, true, false, List, length, Some}
+use Rattle.std.specs.Prelude.{Contains}
 use Rattle.ompt_events.specs.declared.records.Record.{Record}
+use Rattle.ompt_events.specs.declared.records.Membership.{Membership}
+use Rattle.ompt_events.specs.declared.records.Part.{Part}
+use Rattle.ompt_events.specs.declared.records.Part.TheVariants.{Event}
+use Rattle.ompt_events.specs.declared.names.SyncKind.{SyncKind}
+use Rattle.ompt_events.specs.declared.deps.Dep.{Dep}
 use Rattle.ompt_events.specs.declared.cause.Cause.{Cause}
 use Rattle.ompt_events.specs.declared.cause.Cause.TheVariants.{SeqGap, CreatedTwice, NotCurrent, Moved}
 use Rattle.ompt_events.specs.declared.cause.Cause.TheVariants.{TurnGap}
 use Rattle.ompt_events.specs.declared.cause.Cause.TheVariants.{RegionOrder, NestedParallel, RegionNesting}
 use Rattle.ompt_events.specs.declared.cause.Cause.TheVariants.{EntryTwice, LengthBack, TargetTask}
-use Rattle.ompt_events.specs.Records.{made, created, discarded, fulfilled}
+use Rattle.ompt_events.specs.Records.{made, created, discarded, fulfilled, finish, running, dependences}
+use Rattle.ompt_events.specs.Records.{created_with_deps, wait_completed}
 use Rattle.ompt_events.specs.Places.{at, seen_at}
+use Rattle.ompt_events.specs.Tree.{IsExplicit, IsChild}
+use Rattle.ompt_events.specs.Teams.{members, IsTeammate}
+use Rattle.ompt_events.specs.Regions.{IsRegion, is_barrier, IsBarrierBegin}
 use Rattle.ompt_events.specs.HappensBefore.{IsFinishing, IsStart, IsResumption}
-use Rattle.ompt_events.specs.Causes.{entries_before, IsNamedAt}
+use Rattle.ompt_events.specs.Causes.{entries_before, IsNamedAt, AreFollowed}
 
 -- each record stands behind what it has seen, and behind the creation or the suspension with which it goes on
 pub record IsInOrder (rs : List Record) : Type 0 where
@@ -48,3 +58,49 @@ is_told_at_once _ = false
 abbrev pub stays_told : Cause → Bool
 stays_told TurnGap = false
 stays_told cause = is_told_at_once cause
+
+-- ---- what must be complete
+
+-- no record of a task stands behind one that finishes the task's body, or the task whole
+abbrev pub EndsLast : List Record → Type 0
+EndsLast rs =
+    (task e k : ℕ) (part : Part) → at finish rs e ≡ Some (task, part) → part ≢ Event
+    → at running rs k ≡ Some task → k ≤ e
+
+-- the records have all members of the task's team, as many as its size
+abbrev pub HasWholeTeam : List Record → ℕ → Type 0
+HasWholeTeam rs task =
+    (parallel : ℕ) (m : Membership) → Contains (members rs parallel) m → m.member ≡ task
+    → m.actual ≤ length (members rs parallel)
+
+-- each barrier begin that counts for the end at i stands before the place n
+abbrev pub AreBegun : List Record → ℕ → ℕ → Type 0
+AreBegun rs n i =
+    (own begin member number start : ℕ) (kind : SyncKind) → IsRegion rs i own kind begin
+    → is_barrier kind ≡ true → IsBarrierBegin rs own number begin → IsTeammate rs own member
+    → IsBarrierBegin rs member number start → start < n
+
+-- where a barrier ends at i, the records have the whole team, and each member's barrier begin of that number
+abbrev pub HasTeamBegun : List Record → ℕ → Type 0
+HasTeamBegun rs i =
+    (own begin number : ℕ) (kind : SyncKind) → IsRegion rs i own kind begin → is_barrier kind ≡ true
+    → IsBarrierBegin rs own number begin
+    → HasWholeTeam rs own
+    × ((member : ℕ) → IsTeammate rs own member → (start : ℕ) × IsBarrierBegin rs member number start)
+
+-- the lists of dependences of the task, and of its siblings with smaller numbers, stand before the place n
+abbrev pub AreListed : List Record → ℕ → ℕ → Type 0
+AreListed rs n task =
+    (parent number sibling smaller k : ℕ) (list : List Dep) → IsChild rs parent number task
+    → IsChild rs parent smaller sibling → smaller ≤ number → at dependences rs k ≡ Some (sibling, list)
+    → k < n
+
+-- the creations of these tasks that have dependences are followed by the lists
+abbrev pub HasLists : List Record → ℕ → Type 0
+HasLists rs task =
+    (parent number sibling smaller a : ℕ) → IsChild rs parent number task → IsChild rs parent smaller sibling
+    → smaller ≤ number → at created_with_deps rs a ≡ Some sibling → (b : ℕ) × AreFollowed rs a b
+
+-- what the task depends on must be complete at i: it starts there, or is a taskwait that is complete there
+abbrev pub IsDependentAt : List Record → ℕ → ℕ → Type 0
+IsDependentAt rs i task = (IsExplicit rs task × IsStart rs i task) ⊎ (at wait_completed rs i ≡ Some task)

@@ -1,13 +1,22 @@
-//! When the order of a file is an order of its records. These are laws about the definitions alone, proved for
-//! all records. The functions do nothing.
-ghost use Rattle.std.specs.Prelude.{◌≡◌, ◌<◌, ◌++◌, ℕ, true, List, length};
+//! When the order of a file is an order of its records, and what the records up to a place tell of it. These are
+//! laws about the definitions alone, proved for all records. The functions do nothing.
+ghost use Rattle.std.specs.Prelude.{◌≡◌, ◌<◌, ◌≤◌, ◌↔◌, ◌++◌, ℕ, true, List, length};
 ghost use Rattle.ompt_events.specs.declared.records.Record.{Record};
+ghost use Rattle.ompt_events.specs.declared.names.SyncKind.{SyncKind};
 ghost use Rattle.ompt_events.specs.declared.cause.Cause.{Cause};
 ghost use Rattle.ompt_events.specs.declared.cause.Cause.TheVariants.{CreatedTwice, EntryTwice, LengthAhead};
+ghost use Rattle.ompt_events.specs.declared.cause.Cause.TheVariants.{DepsPlace, TeamShort};
 ghost use Rattle.ompt_events.specs.Places.{places};
+ghost use Rattle.ompt_events.specs.Tree.{children_before};
+ghost use Rattle.ompt_events.specs.Regions.{open_regions, IsRegion, IsBarrierBegin};
+ghost use Rattle.ompt_events.specs.Coverage.{Covers};
+ghost use Rattle.ompt_events.specs.Dependences.{IsPredecessor};
+ghost use Rattle.ompt_events.specs.Completion.{IsCompleteAt};
+ghost use Rattle.ompt_events.specs.Violations.{IsRequired};
 ghost use Rattle.ompt_events.specs.Causes.{HasCause, IsFreeOf};
 ghost use Rattle.ompt_events.specs.Linearization.{IsLinearization, IsGreedy};
 ghost use Rattle.online.specs.Online.{IsInOrder, IsWatchable, is_told_at_once, stays_told};
+ghost use Rattle.online.specs.Online.{EndsLast, AreBegun, HasTeamBegun, AreListed, HasLists, IsDependentAt};
 
 /// File order is an order of the records, and the greedy one, where each record stands behind what it has seen
 /// and what it goes on with. Conversely the records are so in each file whose order is one of them, unless an
@@ -33,4 +42,81 @@ pub fn causes_show_when_their_records_are_read()
     ensures stays { (before after : List Record) (i : ℕ) (cause : Cause) → IsWatchable (before ++ after)
         → IsFreeOf (before ++ after) CreatedTwice → stays_told cause ≡ true → i < length before
         → HasCause before i cause → HasCause (before ++ after) i cause }
+{}
+
+/// What the first records say of a place among them, they say together with the records that follow.
+///
+/// - `children`, `opened`: which children a task created before the place, and which of its regions are open.
+/// - `regions`, `barriers`: which region ends there, and which number the begin of a barrier has.
+/// - `complete`: which tasks are complete there. `dependents`: which task starts there, or which taskwait is
+///   complete. For both the records are watchable, and no task is made twice.
+/// - `covers`, `precedes`: what an end there covers, and what precedes a task. Later records can only add to it.
+pub fn what_is_read_stays()
+    ensures children { (before after : List Record) (parent i : ℕ) → i ≤ length before
+        → children_before (before ++ after) parent i ≡ children_before before parent i }
+    ensures opened { (before after : List Record) (task i : ℕ) → i ≤ length before
+        → open_regions (before ++ after) task i ≡ open_regions before task i }
+    ensures regions { (before after : List Record) (i task begin : ℕ) (kind : SyncKind) → i < length before
+        → IsRegion before i task kind begin ↔ IsRegion (before ++ after) i task kind begin }
+    ensures barriers { (before after : List Record) (task number start : ℕ) → start < length before
+        → IsBarrierBegin before task number start ↔ IsBarrierBegin (before ++ after) task number start }
+    ensures complete { (before after : List Record) (i task : ℕ) → IsWatchable (before ++ after)
+        → IsFreeOf (before ++ after) CreatedTwice → i < length before
+        → IsCompleteAt before task i ↔ IsCompleteAt (before ++ after) task i }
+    ensures dependents { (before after : List Record) (i dependent : ℕ) → IsWatchable (before ++ after)
+        → IsFreeOf (before ++ after) CreatedTwice → i < length before
+        → IsDependentAt before i dependent ↔ IsDependentAt (before ++ after) i dependent }
+    ensures covers { (before after : List Record) (i task : ℕ) → i < length before → Covers before i task
+        → Covers (before ++ after) i task }
+    ensures precedes { (before after : List Record) (dependent predecessor : ℕ)
+        → IsPredecessor before dependent predecessor → IsPredecessor (before ++ after) dependent predecessor }
+{}
+
+/// Let records be watchable, and no task be made twice. Then the first of them tell whether all is complete that
+/// must be complete at one of them, if the records that count for it are among the first.
+///
+/// - `covered`: what the end of a region covers, where no record of a task stands behind the end of its body
+///   (`EndsLast`), and the barrier begins that count are among the first (`AreBegun`).
+/// - `covers`: then, where all is complete that the end covers by the first records, it covers no other task.
+/// - `begun`: these begins are among the first, where the whole team has begun its barriers of that number there
+///   (`HasTeamBegun`). No team may lack a member.
+/// - `preceded`, `precedes`: the same of the predecessors of a task that starts, or of a taskwait that is
+///   complete, where the lists of dependences are among the first (`AreListed`).
+/// - `listed`: these lists are, where each follows its creation there (`HasLists`). No list may be misplaced.
+/// - `required`: all that must be complete there. And where it is by all records, it is by the first.
+pub fn what_must_be_complete_is_known_when_its_record_is_read()
+    ensures covered { (before after : List Record) (i : ℕ) → IsWatchable (before ++ after)
+        → IsFreeOf (before ++ after) CreatedTwice → EndsLast (before ++ after) → i < length before
+        → AreBegun (before ++ after) (length before) i
+        → ((task : ℕ) → Covers before i task → IsCompleteAt before task i)
+        → (task : ℕ) → Covers (before ++ after) i task → IsCompleteAt (before ++ after) task i }
+    ensures covers { (before after : List Record) (i : ℕ) → IsWatchable (before ++ after)
+        → IsFreeOf (before ++ after) CreatedTwice → EndsLast (before ++ after) → i < length before
+        → AreBegun (before ++ after) (length before) i
+        → ((task : ℕ) → Covers before i task → IsCompleteAt before task i)
+        → (task : ℕ) → Covers (before ++ after) i task → Covers before i task }
+    ensures begun { (before after : List Record) (i : ℕ) → IsWatchable (before ++ after)
+        → IsFreeOf (before ++ after) CreatedTwice → IsFreeOf (before ++ after) TeamShort → i < length before
+        → HasTeamBegun before i → AreBegun (before ++ after) (length before) i }
+    ensures preceded { (before after : List Record) (i dependent : ℕ) → IsWatchable (before ++ after)
+        → IsFreeOf (before ++ after) CreatedTwice → i < length before
+        → IsDependentAt (before ++ after) i dependent → AreListed (before ++ after) (length before) dependent
+        → ((task : ℕ) → IsPredecessor before dependent task → IsCompleteAt before task i)
+        → (task : ℕ) → IsPredecessor (before ++ after) dependent task
+        → IsCompleteAt (before ++ after) task i }
+    ensures precedes { (before after : List Record) (i dependent predecessor : ℕ)
+        → IsWatchable (before ++ after) → IsFreeOf (before ++ after) CreatedTwice → i < length before
+        → IsDependentAt (before ++ after) i dependent → AreListed (before ++ after) (length before) dependent
+        → IsPredecessor (before ++ after) dependent predecessor → IsPredecessor before dependent predecessor }
+    ensures listed { (before after : List Record) (i dependent : ℕ) → IsWatchable (before ++ after)
+        → IsFreeOf (before ++ after) CreatedTwice → IsFreeOf (before ++ after) DepsPlace → i < length before
+        → IsDependentAt (before ++ after) i dependent → HasLists before dependent
+        → AreListed (before ++ after) (length before) dependent }
+    ensures required { (before after : List Record) (i : ℕ) → IsWatchable (before ++ after)
+        → IsFreeOf (before ++ after) CreatedTwice → EndsLast (before ++ after) → i < length before
+        → AreBegun (before ++ after) (length before) i
+        → ((dependent : ℕ) → IsDependentAt (before ++ after) i dependent
+        → AreListed (before ++ after) (length before) dependent)
+        → ((task : ℕ) → IsRequired before i task → IsCompleteAt before task i)
+        ↔ ((task : ℕ) → IsRequired (before ++ after) i task → IsCompleteAt (before ++ after) task i) }
 {}
