@@ -299,7 +299,11 @@ impl Recorder {
             (schedule_refusal self.old (schedule_of prior status None))
             (stopped_entry self.old (schedule_of prior status None)) self.new refused.1) }
     {
-        let schedule = Schedule::of(&prior, status);
+        let schedule = Schedule {
+            prior: &prior,
+            status,
+            next: None,
+        };
         match self.stop(ledger, wait, &schedule) {
             Ok(()) => Ok(left_of(prior, status)),
             Err(fault) => Err((prior, fault)),
