@@ -171,7 +171,7 @@ family_back n xs ys same ordered last i own kind endpoint below says first compl
     deeper j above (sym (at_same creation n xs ys same j (omega (arith, earlier, below))) ∙ creates)
 
 -- what an end covers has a region there
-covers_region : (rs : List Record) (i task : ℕ) → Covers rs i task
+pub covers_region : (rs : List Record) (i task : ℕ) → Covers rs i task
     → (own : ℕ) × (kind : SyncKind) × (endpoint : Endpoint) × (at region rs i ≡ Some (own, kind, endpoint))
 covers_region rs i task (waited {parent = parent} {begin = begin} is has) =
     let says = region_says rs i parent Taskwait begin is in (parent, Taskwait, says.0, says.1)

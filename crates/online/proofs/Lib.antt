@@ -13,3 +13,7 @@ pub mod RequiredLemmas
 mod SizeLemmas
 mod NestingLemmas
 mod CauseLaw
+pub mod PassLemmas
+pub mod AwaitLemmas
+pub mod ClearLaw
+pub mod SettledLemmas

@@ -1,6 +1,7 @@
 -- Records that can be looked at one after another, in an order in which a program may have made them.
-use Rattle.std.specs.Prelude.{ℕ, ◌≡◌, ◌≢◌, ◌<◌, ◌≤◌, ◌⊎◌, Bool, true, false, List, length, Some}
-use Rattle.std.specs.Prelude.{Contains}
+use Rattle.std.specs.Prelude.{ℕ, ◌≡◌, ◌≢◌, ◌<◌, ◌≤◌, ◌⊎◌, ◌==◌, Bool, true, false, List, length, take}
+use Rattle.std.specs.Prelude.{Option, Some, None, Contains, slice_get, option_map, filter, fold}
+use Rattle.std.specs.Prelude.{[], ◌∷◌, ◌++◌}
 use Rattle.ompt_events.specs.declared.records.Record.{Record}
 use Rattle.ompt_events.specs.declared.records.Membership.{Membership}
 use Rattle.ompt_events.specs.declared.records.Part.{Part}
@@ -13,13 +14,15 @@ use Rattle.ompt_events.specs.declared.cause.Cause.TheVariants.{TurnGap}
 use Rattle.ompt_events.specs.declared.cause.Cause.TheVariants.{RegionOrder, NestedParallel, RegionNesting}
 use Rattle.ompt_events.specs.declared.cause.Cause.TheVariants.{EntryTwice, LengthBack, TargetTask}
 use Rattle.ompt_events.specs.Records.{made, created, discarded, fulfilled, finish, running, dependences}
-use Rattle.ompt_events.specs.Records.{created_with_deps, wait_completed}
+use Rattle.ompt_events.specs.Records.{created_with_deps, wait_completed, creation, region_named}
 use Rattle.ompt_events.specs.Places.{at, seen_at}
 use Rattle.ompt_events.specs.Tree.{IsExplicit, IsChild}
 use Rattle.ompt_events.specs.Teams.{members, IsTeammate}
 use Rattle.ompt_events.specs.Regions.{IsRegion, is_barrier, IsBarrierBegin}
 use Rattle.ompt_events.specs.HappensBefore.{IsFinishing, IsStart, IsResumption}
-use Rattle.ompt_events.specs.Causes.{entries_before, IsNamedAt, AreFollowed}
+use Rattle.ompt_events.specs.Violations.{IsRequired}
+use Rattle.ompt_events.specs.Completion.{IsCompleteAt}
+use Rattle.ompt_events.specs.Causes.{HasCause, entries_before, IsNamedAt, IsForked, AreFollowed}
 
 -- each record stands behind what it has seen, and behind the creation or the suspension with which it goes on
 pub record IsInOrder (rs : List Record) : Type 0 where
@@ -104,3 +107,53 @@ HasLists rs task =
 -- what the task depends on must be complete at i: it starts there, or is a taskwait that is complete there
 abbrev pub IsDependentAt : List Record → ℕ → ℕ → Type 0
 IsDependentAt rs i task = (IsExplicit rs task × IsStart rs i task) ⊎ (at wait_completed rs i ≡ Some task)
+
+-- ---- tests of a record by those before it
+
+-- each record passes the test with those before it
+abbrev pub EachRecord : (List Record → Record → Type 0) → List Record → Type 0
+EachRecord Test rs = (i : ℕ) (r : Record) → slice_get rs i ≡ Some r → Test (take i rs) r
+
+-- the task whose dependences the thread must list next: its last record creates that task with dependences
+abbrev pub awaited_by : ℕ → List Record → Option ℕ
+awaited_by thread rs =
+    fold (λ (before : Option ℕ) (r : Record). created_with_deps r.body) None
+    (filter (λ (r : Record). r.thread == thread) rs)
+
+-- the tests that exclude causes
+pub record PassesAfter (before : List Record) (r : Record) : Type 0 where
+  -- with the records before it, it has none of the causes that are told at once
+  pub clear : (cause : Cause) → is_told_at_once cause ≡ true
+      → HasCause (before ++ r ∷ []) (length before) cause → ⊥
+  -- one of them begins the parallel region that it names
+  pub begun : (parallel : ℕ) → region_named r.body ≡ Some parallel → IsForked before parallel
+  -- the task that it creates is not its creator
+  pub apart : (task : ℕ) → creation r.body ≢ Some (task, task)
+  -- it lists the dependences of the task that its thread awaits, and none where that awaits none
+  pub in_place : option_map (λ (d : ℕ × List Dep). d.0) (dependences r.body) ≡ awaited_by r.thread before
+
+-- no thread awaits dependences after the last record
+abbrev pub NoneAwaited : List Record → Type 0
+NoneAwaited rs = (thread : ℕ) → awaited_by thread rs ≡ None
+
+-- the record's task was not finished before, whole or its body
+abbrev pub IsUnfinishedAfter : List Record → Record → Type 0
+IsUnfinishedAfter before r =
+    (task e : ℕ) (part : Part) → running r.body ≡ Some task → at finish before e ≡ Some (task, part)
+    → part ≢ Event → ⊥
+
+-- with the records before it, all is complete that must be complete there
+abbrev pub IsCompleteAfter : List Record → Record → Type 0
+IsCompleteAfter before r =
+    (task : ℕ) → IsRequired (before ++ r ∷ []) (length before) task
+    → IsCompleteAt (before ++ r ∷ []) task (length before)
+
+-- the tests of completeness
+pub record IsSettledAfter (before : List Record) (r : Record) : Type 0 where
+  pub unfinished : IsUnfinishedAfter before r
+  -- where a barrier ends, the whole team has begun it
+  pub begun : HasTeamBegun (before ++ r ∷ []) (length before)
+  -- where a task must wait for its predecessors, all lists that count for them are there
+  pub listed : (dependent : ℕ) → IsDependentAt (before ++ r ∷ []) (length before) dependent
+      → HasLists (before ++ r ∷ []) dependent
+  pub complete : IsCompleteAfter before r

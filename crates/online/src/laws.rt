@@ -1,11 +1,11 @@
 //! When the order of a file is an order of its records, and what the records up to a place tell of it. These are
 //! laws about the definitions alone, proved for all records. The functions do nothing.
-ghost use Rattle.std.specs.Prelude.{◌≡◌, ◌<◌, ◌≤◌, ◌↔◌, ◌++◌, ℕ, true, List, length};
+ghost use Rattle.std.specs.Prelude.{◌≡◌, ◌<◌, ◌≤◌, ◌+◌, ◌↔◌, ◌∷◌, ◌++◌, ℕ, true, List, [], length};
 ghost use Rattle.ompt_events.specs.declared.records.Record.{Record};
 ghost use Rattle.ompt_events.specs.declared.names.SyncKind.{SyncKind};
 ghost use Rattle.ompt_events.specs.declared.cause.Cause.{Cause};
 ghost use Rattle.ompt_events.specs.declared.cause.Cause.TheVariants.{CreatedTwice, EntryTwice, LengthAhead};
-ghost use Rattle.ompt_events.specs.declared.cause.Cause.TheVariants.{DepsPlace, TeamShort};
+ghost use Rattle.ompt_events.specs.declared.cause.Cause.TheVariants.{StatusOrder, DepsPlace, TeamShort, ShareWrong};
 ghost use Rattle.ompt_events.specs.Places.{places};
 ghost use Rattle.ompt_events.specs.Tree.{children_before};
 ghost use Rattle.ompt_events.specs.Regions.{open_regions, IsRegion, IsBarrierBegin};
@@ -17,6 +17,8 @@ ghost use Rattle.ompt_events.specs.Causes.{HasCause, IsFreeOf};
 ghost use Rattle.ompt_events.specs.Linearization.{IsLinearization, IsGreedy};
 ghost use Rattle.online.specs.Online.{IsInOrder, IsWatchable, is_told_at_once, stays_told};
 ghost use Rattle.online.specs.Online.{EndsLast, AreBegun, HasTeamBegun, AreListed, HasLists, IsDependentAt};
+ghost use Rattle.online.specs.Online.{EachRecord, PassesAfter, NoneAwaited, IsUnfinishedAfter, IsCompleteAfter};
+ghost use Rattle.online.specs.Online.{IsSettledAfter};
 
 /// File order is an order of the records, and the greedy one, where each record stands behind what it has seen
 /// and what it goes on with. Conversely the records are so in each file whose order is one of them, unless an
@@ -119,4 +121,42 @@ pub fn what_must_be_complete_is_known_when_its_record_is_read()
         → AreListed (before ++ after) (length before) dependent)
         → ((task : ℕ) → IsRequired before i task → IsCompleteAt before task i)
         ↔ ((task : ℕ) → IsRequired (before ++ after) i task → IsCompleteAt (before ++ after) task i) }
+{}
+
+/// Let records be watchable, and let each pass the tests that are made with those before it (`PassesAfter`). Then
+/// no record has a cause, by file order, if no thread awaits dependences after the last record (`NoneAwaited`).
+/// That no record has StatusOrder, TeamShort or ShareWrong is a premise.
+pub fn tests_at_each_record_exclude_all_causes()
+    ensures clear { (rs : List Record) → IsWatchable rs → EachRecord PassesAfter rs → NoneAwaited rs
+        → IsFreeOf rs StatusOrder → IsFreeOf rs TeamShort → IsFreeOf rs ShareWrong
+        → (i : ℕ) (cause : Cause) → HasCause rs i cause → ⊥ }
+{}
+
+/// If at each record all is complete that must be complete there by it and those before it, then all is complete
+/// that must be complete by all records.
+///
+/// - `ends_last`: no record of a task stands behind the end of the task's body, if no task is finished before one
+///   of its records (`IsUnfinishedAfter`).
+/// - `required`: let no record stand so. Then all is complete, if the barrier begins that count for a record, and
+///   the lists of dependences, are among those up to it (`AreBegun`, `AreListed`).
+/// - `settled`: all is complete, by the tests at each record alone (`IsSettledAfter`). No team may lack a member.
+pub fn what_is_complete_at_each_record_is_complete()
+    ensures ends_last { (rs : List Record) → EachRecord IsUnfinishedAfter rs → EndsLast rs }
+    ensures required { (rs : List Record) → IsWatchable rs → IsFreeOf rs CreatedTwice → EndsLast rs
+        → ((i : ℕ) → i < length rs → AreBegun rs (i + 1) i)
+        → ((i dependent : ℕ) → i < length rs → IsDependentAt rs i dependent → AreListed rs (i + 1) dependent)
+        → EachRecord IsCompleteAfter rs → (i task : ℕ) → IsRequired rs i task → IsCompleteAt rs task i }
+    ensures settled { (rs : List Record) → IsWatchable rs → EachRecord PassesAfter rs → NoneAwaited rs
+        → IsFreeOf rs TeamShort → EachRecord IsSettledAfter rs
+        → (i task : ℕ) → IsRequired rs i task → IsCompleteAt rs task i }
+{}
+
+/// Each record has to be tested once, when it is read: a test that each of some records has passed stays so with
+/// one more.
+pub fn each_record_is_tested_once()
+    ensures none { EachRecord PassesAfter [] × EachRecord IsSettledAfter [] }
+    ensures passes { (rs : List Record) (r : Record) → EachRecord PassesAfter rs → PassesAfter rs r
+        → EachRecord PassesAfter (rs ++ r ∷ []) }
+    ensures settled { (rs : List Record) (r : Record) → EachRecord IsSettledAfter rs → IsSettledAfter rs r
+        → EachRecord IsSettledAfter (rs ++ r ∷ []) }
 {}

@@ -1,0 +1,233 @@
+-- Dependences stand in their place where each record lists what its thread awaits.
+use Rattle.std.proofs.Common.{◌≡◌, ◌≢◌, ◌∙◌, ℕ, zero, suc, ◌<◌, ◌≤◌, ◌+◌, ◌-◌, ◌⊎◌, List, [], ◌∷◌, ◌++◌}
+use Rattle.std.proofs.Common.{length, take, get_or, cond, Option, Some, None, refl, sym, ap, subst, arith}
+use Rattle.std.proofs.Common.{inl, inr, add-one}
+use Rattle.std.specs.Prelude.{◌==◌, slice_get, option_map, filter, fold}
+use Rattle.std.proofs.lemmas.Bool.{cases_eq, cases_lt, eq-eqb, ne_eqb}
+use Rattle.std.proofs.lemmas.Option.{none-some, same_Some, slice_get-get_or, slice_get_within}
+use Rattle.std.proofs.lemmas.List.{append-nil, take_all}
+use Rattle.std.proofs.lemmas.List.Elements.{filter_more}
+use Rattle.std.proofs.lemmas.List.Sums.{fold_push}
+use Rattle.ompt_events.specs.declared.records.Record.{Record}
+use Rattle.ompt_events.specs.declared.deps.Dep.{Dep}
+use Rattle.ompt_events.specs.declared.cause.Cause.TheVariants.{DepsPlace}
+use Rattle.ompt_events.specs.Records.{created_with_deps, dependences}
+use Rattle.ompt_events.specs.Places.{at, thread_at}
+use Rattle.ompt_events.specs.Causes.{IsFreeOf, IsNextInThread, AreFollowed, deps_place, stray, missing}
+use Rattle.ompt_events.proofs.ListLemmas.{get_within}
+use Rattle.ompt_events.proofs.PlaceLemmas.{at_get, at_within, thread_get, some_of}
+use Rattle.online.specs.Online.{awaited_by, EachRecord, PassesAfter, NoneAwaited}
+
+-- ---- what a thread awaits, one record on
+
+abbrev last_created : List Record → Option ℕ
+last_created rs = fold (λ (before : Option ℕ) (r : Record). created_with_deps r.body) None rs
+
+-- the thread's records among these, and one more
+with_record : ℕ → List Record → Record → List Record
+with_record thread rs r =
+    filter (λ (q : Record). q.thread == thread) rs ++ cond (r.thread == thread) (r ∷ []) []
+
+awaited_more : (rs : List Record) (n thread : ℕ) (r : Record) → slice_get rs n ≡ Some r
+    → awaited_by thread (take (n + 1) rs) ≡ last_created (with_record thread (take n rs) r)
+unfolding with_record
+awaited_more rs n thread r here =
+    let within = slice_get_within rs n r here in
+    let read : get_or rs n r ≡ r =
+    same_Some (get_or rs n r) r (sym (slice_get-get_or rs n r within) ∙ here) in
+    ap last_created (filter_more (λ (q : Record). q.thread == thread) rs n r within)
+    ∙ ap (λ q. last_created (with_record thread (take n rs) q)) read
+
+awaited_own : (rs : List Record) (n : ℕ) (r : Record) → slice_get rs n ≡ Some r
+    → awaited_by r.thread (take (n + 1) rs) ≡ created_with_deps r.body
+unfolding with_record
+awaited_own rs n r here =
+    awaited_more rs n r.thread r here
+    ∙ ap
+    (λ b. last_created (filter (λ (q : Record). q.thread == r.thread) (take n rs) ++ cond b (r ∷ []) []))
+    (eq-eqb r.thread r.thread refl)
+    ∙ fold_push (λ (before : Option ℕ) (q : Record). created_with_deps q.body) None
+    (filter (λ (q : Record). q.thread == r.thread) (take n rs)) r
+
+awaited_other : (rs : List Record) (n thread : ℕ) (r : Record) → slice_get rs n ≡ Some r → r.thread ≢ thread
+    → awaited_by thread (take (n + 1) rs) ≡ awaited_by thread (take n rs)
+unfolding with_record
+awaited_other rs n thread r here apart =
+    awaited_more rs n thread r here
+    ∙ ap (λ b. last_created (filter (λ (q : Record). q.thread == thread) (take n rs) ++ cond b (r ∷ []) []))
+    (ne_eqb r.thread thread apart)
+    ∙ ap last_created (append-nil (filter (λ (q : Record). q.thread == thread) (take n rs)))
+
+-- ---- the last record of a thread among the first n
+
+record IsLast (rs : List Record) (n thread a : ℕ) : Type 0 where
+  pub below : a < n
+  pub of_it : thread_at rs a ≡ Some thread
+  pub none : (k : ℕ) → a < k → k < n → thread_at rs k ≢ Some thread
+
+last_more : (rs : List Record) (n thread a : ℕ) → IsLast rs n thread a → thread_at rs n ≢ Some thread
+    → IsLast rs (n + 1) thread a
+last_more rs n thread a last apart = record {
+  below = let below = last.below in omega (arith, below);
+  of_it = last.of_it;
+  none = λ k low high is. elim (cases_lt k n) [
+    | inl less ↦ last.none k low less is
+    | inr most ↦ let same : k ≡ n = omega (arith, high, most) in apart (sym (ap (thread_at rs) same) ∙ is)
+  ];
+}
+
+last_here : (rs : List Record) (n : ℕ) (r : Record) → slice_get rs n ≡ Some r → IsLast rs (n + 1) r.thread n
+last_here rs n r here = record {
+  below = omega arith;
+  of_it = thread_get rs n r here;
+  none = λ k low high is. absurd (omega (arith, low, high));
+}
+
+-- what a thread awaits its last record creates
+awaited_last : (rs : List Record) (n thread task : ℕ) → n ≤ length rs
+    → awaited_by thread (take n rs) ≡ Some task
+    → (a : ℕ) × IsLast rs n thread a × (at created_with_deps rs a ≡ Some task)
+awaited_last rs zero thread task low is = absurd (none-some task is)
+awaited_last rs (suc n) thread task low is =
+    let (r, here) = get_within rs n (omega (arith, low)) in
+    let P : ℕ → Type 0 =
+    λ m. (a : ℕ) × IsLast rs m thread a × (at created_with_deps rs a ≡ Some task) in
+    let awaits : awaited_by thread (take (n + 1) rs) ≡ Some task =
+    ap (λ m. awaited_by thread (take m rs)) (add-one n) ∙ is in
+    subst P (add-one n) (elim (cases_eq r.thread thread) [
+      | inl same ↦ (
+        n,
+        subst (λ t. IsLast rs (n + 1) t n) same (last_here rs n r here),
+        at_get created_with_deps rs n r here ∙ sym (awaited_own rs n r here)
+            ∙ ap (λ t. awaited_by t (take (n + 1) rs)) same ∙ awaits,
+      )
+      | inr apart ↦
+          let found =
+          awaited_last rs n thread task (omega (arith, low))
+          (sym (awaited_other rs n thread r here apart) ∙ awaits) in (
+            found.0,
+            last_more rs n thread found.0 found.1
+                (λ is'. apart (same_Some r.thread thread (sym (thread_get rs n r here) ∙ is'))),
+            found.2,
+          )
+    ])
+
+-- and what its last record creates it awaits
+last_awaited : (rs : List Record) (n thread a : ℕ) → n ≤ length rs → IsLast rs n thread a
+    → awaited_by thread (take n rs) ≡ at created_with_deps rs a
+last_awaited rs zero thread a low last = absurd (let below = last.below in omega (arith, below))
+last_awaited rs (suc n) thread a low last =
+    let (r, here) = get_within rs n (omega (arith, low)) in
+    ap (λ m. awaited_by thread (take m rs)) (sym (add-one n)) ∙ elim (cases_lt a n) [
+      | inl less ↦
+          awaited_other rs n thread r here
+          (λ same. last.none n less (omega arith) (thread_get rs n r here ∙ ap Some same))
+          ∙ last_awaited rs n thread a (omega (arith, low)) (record {
+            below = less;
+            of_it = last.of_it;
+            none = λ k behind before. last.none k behind (omega (arith, before));
+          })
+      | inr most ↦
+          let same : n ≡ a = let below = last.below in omega (arith, below, most) in
+          let own : r.thread ≡ thread =
+          same_Some r.thread thread (sym (thread_get rs n r here) ∙ ap (thread_at rs) same ∙ last.of_it) in
+          ap (λ t. awaited_by t (take (n + 1) rs)) (sym own) ∙ awaited_own rs n r here
+          ∙ sym (at_get created_with_deps rs n r here) ∙ ap (at created_with_deps rs) same
+    ]
+
+-- behind a record its thread has a next one, or it is the last
+next_or_last : (rs : List Record) (thread a left n : ℕ) → n + left ≡ length rs → IsLast rs n thread a
+    → ((b : ℕ) × IsNextInThread rs a b) ⊎ IsLast rs (length rs) thread a
+next_or_last rs thread a zero n all last =
+    let whole : n ≡ length rs = omega (arith, all) in
+    inr (subst (λ m. IsLast rs m thread a) whole last)
+next_or_last rs thread a (suc left) n all last =
+    let (r, here) = get_within rs n (omega (arith, all)) in
+    elim (cases_eq r.thread thread) [
+      | inl same ↦
+          inl (
+            n,
+            record {
+              later = last.below;
+              within = omega (arith, all);
+              same_thread = last.of_it ∙ sym (thread_get rs n r here ∙ ap Some same);
+              next = λ k low high is. last.none k low high (is ∙ last.of_it);
+            },
+          )
+      | inr apart ↦
+          next_or_last rs thread a left (n + 1) (omega (arith, all))
+          (last_more rs n thread a last
+          (λ is. apart (same_Some r.thread thread (sym (thread_get rs n r here) ∙ is))))
+    ]
+
+-- ---- no list of dependences is misplaced
+
+list_of : (task : ℕ) (o : Option (ℕ × List Dep)) → option_map (λ (d : ℕ × List Dep). d.0) o ≡ Some task
+    → (items : List Dep) × (o ≡ Some (task, items))
+list_of task None is = absurd (none-some task is)
+list_of task (Some (own, items)) is = (items, ap (λ t. Some (t, items)) (same_Some own task is))
+
+-- a list follows the creation of its task
+list_follows : (rs : List Record) → EachRecord PassesAfter rs → (i task : ℕ) (items : List Dep)
+    → at dependences rs i ≡ Some (task, items) → (a : ℕ) × AreFollowed rs a i
+list_follows rs passes i task items says =
+    let below = at_within dependences rs i (task, items) says in
+    let (r, here) = get_within rs i below in
+    let lists : dependences r.body ≡ Some (task, items) = sym (at_get dependences rs i r here) ∙ says in
+    let awaits : awaited_by r.thread (take i rs) ≡ Some task =
+    sym ((passes i r here).in_place) ∙ ap (option_map (λ (d : ℕ × List Dep). d.0)) lists in
+    let (a, last, creates) = awaited_last rs i r.thread task (omega (arith, below)) awaits in (
+      a,
+      record {
+        task = task;
+        items = items;
+        is_created = creates;
+        listed = says;
+        next = record {
+          later = last.below;
+          within = below;
+          same_thread = last.of_it ∙ sym (thread_get rs i r here);
+          next = λ k low high is. last.none k low high (is ∙ last.of_it);
+        };
+      },
+    )
+
+-- a creation with dependences that its thread goes on from is followed by their list
+creation_followed : (rs : List Record) → EachRecord PassesAfter rs → (a b task : ℕ)
+    → at created_with_deps rs a ≡ Some task → IsNextInThread rs a b → AreFollowed rs a b
+creation_followed rs passes a b task creates next =
+    let (r, here) = get_within rs b next.within in
+    let own : thread_at rs a ≡ Some r.thread = next.same_thread ∙ thread_get rs b r here in
+    let inside = next.within in
+    let awaits : awaited_by r.thread (take b rs) ≡ Some task =
+    last_awaited rs b r.thread a (omega (arith, inside)) (record {
+      below = next.later;
+      of_it = own;
+      none = λ k low high is. next.next k low high (is ∙ sym own);
+    }) ∙ creates in
+    let (items, lists) =
+    list_of task (dependences r.body) ((passes b r here).in_place ∙ awaits) in
+    record {
+      task = task;
+      items = items;
+      is_created = creates;
+      listed = at_get dependences rs b r here ∙ lists;
+      next = next;
+    }
+
+pub none_misplaced : (rs : List Record) → EachRecord PassesAfter rs → NoneAwaited rs → IsFreeOf rs DepsPlace
+none_misplaced rs passes none i (deps_place (stray lists alone)) =
+    let ((task, items), says) = some_of (at dependences rs i) lists in
+    let found = list_follows rs passes i task items says in alone found.0 found.1
+none_misplaced rs passes none i (deps_place (missing creates alone)) =
+    let (task, says) = some_of (at created_with_deps rs i) creates in
+    let below = at_within created_with_deps rs i task says in
+    let (r, here) = get_within rs i below in
+    elim (next_or_last rs r.thread i (length rs - (i + 1)) (i + 1) (omega (arith, below))
+    (last_here rs i r here)) [
+      | inl found ↦ alone found.0 (creation_followed rs passes i found.0 task says found.1)
+      | inr last ↦
+          let awaits = last_awaited rs (length rs) r.thread i (omega arith) last in
+          let whole = take_all (length rs) rs (omega arith) in
+          none-some task (sym (none r.thread) ∙ sym (ap (awaited_by r.thread) whole) ∙ awaits ∙ says)
+    ]

@@ -1,0 +1,12 @@
+use Rattle.online.specs.Online.{PassesAfter, IsSettledAfter}
+use Rattle.online.proofs.PassLemmas.{each_none, each_more}
+use Rattle.online.proofs.laws.each_record_is_tested_once.Goals as goal
+
+pub returns-clause-none : goal.returns-clause-none
+returns-clause-none c = (each_none PassesAfter, each_none IsSettledAfter)
+
+pub returns-clause-passes : goal.returns-clause-passes
+returns-clause-passes c = each_more PassesAfter
+
+pub returns-clause-settled : goal.returns-clause-settled
+returns-clause-settled c = each_more IsSettledAfter
