@@ -2,7 +2,7 @@
 use Rattle.std.proofs.Common.{◌≡◌, ◌≢◌, ◌∙◌, ℕ, zero, suc, ◌<◌, ◌≤◌, ◌+◌, ◌-◌, ◌⊎◌, List, [], ◌∷◌, ◌++◌}
 use Rattle.std.proofs.Common.{length, take, get_or, cond, Option, Some, None, refl, sym, ap, subst, arith}
 use Rattle.std.proofs.Common.{inl, inr, add-one}
-use Rattle.std.specs.Prelude.{◌==◌, slice_get, option_map, filter, fold}
+use Rattle.std.specs.Prelude.{◌↔◌, is_some, ◌==◌, slice_get, option_map, filter, fold}
 use Rattle.std.proofs.lemmas.Bool.{cases_eq, cases_lt, eq-eqb, ne_eqb}
 use Rattle.std.proofs.lemmas.Option.{none-some, same_Some, slice_get-get_or, slice_get_within}
 use Rattle.std.proofs.lemmas.List.{append-nil, take_all}
@@ -16,9 +16,9 @@ use Rattle.ompt_events.specs.Places.{at, thread_at}
 use Rattle.ompt_events.specs.Causes.{IsFreeOf, IsNextInThread, AreFollowed, deps_place, stray, missing}
 use Rattle.ompt_events.proofs.ListLemmas.{get_within}
 use Rattle.ompt_events.proofs.PlaceLemmas.{at_get, at_within, thread_get, some_of}
-use Rattle.online.specs.Online.{awaited_by, EachRecord, PassesAfter, NoneAwaited}
+use Rattle.online.specs.Online.{awaited_by, EachRecord, ListsAwaited, NoneAwaited}
 
--- ---- what a thread awaits, one record on
+-- ---- what a thread awaits, with one record more
 
 abbrev last_created : List Record → Option ℕ
 last_created rs = fold (λ (before : Option ℕ) (r : Record). created_with_deps r.body) None rs
@@ -38,7 +38,7 @@ awaited_more rs n thread r here =
     ap last_created (filter_more (λ (q : Record). q.thread == thread) rs n r within)
     ∙ ap (λ q. last_created (with_record thread (take n rs) q)) read
 
-awaited_own : (rs : List Record) (n : ℕ) (r : Record) → slice_get rs n ≡ Some r
+pub awaited_own : (rs : List Record) (n : ℕ) (r : Record) → slice_get rs n ≡ Some r
     → awaited_by r.thread (take (n + 1) rs) ≡ created_with_deps r.body
 unfolding with_record
 awaited_own rs n r here =
@@ -49,8 +49,8 @@ awaited_own rs n r here =
     ∙ fold_push (λ (before : Option ℕ) (q : Record). created_with_deps q.body) None
     (filter (λ (q : Record). q.thread == r.thread) (take n rs)) r
 
-awaited_other : (rs : List Record) (n thread : ℕ) (r : Record) → slice_get rs n ≡ Some r → r.thread ≢ thread
-    → awaited_by thread (take (n + 1) rs) ≡ awaited_by thread (take n rs)
+pub awaited_other : (rs : List Record) (n thread : ℕ) (r : Record) → slice_get rs n ≡ Some r
+    → r.thread ≢ thread → awaited_by thread (take (n + 1) rs) ≡ awaited_by thread (take n rs)
 unfolding with_record
 awaited_other rs n thread r here apart =
     awaited_more rs n thread r here
@@ -135,6 +135,17 @@ last_awaited rs (suc n) thread a low last =
           ∙ sym (at_get created_with_deps rs n r here) ∙ ap (at created_with_deps rs) same
     ]
 
+-- a record is the last before the next one of its thread
+last_before : (rs : List Record) (a b : ℕ) (r : Record) → IsNextInThread rs a b → slice_get rs b ≡ Some r
+    → IsLast rs b r.thread a
+last_before rs a b r next here =
+    let own : thread_at rs a ≡ Some r.thread = next.same_thread ∙ thread_get rs b r here in
+    record {
+      below = next.later;
+      of_it = own;
+      none = λ k low high is. next.next k low high (is ∙ sym own);
+    }
+
 -- behind a record its thread has a next one, or it is the last
 next_or_last : (rs : List Record) (thread a left n : ℕ) → n + left ≡ length rs → IsLast rs n thread a
     → ((b : ℕ) × IsNextInThread rs a b) ⊎ IsLast rs (length rs) thread a
@@ -168,14 +179,14 @@ list_of task None is = absurd (none-some task is)
 list_of task (Some (own, items)) is = (items, ap (λ t. Some (t, items)) (same_Some own task is))
 
 -- a list follows the creation of its task
-list_follows : (rs : List Record) → EachRecord PassesAfter rs → (i task : ℕ) (items : List Dep)
+list_follows : (rs : List Record) → EachRecord ListsAwaited rs → (i task : ℕ) (items : List Dep)
     → at dependences rs i ≡ Some (task, items) → (a : ℕ) × AreFollowed rs a i
-list_follows rs passes i task items says =
+list_follows rs lists_each i task items says =
     let below = at_within dependences rs i (task, items) says in
     let (r, here) = get_within rs i below in
     let lists : dependences r.body ≡ Some (task, items) = sym (at_get dependences rs i r here) ∙ says in
     let awaits : awaited_by r.thread (take i rs) ≡ Some task =
-    sym ((passes i r here).in_place) ∙ ap (option_map (λ (d : ℕ × List Dep). d.0)) lists in
+    sym (lists_each i r here) ∙ ap (option_map (λ (d : ℕ × List Dep). d.0)) lists in
     let (a, last, creates) = awaited_last rs i r.thread task (omega (arith, below)) awaits in (
       a,
       record {
@@ -193,20 +204,15 @@ list_follows rs passes i task items says =
     )
 
 -- a creation with dependences that its thread goes on from is followed by their list
-creation_followed : (rs : List Record) → EachRecord PassesAfter rs → (a b task : ℕ)
+creation_followed : (rs : List Record) → EachRecord ListsAwaited rs → (a b task : ℕ)
     → at created_with_deps rs a ≡ Some task → IsNextInThread rs a b → AreFollowed rs a b
-creation_followed rs passes a b task creates next =
+creation_followed rs lists_each a b task creates next =
     let (r, here) = get_within rs b next.within in
-    let own : thread_at rs a ≡ Some r.thread = next.same_thread ∙ thread_get rs b r here in
     let inside = next.within in
     let awaits : awaited_by r.thread (take b rs) ≡ Some task =
-    last_awaited rs b r.thread a (omega (arith, inside)) (record {
-      below = next.later;
-      of_it = own;
-      none = λ k low high is. next.next k low high (is ∙ sym own);
-    }) ∙ creates in
+    last_awaited rs b r.thread a (omega (arith, inside)) (last_before rs a b r next here) ∙ creates in
     let (items, lists) =
-    list_of task (dependences r.body) ((passes b r here).in_place ∙ awaits) in
+    list_of task (dependences r.body) (lists_each b r here ∙ awaits) in
     record {
       task = task;
       items = items;
@@ -215,19 +221,104 @@ creation_followed rs passes a b task creates next =
       next = next;
     }
 
-pub none_misplaced : (rs : List Record) → EachRecord PassesAfter rs → NoneAwaited rs → IsFreeOf rs DepsPlace
-none_misplaced rs passes none i (deps_place (stray lists alone)) =
+pub none_misplaced : (rs : List Record) → EachRecord ListsAwaited rs → NoneAwaited rs → IsFreeOf rs DepsPlace
+none_misplaced rs lists_each none i (deps_place (stray lists alone)) =
     let ((task, items), says) = some_of (at dependences rs i) lists in
-    let found = list_follows rs passes i task items says in alone found.0 found.1
-none_misplaced rs passes none i (deps_place (missing creates alone)) =
+    let found = list_follows rs lists_each i task items says in alone found.0 found.1
+none_misplaced rs lists_each none i (deps_place (missing creates alone)) =
     let (task, says) = some_of (at created_with_deps rs i) creates in
     let below = at_within created_with_deps rs i task says in
     let (r, here) = get_within rs i below in
     elim (next_or_last rs r.thread i (length rs - (i + 1)) (i + 1) (omega (arith, below))
     (last_here rs i r here)) [
-      | inl found ↦ alone found.0 (creation_followed rs passes i found.0 task says found.1)
+      | inl found ↦ alone found.0 (creation_followed rs lists_each i found.0 task says found.1)
       | inr last ↦
           let awaits = last_awaited rs (length rs) r.thread i (omega arith) last in
           let whole = take_all (length rs) rs (omega arith) in
           none-some task (sym (none r.thread) ∙ sym (ap (awaited_by r.thread) whole) ∙ awaits ∙ says)
     ]
+
+-- ---- and where none is misplaced, each record lists what its thread awaits
+
+-- a list that follows the creation of its task is awaited
+followed_awaited : (rs : List Record) (a i : ℕ) (r : Record) (own : ℕ) (items : List Dep)
+    → slice_get rs i ≡ Some r → dependences r.body ≡ Some (own, items) → AreFollowed rs a i
+    → awaited_by r.thread (take i rs) ≡ Some own
+followed_awaited rs a i r own items here says is =
+    let within = slice_get_within rs i r here in
+    let same : is.task ≡ own =
+    ap (λ (d : ℕ × List Dep). d.0)
+    (same_Some (is.task, is.items) (own, items) (sym is.listed ∙ at_get dependences rs i r here ∙ says)) in
+    last_awaited rs i r.thread a (omega (arith, within)) (last_before rs a i r is.next here)
+    ∙ is.is_created ∙ ap Some same
+
+-- a list that follows the last creation of a thread is that of its next record
+followed_here : (rs : List Record) (a b i : ℕ) (r : Record) → slice_get rs i ≡ Some r
+    → IsLast rs i r.thread a → AreFollowed rs a b → b ≡ i
+followed_here rs a b i r here last is =
+    let own : thread_at rs b ≡ Some r.thread = sym is.next.same_thread ∙ last.of_it in
+    elim (cases_lt b i) [
+      | inl less ↦ absurd (last.none b is.next.later less own)
+      | inr most ↦ elim (cases_lt i b) [
+        | inl less ↦ absurd (is.next.next i last.below less (thread_get rs i r here ∙ sym last.of_it))
+        | inr least ↦ omega (arith, most, least)
+      ]
+    ]
+
+placed_each : (rs : List Record) → IsFreeOf rs DepsPlace → EachRecord ListsAwaited rs
+placed_each rs free i r here =
+    of (dependences r.body) refl (awaited_by r.thread (take i rs)) refl
+  where
+    no_list : (own : ℕ) (items : List Dep) → dependences r.body ≡ Some (own, items)
+        → (awaited_by r.thread (take i rs) ≡ Some own → ⊥) → ⊥
+    no_list own items says other =
+        free i
+        (deps_place
+        (stray (ap is_some (at_get dependences rs i r here ∙ says))
+        (λ a is. other (followed_awaited rs a i r own items here says is))))
+
+    of : (o : Option (ℕ × List Dep)) → dependences r.body ≡ o → (awaits : Option ℕ)
+        → awaited_by r.thread (take i rs) ≡ awaits → option_map (λ (d : ℕ × List Dep). d.0) o ≡ awaits
+    of None says None is = refl
+    of None says (Some task) is =
+        let within = slice_get_within rs i r here in
+        let (a, last, creates) = awaited_last rs i r.thread task (omega (arith, within)) is in
+        absurd
+        (free a
+        (deps_place
+        (missing (ap is_some creates)
+        (λ b follows.
+        none-some (follows.task, follows.items)
+        (sym says ∙ sym (at_get dependences rs i r here)
+        ∙ ap (at dependences rs) (sym (followed_here rs a b i r here last follows)) ∙ follows.listed)))))
+    of (Some (own, items)) says None is =
+        absurd (no_list own items says (λ waits. none-some own (sym is ∙ waits)))
+    of (Some (own, items)) says (Some task) is = elim (cases_eq own task) [
+      | inl same ↦ ap Some same
+      | inr apart ↦
+          absurd (no_list own items says (λ waits. apart (same_Some own task (sym waits ∙ is))))
+    ]
+
+placed_ends : (rs : List Record) → IsFreeOf rs DepsPlace → NoneAwaited rs
+placed_ends rs free thread = of (awaited_by thread rs) refl
+  where
+    of : (awaits : Option ℕ) → awaited_by thread rs ≡ awaits → awaits ≡ None
+    of None is = refl
+    of (Some task) is =
+        let whole = take_all (length rs) rs (omega arith) in
+        let (a, last, creates) =
+        awaited_last rs (length rs) thread task (omega arith) (ap (awaited_by thread) whole ∙ is) in
+        absurd
+        (free a
+        (deps_place
+        (missing (ap is_some creates)
+        (λ b follows.
+        last.none b follows.next.later follows.next.within
+        (sym follows.next.same_thread ∙ last.of_it)))))
+
+pub placed_exactly : (rs : List Record)
+    → IsFreeOf rs DepsPlace ↔ (EachRecord ListsAwaited rs × NoneAwaited rs)
+placed_exactly rs = (
+  λ free. (placed_each rs free, placed_ends rs free),
+  λ lists. none_misplaced rs lists.0 lists.1,
+)

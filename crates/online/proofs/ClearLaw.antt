@@ -1,5 +1,5 @@
 -- The tests at each record and at the end exclude all causes.
-use Rattle.std.proofs.Common.{◌≡◌, ◌∙◌, ℕ, zero, suc, ◌<◌, ◌+◌, true, List, take, Some, refl, sym, ap}
+use Rattle.std.proofs.Common.{◌≡◌, ◌∙◌, ℕ, zero, suc, ◌<◌, ◌+◌, true, List, Some, refl, sym, ap}
 use Rattle.std.proofs.Common.{arith, inl, inr}
 use Rattle.std.proofs.lemmas.Bool.{cases_lt}
 use Rattle.std.proofs.lemmas.Option.{same_Some, slice_get_within}
@@ -10,9 +10,9 @@ use Rattle.ompt_events.specs.declared.cause.Cause.TheVariants.{LengthAhead, NoOr
 use Rattle.ompt_events.specs.declared.cause.Cause.TheVariants.{NotCurrent, Moved, TurnGap, RegionOrder}
 use Rattle.ompt_events.specs.declared.cause.Cause.TheVariants.{NestedParallel, RegionNesting, EntryTwice}
 use Rattle.ompt_events.specs.declared.cause.Cause.TheVariants.{LengthBack, TargetTask}
-use Rattle.ompt_events.specs.Records.{made, created, creation, begun_root, running, forked, region_named}
+use Rattle.ompt_events.specs.Records.{made, created, begun_root, running, forked, region_named}
 use Rattle.ompt_events.specs.Places.{at, places}
-use Rattle.ompt_events.specs.Tree.{IsRooted, root, child}
+use Rattle.ompt_events.specs.Tree.{IsCreatedAt, IsRooted, root, child}
 use Rattle.ompt_events.specs.Causes.{HasCause, IsFreeOf, unmade, unrooted, no_region, entry, ledger_length}
 use Rattle.ompt_events.specs.Causes.{seq_gap, created_twice, forked_twice, rootless, not_current, moved}
 use Rattle.ompt_events.specs.Causes.{turn_gap, status_order, region_order, barrier_order, team_short}
@@ -20,25 +20,25 @@ use Rattle.ompt_events.specs.Causes.{nested_parallel, region_nesting, deps_place
 use Rattle.ompt_events.specs.Causes.{length_ahead, length_back, no_order, target_task, entries_in}
 use Rattle.ompt_events.proofs.RecordLemmas.{made_cases, created_at_creation, creation_at_running}
 use Rattle.ompt_events.proofs.RecordLemmas.{created_at_made}
-use Rattle.ompt_events.proofs.PlaceLemmas.{at_get, get_at, at_within, seen_within, contains_place}
+use Rattle.ompt_events.proofs.PlaceLemmas.{at_get, get_at, seen_within, contains_place}
 use Rattle.ompt_events.proofs.FileOrderLemmas.{entries_more, entries_all}
 use Rattle.ompt_events.proofs.LinearizationLemmas.{greedy_grounded}
 use Rattle.online.specs.Online.{IsWatchable, is_told_at_once, EachRecord, PassesAfter}
 use Rattle.online.specs.Online.{NoneAwaited}
 use Rattle.online.proofs.OrderLemmas.{order_greedy}
-use Rattle.online.proofs.ReadLemmas.{at_same}
 use Rattle.online.proofs.NameLemmas.{running_named}
 use Rattle.online.proofs.CurrentLemmas.{named_by}
-use Rattle.online.proofs.PassLemmas.{first_long, same_first, none_told}
+use Rattle.online.proofs.PassLemmas.{first_says, none_twice, none_told}
+use Rattle.online.proofs.CreatorLemmas.{none_of_itself}
 use Rattle.online.proofs.AwaitLemmas.{none_misplaced}
 
 -- ---- causes that are not told at once
 
 -- each task that is made has a root: its creator is made before it, and so on
-made_rooted : (rs : List Record) → IsWatchable rs → EachRecord PassesAfter rs → (n i task : ℕ) → i < n
-    → at made rs i ≡ Some task → IsRooted rs task
-made_rooted rs watchable passes zero i task low makes = absurd (omega (arith, low))
-made_rooted rs watchable passes (suc n) i task low makes =
+made_rooted : (rs : List Record) → IsWatchable rs → ((i task : ℕ) → IsCreatedAt rs i task task → ⊥)
+    → (n i task : ℕ) → i < n → at made rs i ≡ Some task → IsRooted rs task
+made_rooted rs watchable alone zero i task low makes = absurd (omega (arith, low))
+made_rooted rs watchable alone (suc n) i task low makes =
     let (r, here, is) = get_at made rs i task makes in
     elim (made_cases task r.body is) [
       | inl begins ↦ root (i, at_get begun_root rs i r here ∙ begins)
@@ -47,14 +47,12 @@ made_rooted rs watchable passes (suc n) i task low makes =
           let name = named_by running running_named rs i parent (creation_at_running parent task rs i from) in
           let (k, early, first) = watchable.named i parent name in
           child i from (elim (cases_lt k i) [
-            | inl less ↦ made_rooted rs watchable passes n k parent (omega (arith, less, low)) first
+            | inl less ↦ made_rooted rs watchable alone n k parent (omega (arith, less, low)) first
             | inr least ↦
                 let place : k ≡ i = omega (arith, early, least) in
                 let own : task ≡ parent =
                 same_Some task parent (sym makes ∙ ap (at made rs) (sym place) ∙ first) in
-                absurd
-                ((passes i r here).apart parent
-                (sym (at_get creation rs i r here) ∙ from ∙ ap (λ t. Some (parent, t)) own))
+                absurd (alone i parent (from ∙ ap (λ t. Some (parent, t)) own))
           ])
     ]
 
@@ -62,15 +60,15 @@ none_rootless : (rs : List Record) → IsWatchable rs → EachRecord PassesAfter
 none_rootless rs watchable passes i (rootless (unmade task name none)) =
     let found = watchable.named i task name in none (found.0, found.2)
 none_rootless rs watchable passes i (rootless (unrooted task creates none)) =
-    none (made_rooted rs watchable passes (i + 1) i task (omega arith) (created_at_made task rs i creates))
+    let once = none_twice rs passes in
+    let alone =
+    none_of_itself rs watchable once (λ k h. none_told rs watchable passes k NotCurrent refl h) in
+    none (made_rooted rs watchable alone (i + 1) i task (omega arith) (created_at_made task rs i creates))
 none_rootless rs watchable passes i (rootless (no_region parallel names none)) =
     let (r, here, is) = get_at region_named rs i parallel names in
     let (k, task, forks) = (passes i r here).begun parallel is in
     let within = slice_get_within rs i r here in
-    let len = first_long i rs (omega (arith, within)) in
-    let low = at_within forked (take i rs) k (task, parallel) forks in
-    let same = same_first i rs (omega (arith, within)) in
-    none (k, task, at_same forked i rs (take i rs) same k (omega (arith, len, low)) ∙ forks)
+    none (k, task, (first_says forked i rs k (task, parallel) (omega (arith, within)) forks).1)
 
 -- no record names more entries than are before it
 none_ahead : (rs : List Record) → IsWatchable rs → IsFreeOf rs LengthAhead
@@ -114,7 +112,7 @@ none_shown rs watchable passes ends no_status no_team no_share i cause h = of h
     of (team_short g) = no_team i (team_short g)
     of (nested_parallel g) = told NestedParallel refl (nested_parallel g)
     of (region_nesting g) = told RegionNesting refl (region_nesting g)
-    of (deps_place g) = none_misplaced rs passes ends i (deps_place g)
+    of (deps_place g) = none_misplaced rs (λ k r here. (passes k r here).in_place) ends i (deps_place g)
     of (share_wrong g) = no_share i (share_wrong g)
     of (entry_twice g) = told EntryTwice refl (entry_twice g)
     of (length_ahead g) = none_ahead rs watchable i (length_ahead g)

@@ -14,6 +14,8 @@ mod SizeLemmas
 mod NestingLemmas
 mod CauseLaw
 pub mod PassLemmas
+pub mod WatchLemmas
 pub mod AwaitLemmas
+mod CreatorLemmas
 pub mod ClearLaw
 pub mod SettledLemmas

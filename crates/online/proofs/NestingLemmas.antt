@@ -36,7 +36,7 @@ HasRoots P walk = (q root : ℕ) → slice_get walk.roots q ≡ Some root → P 
 abbrev Begins : (ℕ → Type 0) → Record → Type 0
 Begins P r = (root : ℕ) → begun_root r.body ≡ Some root → P root
 
-get_drop : (xs : List ℕ) (q : ℕ) → slice_get (drop 1 xs) q ≡ slice_get xs (suc q)
+pub get_drop : (xs : List ℕ) (q : ℕ) → slice_get (drop 1 xs) q ≡ slice_get xs (suc q)
 get_drop [] q = refl
 get_drop (x ∷ xs) q = refl
 

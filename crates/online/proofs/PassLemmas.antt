@@ -1,16 +1,18 @@
 -- Which causes that are told at once the tests at each record exclude.
 use Rattle.std.proofs.Common.{◌≡◌, ◌∙◌, ℕ, ◌<◌, ◌≤◌, ◌+◌, true, List, [], ◌∷◌, ◌++◌, length, take, drop}
-use Rattle.std.proofs.Common.{get_or, Some, refl, sym, ap, subst, arith, inl, inr}
+use Rattle.std.proofs.Common.{get_or, Option, Some, refl, sym, ap, subst, arith, inl, inr}
 use Rattle.std.specs.Prelude.{slice_get}
 use Rattle.std.proofs.lemmas.Bool.{false≢true}
 use Rattle.std.proofs.lemmas.Option.{none-some, same_Some, slice_get_within, slice_get-get_or}
 use Rattle.std.proofs.lemmas.List.{take-append-drop, take-append-le, take_more, take_at, length-take}
 use Rattle.ompt_events.specs.declared.records.Record.{Record}
+use Rattle.ompt_events.specs.declared.records.Body.{Body}
 use Rattle.ompt_events.specs.declared.names.Endpoint.TheVariants.{End}
 use Rattle.ompt_events.specs.declared.cause.Cause.{Cause}
 use Rattle.ompt_events.specs.declared.cause.Cause.TheVariants.{CreatedTwice}
 use Rattle.ompt_events.specs.Records.{made, forked, started, told_turns, begun_turn, region, joined}
 use Rattle.ompt_events.specs.Records.{begun_initial}
+use Rattle.ompt_events.specs.Places.{at}
 use Rattle.ompt_events.specs.HappensBefore.{program}
 use Rattle.ompt_events.specs.Causes.{HasCause, IsFreeOf, seq_gap, created_twice, forked_twice, rootless}
 use Rattle.ompt_events.specs.Causes.{not_current, moved, turn_gap, status_order, region_order, barrier_order}
@@ -23,7 +25,7 @@ use Rattle.ompt_events.proofs.ListLemmas.{get_within, pushed_cases}
 use Rattle.ompt_events.proofs.PlaceLemmas.{at_within}
 use Rattle.ompt_events.proofs.HappensBeforeLemmas.{finishing_within, step_to}
 use Rattle.online.specs.Online.{IsWatchable, is_told_at_once, EachRecord, PassesAfter}
-use Rattle.online.proofs.ReadLemmas.{IsSameTo, same_append, made_same, forked_same}
+use Rattle.online.proofs.ReadLemmas.{IsSameTo, same_append, at_same, made_same, forked_same}
 use Rattle.online.proofs.CauseLaw.{shown_at_once}
 
 -- ---- the first records of a list
@@ -36,6 +38,15 @@ same_first n rs low =
     subst (λ m. IsSameTo m rs (take n rs)) (first_long n rs low)
     (subst (λ l. IsSameTo (length (take n rs)) l (take n rs)) (take-append-drop n rs)
     (same_append (take n rs) (drop n rs)))
+
+-- what one of the first records says it says in the list
+pub first_says : {X : Type 0} (f : Body → Option X) (n : ℕ) (rs : List Record) (k : ℕ) (x : X) → n ≤ length rs
+    → at f (take n rs) k ≡ Some x → (k < n) × (at f rs k ≡ Some x)
+first_says f n rs k x low says =
+    let inside = at_within f (take n rs) k x says in
+    let len = first_long n rs low in
+    let below : k < n = omega (arith, inside, len) in
+    (below, at_same f n rs (take n rs) (same_first n rs low) k below ∙ says)
 
 -- what holds of the first records with the others behind them holds of the list, and the other way round
 pub of_whole : (P : List Record → Type 0) (n : ℕ) (rs : List Record) → P (take n rs ++ drop n rs) → P rs

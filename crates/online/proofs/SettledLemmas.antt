@@ -107,6 +107,9 @@ settled_complete rs watchable passes ends no_team settled =
     once : IsFreeOf rs CreatedTwice
     once = none_twice rs passes
 
+    in_place : IsFreeOf rs DepsPlace
+    in_place = none_misplaced rs (λ k r here. (passes k r here).in_place) ends
+
     begun : (i : ℕ) → i < length rs → AreBegun rs (i + 1) i
     begun i below =
         let (r, here) = get_within rs i below in
@@ -117,6 +120,6 @@ settled_complete rs watchable passes ends no_team settled =
         → AreListed rs (i + 1) dependent
     listed i dependent below there =
         let (r, here) = get_within rs i below in
-        listed_so_far rs watchable once (none_misplaced rs passes ends) i dependent below there
+        listed_so_far rs watchable once in_place i dependent below there
         (of_last (λ l k. IsDependentAt l k dependent → HasLists l dependent) rs i r here
         ((settled i r here).listed dependent))

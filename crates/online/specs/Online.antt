@@ -1,7 +1,7 @@
 -- Records that can be looked at one after another, in an order in which a program may have made them.
-use Rattle.std.specs.Prelude.{ℕ, ◌≡◌, ◌≢◌, ◌<◌, ◌≤◌, ◌⊎◌, ◌==◌, Bool, true, false, List, length, take}
+use Rattle.std.specs.Prelude.{ℕ, ◌≡◌, ◌≢◌, ◌<◌, ◌≤◌, ◌+◌, ◌⊎◌, ◌==◌, Bool, true, false, List, length, take}
 use Rattle.std.specs.Prelude.{Option, Some, None, Contains, slice_get, option_map, filter, fold}
-use Rattle.std.specs.Prelude.{[], ◌∷◌, ◌++◌}
+use Rattle.std.specs.Prelude.{[], ◌∷◌, ◌++◌, is_some}
 use Rattle.ompt_events.specs.declared.records.Record.{Record}
 use Rattle.ompt_events.specs.declared.records.Membership.{Membership}
 use Rattle.ompt_events.specs.declared.records.Part.{Part}
@@ -14,7 +14,8 @@ use Rattle.ompt_events.specs.declared.cause.Cause.TheVariants.{TurnGap}
 use Rattle.ompt_events.specs.declared.cause.Cause.TheVariants.{RegionOrder, NestedParallel, RegionNesting}
 use Rattle.ompt_events.specs.declared.cause.Cause.TheVariants.{EntryTwice, LengthBack, TargetTask}
 use Rattle.ompt_events.specs.Records.{made, created, discarded, fulfilled, finish, running, dependences}
-use Rattle.ompt_events.specs.Records.{created_with_deps, wait_completed, creation, region_named}
+use Rattle.ompt_events.specs.Records.{created_with_deps, wait_completed, region_named, named}
+use Rattle.ompt_events.specs.Records.{begun_turn, suspended_turn}
 use Rattle.ompt_events.specs.Places.{at, seen_at}
 use Rattle.ompt_events.specs.Tree.{IsExplicit, IsChild}
 use Rattle.ompt_events.specs.Teams.{members, IsTeammate}
@@ -22,7 +23,8 @@ use Rattle.ompt_events.specs.Regions.{IsRegion, is_barrier, IsBarrierBegin}
 use Rattle.ompt_events.specs.HappensBefore.{IsFinishing, IsStart, IsResumption}
 use Rattle.ompt_events.specs.Violations.{IsRequired}
 use Rattle.ompt_events.specs.Completion.{IsCompleteAt}
-use Rattle.ompt_events.specs.Causes.{HasCause, entries_before, IsNamedAt, IsForked, AreFollowed}
+use Rattle.ompt_events.specs.Causes.{HasCause, entries_in, entries_before, IsNamedAt, IsMade, IsForked}
+use Rattle.ompt_events.specs.Causes.{AreFollowed}
 
 -- each record stands behind what it has seen, and behind the creation or the suspension with which it goes on
 pub record IsInOrder (rs : List Record) : Type 0 where
@@ -120,6 +122,22 @@ awaited_by thread rs =
     fold (λ (before : Option ℕ) (r : Record). created_with_deps r.body) None
     (filter (λ (r : Record). r.thread == thread) rs)
 
+-- the record lists the dependences of the task that its thread awaits, and none where that awaits none
+abbrev pub ListsAwaited : List Record → Record → Type 0
+ListsAwaited before r =
+    option_map (λ (d : ℕ × List Dep). d.0) (dependences r.body) ≡ awaited_by r.thread before
+
+-- the tests by which records are watchable
+pub record ComesAfter (before : List Record) (r : Record) : Type 0 where
+  -- a finishing record makes the next entry, and none names more entries than are before it
+  pub enters : is_some (finish r.body) ≡ true → r.seen ≡ entries_in before
+  pub names : r.seen ≤ entries_in before
+  -- each task that it names is made before, or there
+  pub known : (task : ℕ) → Contains (named r.body) task → IsMade before task ⊎ (made r.body ≡ Some task)
+  -- the task that it suspends has not begun its next turn before
+  pub suspends : (task turn k : ℕ) → suspended_turn r.body ≡ Some (task, turn)
+      → at begun_turn before k ≢ Some (task, turn + 1)
+
 -- the tests that exclude causes
 pub record PassesAfter (before : List Record) (r : Record) : Type 0 where
   -- with the records before it, it has none of the causes that are told at once
@@ -127,10 +145,8 @@ pub record PassesAfter (before : List Record) (r : Record) : Type 0 where
       → HasCause (before ++ r ∷ []) (length before) cause → ⊥
   -- one of them begins the parallel region that it names
   pub begun : (parallel : ℕ) → region_named r.body ≡ Some parallel → IsForked before parallel
-  -- the task that it creates is not its creator
-  pub apart : (task : ℕ) → creation r.body ≢ Some (task, task)
-  -- it lists the dependences of the task that its thread awaits, and none where that awaits none
-  pub in_place : option_map (λ (d : ℕ × List Dep). d.0) (dependences r.body) ≡ awaited_by r.thread before
+  -- and it lists what its thread awaits
+  pub in_place : ListsAwaited before r
 
 -- no thread awaits dependences after the last record
 abbrev pub NoneAwaited : List Record → Type 0

@@ -17,8 +17,8 @@ ghost use Rattle.ompt_events.specs.Causes.{HasCause, IsFreeOf};
 ghost use Rattle.ompt_events.specs.Linearization.{IsLinearization, IsGreedy};
 ghost use Rattle.online.specs.Online.{IsInOrder, IsWatchable, is_told_at_once, stays_told};
 ghost use Rattle.online.specs.Online.{EndsLast, AreBegun, HasTeamBegun, AreListed, HasLists, IsDependentAt};
-ghost use Rattle.online.specs.Online.{EachRecord, PassesAfter, NoneAwaited, IsUnfinishedAfter, IsCompleteAfter};
-ghost use Rattle.online.specs.Online.{IsSettledAfter};
+ghost use Rattle.online.specs.Online.{EachRecord, ComesAfter, ListsAwaited, NoneAwaited, PassesAfter};
+ghost use Rattle.online.specs.Online.{IsUnfinishedAfter, IsCompleteAfter, IsSettledAfter};
 
 /// File order is an order of the records, and the greedy one, where each record stands behind what it has seen
 /// and what it goes on with. Conversely the records are so in each file whose order is one of them, unless an
@@ -123,10 +123,20 @@ pub fn what_must_be_complete_is_known_when_its_record_is_read()
         ↔ ((task : ℕ) → IsRequired (before ++ after) i task → IsCompleteAt (before ++ after) task i) }
 {}
 
-/// Let records be watchable, and let each pass the tests that are made with those before it (`PassesAfter`). Then
-/// no record has a cause, by file order, if no thread awaits dependences after the last record (`NoneAwaited`).
-/// That no record has StatusOrder, TeamShort or ShareWrong is a premise.
+/// What the tests of each record with those before it tell of all records.
+///
+/// - `watchable`: where no task is made twice, the records are watchable exactly where each passes the tests of
+///   `ComesAfter`.
+/// - `placed`: no list of dependences is misplaced exactly where each record lists what its thread awaits, and no
+///   thread awaits dependences after the last record (`ListsAwaited`, `NoneAwaited`).
+/// - `clear`: let the records be watchable, each pass the tests of causes (`PassesAfter`), and no thread await
+///   dependences. Then no record has a cause, by file order. That none has StatusOrder, TeamShort or ShareWrong is
+///   a premise.
 pub fn tests_at_each_record_exclude_all_causes()
+    ensures watchable { (rs : List Record) → IsFreeOf rs CreatedTwice
+        → EachRecord ComesAfter rs ↔ IsWatchable rs }
+    ensures placed { (rs : List Record) → IsFreeOf rs DepsPlace
+        ↔ (EachRecord ListsAwaited rs × NoneAwaited rs) }
     ensures clear { (rs : List Record) → IsWatchable rs → EachRecord PassesAfter rs → NoneAwaited rs
         → IsFreeOf rs StatusOrder → IsFreeOf rs TeamShort → IsFreeOf rs ShareWrong
         → (i : ℕ) (cause : Cause) → HasCause rs i cause → ⊥ }
@@ -154,7 +164,9 @@ pub fn what_is_complete_at_each_record_is_complete()
 /// Each record has to be tested once, when it is read: a test that each of some records has passed stays so with
 /// one more.
 pub fn each_record_is_tested_once()
-    ensures none { EachRecord PassesAfter [] × EachRecord IsSettledAfter [] }
+    ensures none { EachRecord ComesAfter [] × EachRecord PassesAfter [] × EachRecord IsSettledAfter [] }
+    ensures comes { (rs : List Record) (r : Record) → EachRecord ComesAfter rs → ComesAfter rs r
+        → EachRecord ComesAfter (rs ++ r ∷ []) }
     ensures passes { (rs : List Record) (r : Record) → EachRecord PassesAfter rs → PassesAfter rs r
         → EachRecord PassesAfter (rs ++ r ∷ []) }
     ensures settled { (rs : List Record) (r : Record) → EachRecord IsSettledAfter rs → IsSettledAfter rs r
