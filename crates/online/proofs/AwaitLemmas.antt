@@ -1,12 +1,12 @@
 -- Dependences stand in their place where each record lists what its thread awaits.
 use Rattle.std.proofs.Common.{◌≡◌, ◌≢◌, ◌∙◌, ℕ, zero, suc, ◌<◌, ◌≤◌, ◌+◌, ◌-◌, ◌⊎◌, List, [], ◌∷◌, ◌++◌}
-use Rattle.std.proofs.Common.{length, take, get_or, cond, Option, Some, None, refl, sym, ap, subst, arith}
-use Rattle.std.proofs.Common.{inl, inr, add-one}
-use Rattle.std.specs.Prelude.{◌↔◌, is_some, ◌==◌, slice_get, option_map, filter, fold}
+use Rattle.std.proofs.Common.{length, take, cond, Bool, true, false, Option, Some, None, refl, sym, ap, subst}
+use Rattle.std.proofs.Common.{arith, inl, inr, add-one}
+use Rattle.std.specs.Prelude.{◌↔◌, is_some, ◌==◌, slice_get, option_map, filter, fold, if◌then◌else◌}
 use Rattle.std.proofs.lemmas.Bool.{cases_eq, cases_lt, eq-eqb, ne_eqb}
-use Rattle.std.proofs.lemmas.Option.{none-some, same_Some, slice_get-get_or, slice_get_within}
+use Rattle.std.proofs.lemmas.Option.{none-some, same_Some, slice_get_within}
 use Rattle.std.proofs.lemmas.List.{append-nil, take_all}
-use Rattle.std.proofs.lemmas.List.Elements.{filter_more}
+use Rattle.std.proofs.lemmas.List.Elements.{filter-append}
 use Rattle.std.proofs.lemmas.List.Sums.{fold_push}
 use Rattle.ompt_events.specs.declared.records.Record.{Record}
 use Rattle.ompt_events.specs.declared.deps.Dep.{Dep}
@@ -16,47 +16,47 @@ use Rattle.ompt_events.specs.Places.{at, thread_at}
 use Rattle.ompt_events.specs.Causes.{IsFreeOf, IsNextInThread, AreFollowed, deps_place, stray, missing}
 use Rattle.ompt_events.proofs.ListLemmas.{get_within}
 use Rattle.ompt_events.proofs.PlaceLemmas.{at_get, at_within, thread_get, some_of}
+use Rattle.online.proofs.PassLemmas.{first_more}
 use Rattle.online.specs.Online.{awaited_by, EachRecord, ListsAwaited, NoneAwaited}
 
 -- ---- what a thread awaits, with one record more
 
-abbrev last_created : List Record → Option ℕ
-last_created rs = fold (λ (before : Option ℕ) (r : Record). created_with_deps r.body) None rs
-
--- the thread's records among these, and one more
-with_record : ℕ → List Record → Record → List Record
-with_record thread rs r =
-    filter (λ (q : Record). q.thread == thread) rs ++ cond (r.thread == thread) (r ∷ []) []
+-- what its last record creates, if that is one of the thread's
+pub awaited_push : (rs : List Record) (r : Record) (thread : ℕ)
+    → awaited_by thread (rs ++ r ∷ [])
+    ≡ (if r.thread == thread then created_with_deps r.body else awaited_by thread rs)
+awaited_push rs r thread =
+    ap (fold (λ (before : Option ℕ) (q : Record). created_with_deps q.body) None)
+    (filter-append (λ (q : Record). q.thread == thread) rs (r ∷ [])) ∙ of (r.thread == thread)
+  where
+    of : (b : Bool)
+        → fold (λ (before : Option ℕ) (q : Record). created_with_deps q.body) None
+        (filter (λ (q : Record). q.thread == thread) rs ++ cond b (r ∷ []) [])
+        ≡ (if b then created_with_deps r.body else awaited_by thread rs)
+    of true = fold_push (λ (before : Option ℕ) (q : Record). created_with_deps q.body) None
+        (filter (λ (q : Record). q.thread == thread) rs) r
+    of false = ap (fold (λ (before : Option ℕ) (q : Record). created_with_deps q.body) None)
+        (append-nil (filter (λ (q : Record). q.thread == thread) rs))
 
 awaited_more : (rs : List Record) (n thread : ℕ) (r : Record) → slice_get rs n ≡ Some r
-    → awaited_by thread (take (n + 1) rs) ≡ last_created (with_record thread (take n rs) r)
-unfolding with_record
+    → awaited_by thread (take (n + 1) rs)
+    ≡ (if r.thread == thread then created_with_deps r.body else awaited_by thread (take n rs))
 awaited_more rs n thread r here =
-    let within = slice_get_within rs n r here in
-    let read : get_or rs n r ≡ r =
-    same_Some (get_or rs n r) r (sym (slice_get-get_or rs n r within) ∙ here) in
-    ap last_created (filter_more (λ (q : Record). q.thread == thread) rs n r within)
-    ∙ ap (λ q. last_created (with_record thread (take n rs) q)) read
+    ap (awaited_by thread) (sym (first_more rs n r here)) ∙ awaited_push (take n rs) r thread
 
-pub awaited_own : (rs : List Record) (n : ℕ) (r : Record) → slice_get rs n ≡ Some r
+awaited_own : (rs : List Record) (n : ℕ) (r : Record) → slice_get rs n ≡ Some r
     → awaited_by r.thread (take (n + 1) rs) ≡ created_with_deps r.body
-unfolding with_record
 awaited_own rs n r here =
     awaited_more rs n r.thread r here
-    ∙ ap
-    (λ b. last_created (filter (λ (q : Record). q.thread == r.thread) (take n rs) ++ cond b (r ∷ []) []))
+    ∙ ap (λ b. if b then created_with_deps r.body else awaited_by r.thread (take n rs))
     (eq-eqb r.thread r.thread refl)
-    ∙ fold_push (λ (before : Option ℕ) (q : Record). created_with_deps q.body) None
-    (filter (λ (q : Record). q.thread == r.thread) (take n rs)) r
 
-pub awaited_other : (rs : List Record) (n thread : ℕ) (r : Record) → slice_get rs n ≡ Some r
+awaited_other : (rs : List Record) (n thread : ℕ) (r : Record) → slice_get rs n ≡ Some r
     → r.thread ≢ thread → awaited_by thread (take (n + 1) rs) ≡ awaited_by thread (take n rs)
-unfolding with_record
 awaited_other rs n thread r here apart =
     awaited_more rs n thread r here
-    ∙ ap (λ b. last_created (filter (λ (q : Record). q.thread == thread) (take n rs) ++ cond b (r ∷ []) []))
+    ∙ ap (λ b. if b then created_with_deps r.body else awaited_by thread (take n rs))
     (ne_eqb r.thread thread apart)
-    ∙ ap last_created (append-nil (filter (λ (q : Record). q.thread == thread) (take n rs)))
 
 -- ---- the last record of a thread among the first n
 

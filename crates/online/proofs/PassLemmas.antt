@@ -56,7 +56,7 @@ pub to_whole : (P : List Record → Type 0) (n : ℕ) (rs : List Record) → P r
 to_whole P n rs = subst P (sym (take-append-drop n rs))
 
 -- the records before a place and the one there are the first records; it stands at the place
-first_more : (rs : List Record) (i : ℕ) (r : Record) → slice_get rs i ≡ Some r
+pub first_more : (rs : List Record) (i : ℕ) (r : Record) → slice_get rs i ≡ Some r
     → take i rs ++ r ∷ [] ≡ take (i + 1) rs
 first_more rs i r here =
     let within = slice_get_within rs i r here in

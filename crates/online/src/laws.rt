@@ -145,11 +145,11 @@ pub fn tests_at_each_record_exclude_all_causes()
 /// If at each record all is complete that must be complete there by it and those before it, then all is complete
 /// that must be complete by all records.
 ///
-/// - `ends_last`: no record of a task stands behind the end of the task's body, if no task is finished before one
-///   of its records (`IsUnfinishedAfter`).
-/// - `required`: let no record stand so. Then all is complete, if the barrier begins that count for a record, and
-///   the lists of dependences, are among those up to it (`AreBegun`, `AreListed`).
-/// - `settled`: all is complete, by the tests at each record alone (`IsSettledAfter`). No team may lack a member.
+/// - `ends_last`: where no task is finished before one of its records (`IsUnfinishedAfter`), `EndsLast` holds.
+/// - `required`: where `EndsLast` holds, and the barrier begins and the lists of dependences that count for a record
+///   are among those up to it (`AreBegun`, `AreListed`).
+/// - `settled`: where each record passes the tests of causes and of completeness (`IsSettledAfter`), no thread
+///   awaits dependences after the last record, and no team lacks a member.
 pub fn what_is_complete_at_each_record_is_complete()
     ensures ends_last { (rs : List Record) → EachRecord IsUnfinishedAfter rs → EndsLast rs }
     ensures required { (rs : List Record) → IsWatchable rs → IsFreeOf rs CreatedTwice → EndsLast rs
