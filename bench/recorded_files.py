@@ -6,15 +6,14 @@ the files.
 
 The first compares each file with the same without its members `codeptr`, which the audit ignores:
 instructions a record, and seconds, for which the two files take turns and the least of nine rounds counts.
-The second compares each file, in which one thread comes after another, with the same records in the order
-that `taskaudit order` prints, an order of time; the causes are those of phases.py. Valgrind counts the
-instructions. Each run of a program records another file, so the figures differ a little.
+The second compares each file, which is in the order of time, with the same records one thread after another;
+the causes are those of phases.py. Valgrind counts the instructions. Each run of a program records another
+file, so the figures differ a little.
 """
 
 import json
 import os
 import re
-import subprocess
 import sys
 import tempfile
 
@@ -32,14 +31,9 @@ def without_code(lines):
     return [CODE.sub("", line) for line in lines]
 
 
-def in_the_order_of_time(path, lines):
-    """The same records in the order that `taskaudit order` prints."""
-    write_lines(path, lines)
-    command = [PROGRAM, "order", path]
-    ordered = subprocess.run(command, stdout=subprocess.PIPE, check=True, text=True).stdout.splitlines()
-    records = ((json.loads(line), line) for line in lines[1:])
-    found = {(record["thread"], record["seq"]): line for record, line in records}
-    return [lines[0], *(found[tuple(map(int, place.split()))] for place in ordered[1:])]
+def by_thread(lines):
+    """The same records, one thread after another."""
+    return [lines[0], *sorted(lines[1:], key=lambda line: json.loads(line)["thread"])]
 
 
 def least_seconds(path, files):
@@ -69,12 +63,12 @@ def show_code(path, title, lines):
 
 
 def show_order(path, title, lines):
-    """Prints what a file takes as it was recorded, and in the order of time."""
-    size, files = len(lines) - 1, (lines, in_the_order_of_time(path, lines))
+    """Prints what a file takes as it was recorded, and one thread after another."""
+    size, files = len(lines) - 1, (lines, by_thread(lines))
     checks = [checked(path, it) / size for it in files]
     causes = [(to_the_causes(path, it) - to_read(path, it)) / size for it in files]
-    row(title, f"{size:,}", *(f"{figure:,.0f}" for figure in checks), f"{checks[0] / checks[1]:.2f}",
-        *(f"{figure:,.0f}" for figure in causes), f"{causes[0] / causes[1]:.2f}")
+    row(title, f"{size:,}", *(f"{figure:,.0f}" for figure in checks), f"{checks[1] / checks[0]:.2f}",
+        *(f"{figure:,.0f}" for figure in causes), f"{causes[1] / causes[0]:.2f}")
 
 
 def main():
@@ -90,8 +84,8 @@ def main():
         for title, lines in files:
             show_code(path, title, lines)
         print()
-        table("Program", "Records", "`check`, as recorded", "in the order of time", "times",
-              "causes, as recorded", "in the order of time", "times")
+        table("Program", "Records", "`check`, as recorded", "one thread after another", "times",
+              "causes, as recorded", "one thread after another", "times")
         for title, lines in files:
             show_order(path, title, lines)
 

@@ -1,6 +1,7 @@
 /* What the parts of the recorder share: the records of a process in memory. recorder.c fills them in the callbacks of
-   OMPT, writer.c makes a trace file of them, files.c names the file, and ending.c sees to it that it is written however
-   the process ends. docs/RECORDING.md of taskaudit has the rules that all follow. */
+   OMPT, writer.c makes a trace file of them in the order that merging.c finds, files.c names the file, and ending.c
+   sees to it that it is written however the process ends. docs/RECORDING.md of taskaudit has the rules that all
+   follow. */
 #ifndef TASKAUDIT_RECORDER_H
 #define TASKAUDIT_RECORDER_H
 
@@ -38,11 +39,15 @@ struct task {
     uint32_t children;     /* how many it has created */
     uint32_t depth;        /* how many steps it is below its root */
     int32_t thread;        /* the thread on which it first ran, or -1 */
-    uint32_t turn;         /* how often it has resumed since it started, on any thread */
+    union {
+        uint32_t turn;         /* how often it has resumed since it started, on any thread */
+        uint32_t ended;        /* when the file is written: how many of its turns have ended in what is out */
+    };
     bool is_initial : 1, is_discarded : 1;
     bool is_of_league : 1; /* an initial task of a teams construct, in a file that has these */
     bool has_list : 1;     /* its dependences are recorded */
     bool has_started : 1;  /* for the writer: its start was counted */
+    uint8_t made_in;       /* when the file is written: in how many passes the record that makes it is out */
 };
 
 struct dependence {
@@ -144,6 +149,33 @@ void end_process(const char *ending);
 const char *write_records(int file, const char *ending);
 /* Finds out which code is where. Not for signal handlers. */
 void find_modules(void);
+
+/* The records that are written */
+
+/* Where one is in the records of a thread: behind so many of them. */
+struct cursor {
+    const struct block *block;
+    uint32_t at, count;
+};
+/* How many threads there are, and the number of the last parallel region. */
+extern int thread_total;
+extern uint32_t last_region;
+/* Where a pass is in each thread. The writer may move a cursor on, where it leaves records out. */
+extern struct cursor cursors[MAX_THREADS];
+
+/* Takes down how many records there are; comes before what follows. */
+void take_totals(void);
+struct cursor records_of(int thread);
+/* The next record of a thread, or NULL. The cursor moves behind it. */
+const struct record *next_record(struct cursor *cursor);
+/* Whether it makes an entry of the ledger, since it finishes a task. */
+bool makes_entry(const struct record *record);
+
+/* Begins to go through all records in the order of time; when the pass before is at its end. */
+void begin_pass(void);
+/* The next record in this order, and the number of its thread; or NULL. */
+const struct record *next_in_time(int *thread);
+
 /* The length of text that files have no more of: names, and sentences on them. */
 enum { LONGEST_NAME = 4096 };
 

@@ -1,5 +1,5 @@
-/* Writes the records of a process as a trace file (docs/FORMAT.md): the header, and one thread's records after another.
-   It runs in signal handlers too, so it calls nothing of the C library but system calls. */
+/* Writes the records of a process as a trace file (docs/FORMAT.md): the header, and the records in the order of time. It
+   runs in signal handlers too, so it calls nothing of the C library but system calls. */
 #define _GNU_SOURCE
 #include "recorder.h"
 
@@ -152,39 +152,7 @@ static void put_code(const void *code) {
     }
 }
 
-/* The records of a thread, one after another */
-
-/* How many threads there are, and how many records each has. Taken once, since a thread may still be within a callback. */
-static int thread_total;
-static uint32_t totals[MAX_THREADS];
-
-static void take_totals(void) {
-    int made = atomic_load(&thread_count);
-    thread_total = made < MAX_THREADS ? made : MAX_THREADS;
-    for (int i = 0; i < thread_total; i++)
-        totals[i] = threads[i] ? atomic_load_explicit(&threads[i]->count, memory_order_acquire) : 0;
-}
-
-/* Returns a thread; one without records where it was just being made. */
-static const struct thread *thread_at(int number) {
-    static const struct thread none;
-    return threads[number] ? threads[number] : &none;
-}
-
-struct cursor {
-    const struct block *block;
-    uint32_t at, count;
-};
-
-static struct cursor records_of(const struct thread *thread) {
-    return (struct cursor){thread->first, 0, totals[thread->number]};
-}
-
-static const struct record *next(struct cursor *cursor) {
-    if (cursor->at == cursor->count) return NULL;
-    if (cursor->at && cursor->at % RECORDS_OF_BLOCK == 0) cursor->block = cursor->block->next;
-    return &cursor->block->records[cursor->at++ % RECORDS_OF_BLOCK];
-}
+/* Records of a thread */
 
 /* Returns the time of the record that came last, where the file has times. */
 static uint64_t time_of_last(const struct cursor *cursor) {
@@ -200,7 +168,7 @@ static bool may_leave_out(const struct record *begin) {
    nothing is created; it may be left out then. The cursor moves to after its end. */
 static bool passes_inner_region(struct cursor *cursor, const struct record *begin) {
     struct cursor ahead = *cursor;
-    for (const struct record *record; (record = next(&ahead));) {
+    for (const struct record *record; (record = next_record(&ahead));) {
         switch (record->callback) {
         case PARALLEL_END:
             if (record->region != begin->region) break;
@@ -225,12 +193,6 @@ static bool passes_inner_region(struct cursor *cursor, const struct record *begi
 /* Records */
 
 static bool renames_barriers;
-
-static bool is_finishing(const struct record *record) {
-    if (record->callback == CANCEL) return record->flags & ompt_cancel_discarded_task;
-    return record->callback == TASK_SCHEDULE && record->kind != ompt_task_yield && record->kind != ompt_task_switch &&
-           record->kind != ompt_task_early_fulfill;
-}
 
 /* The next task, and which of its turns begins where the file has turns. */
 static void put_next(const struct record *record) {
@@ -298,11 +260,11 @@ static void put_task_create(const struct record *record, uint64_t time) {
 static void put_task_schedule(const struct record *record, uint64_t time) {
     put("{\"cb\":\"task_schedule\"");
     put_others(time, NULL);
-    if (is_finishing(record)) put_claim(record);
+    if (makes_entry(record)) put_claim(record);
     else put_next(record);
     put_member(",\"prior\":", record->task->id);
     if (record->other && settings.version > FIRST_VERSION) put_member(",\"prior_turn\":", record->turns.prior);
-    if (is_finishing(record)) put_member(",\"root\":", record->task->root->id);
+    if (makes_entry(record)) put_member(",\"root\":", record->task->root->id);
 }
 
 static void put_sync_region(const struct record *record, uint64_t time) {
@@ -320,7 +282,7 @@ static void put_cancel(const struct record *record, uint64_t time) {
     put("{\"cb\":\"cancel\"");
     put_others(time, record->code);
     put_flags(cancel_flags, record->flags);
-    if (!is_finishing(record)) return;
+    if (!makes_entry(record)) return;
     put_claim(record);
     put_member(",\"root\":", record->task->root->id);
 }
@@ -368,12 +330,14 @@ static void put_record(const struct record *record, uint64_t time, int thread, u
     if (length > sizeof text - LONGEST_LINE) flush();
 }
 
-static void put_thread(const struct thread *thread) {
-    struct cursor cursor = records_of(thread);
-    uint32_t seq = 0;
-    for (const struct record *record; (record = next(&cursor));) {
-        if (record->callback == PARALLEL_BEGIN && may_leave_out(record) && passes_inner_region(&cursor, record)) continue;
-        put_record(record, time_of_last(&cursor), thread->number, seq++);
+static void put_records(void) {
+    static uint32_t counts[MAX_THREADS];
+    int thread;
+    begin_pass();
+    for (const struct record *record; (record = next_in_time(&thread));) {
+        struct cursor *cursor = &cursors[thread];
+        if (record->callback == PARALLEL_BEGIN && may_leave_out(record) && passes_inner_region(cursor, record)) continue;
+        put_record(record, time_of_last(cursor), thread, counts[thread]++);
     }
 }
 
@@ -393,7 +357,6 @@ static struct team {
     bool is_in_league; /* an initial task of a teams construct began it */
     uint64_t time;     /* when the last one began */
 } *teams;
-static uint32_t last_region;
 
 static void count(enum note what, const void *code) {
     if (atomic_fetch_add(&notes[what], 1) == 0) atomic_store(&first_code[what], code);
@@ -435,24 +398,28 @@ static bool leaves_out(struct cursor *cursor, const struct record *begin) {
     return is_left_out;
 }
 
+/* Looks at the record just before the cursor, which moves on where a region is left out. Returns whether the record has a
+   line. */
+static bool look_at(const struct record *record, struct cursor *cursor) {
+    if (record->callback == TASK_CREATE) record->other->id = ++last_id;
+    else if (record->callback == IMPLICIT_TASK) look_at_root(record, time_of_last(cursor));
+    else if (record->callback == SYNC_REGION) look_at_region(record);
+    else if (record->callback == TASK_SCHEDULE) look_at_schedule(record);
+    else if (record->callback == PARALLEL_END) open_regions--;
+    else if (record->callback == PARALLEL_BEGIN) {
+        if (may_leave_out(record) && leaves_out(cursor, record)) return false;
+        look_at_parallel(record);
+    }
+    return true;
+}
+
 /* Gives the tasks their ids, which rise in the order of the lines that make them, and counts what is there and what is
    left out. */
-static void look_at(const struct thread *thread) {
-    struct cursor cursor = records_of(thread);
-    uint32_t left_out = 0;
-    for (const struct record *record; (record = next(&cursor));) {
-        if (record->callback == TASK_CREATE) record->other->id = ++last_id;
-        else if (record->callback == IMPLICIT_TASK) look_at_root(record, time_of_last(&cursor));
-        else if (record->callback == SYNC_REGION) look_at_region(record);
-        else if (record->callback == TASK_SCHEDULE) look_at_schedule(record);
-        else if (record->callback == PARALLEL_END) open_regions--;
-        else if (record->callback == PARALLEL_BEGIN) {
-            uint32_t at = cursor.at;
-            if (!may_leave_out(record) || !leaves_out(&cursor, record)) look_at_parallel(record);
-            else left_out += cursor.at - at + 1;
-        }
-    }
-    lines[thread->number] = cursor.count - left_out;
+static void look_at_records(void) {
+    int thread;
+    begin_pass();
+    for (const struct record *record; (record = next_in_time(&thread));)
+        lines[thread] += look_at(record, &cursors[thread]);
 }
 
 /* Code that gcc compiled reports its barriers as `barrier_implementation`, or as that on the primary thread and as
@@ -491,8 +458,8 @@ static void find_begun(uint32_t region, bool *is_begun) {
         return;
     }
     for (int i = 0; i < thread_total; i++) {
-        struct cursor cursor = records_of(thread_at(i));
-        for (const struct record *record; (record = next(&cursor));)
+        struct cursor cursor = records_of(i);
+        for (const struct record *record; (record = next_record(&cursor));)
             if (record->callback == IMPLICIT_TASK && record->endpoint == ompt_scope_begin && record->region == region &&
                 record->index < MAX_THREADS)
                 is_begun[record->index] = true;
@@ -592,14 +559,13 @@ static void put_header(const char *ending) {
 const char *write_records(int to, const char *ending) {
     file = to;
     take_totals();
-    last_region = atomic_load(&region_count);
     teams = mmap(NULL, (last_region + 1) * sizeof *teams, PROT_READ | PROT_WRITE, MAP_PRIVATE | MAP_ANONYMOUS, -1, 0);
     if (teams == MAP_FAILED) teams = NULL;
-    for (int i = 0; i < thread_total; i++) look_at(thread_at(i));
+    look_at_records();
     look_at_barriers();
     look_at_teams();
     put_header(ending);
-    for (int i = 0; i < thread_total; i++) put_thread(thread_at(i));
+    put_records();
     put_missing_members();
     flush();
     return fault;
