@@ -1,19 +1,16 @@
 -- A record more in the records of one thread.
-use Rattle.std.proofs.Common.{◌≡◌, ◌∙◌, ℕ, ◌≤◌, ◌<◌, Bool, true, List, [], ◌∷◌, ◌++◌, length, take, refl}
+use Rattle.std.proofs.Common.{◌≡◌, ◌∙◌, ℕ, ◌≤◌, ◌<◌, true, List, [], ◌∷◌, ◌++◌, length, take, refl}
 use Rattle.std.proofs.Common.{sym, ap, subst, arith, inl, inr}
 use Rattle.std.proofs.lemmas.List.{length_push, take-append-le}
-use Rattle.std.proofs.lemmas.List.Elements.{All-append, All-cons, All-nil}
 use Rattle.std.proofs.lemmas.List.Sums.{fold_push}
 use Rattle.std.proofs.lemmas.Option.{slice_get_within}
-use Rattle.std.specs.BTreeSet.{BTreeSet}
 use Rattle.ompt_events.specs.declared.records.Record.{Record}
 use Rattle.ompt_events.specs.Limits.{max_records}
 use Rattle.ompt_events.specs.Traces.{IsSoundIn, IsInRange}
 use Rattle.ompt_events.proofs.ListLemmas.{pushed_cases}
-use Rattle.callbacks.specs.Standing.{Standing, standing_at_start, next_standing, standing_of, allows}
-use Rattle.callbacks.specs.Begun.{AreBegun}
+use Rattle.callbacks.specs.Standing.{standing_at_start, next_standing, standing_of, allows}
 use Rattle.callbacks.specs.declared.thread_state.ThreadState.{ThreadState}
-use Rattle.callbacks.specs.Logs.{LogView, known_from, known_of, Follows, AreOrderly, AreRecorded, IsKept, IsLeft}
+use Rattle.callbacks.specs.Logs.{LogView, known_from, known_of, Follows, AreOrderly, AreRecorded, IsLeft}
 
 take-all : (own : List Record) → take (length own) own ≡ own
 take-all [] = refl
@@ -62,29 +59,12 @@ recorded-pushed thread known own r recorded few rises allowed sound in_range is_
       known_rises = omega (arith, known-pushed own r);
     }
 
--- what is kept beside them
-pub kept-pushed : (nests : Bool) (own : List Record) (r : Record) (standing next : Standing)
-    → (begun later : BTreeSet (ℕ × ℕ))
-    → IsKept nests own standing begun → r.nests ≡ nests → next ≡ next_standing nests standing r.body
-    → (nests ≡ true → AreBegun (own ++ r ∷ []) later) → IsKept nests (own ++ r ∷ []) next later
-kept-pushed nests own r standing next begun later kept is_kind is_next begun_are = record {
-  of_kind = All-append of_one own (r ∷ []) kept.of_kind (All-cons of_one r [] is_kind (All-nil of_one));
-  standing_is =
-      is_next ∙ ap (λ s. next_standing nests s r.body) kept.standing_is
-      ∙ ap (λ n. next_standing n (standing_of own) r.body) (sym is_kind) ∙ sym (standing-pushed own r);
-  begun_are = begun_are;
-}
-  where
-    of_one : Record → Type 0
-    of_one q = q.nests ≡ nests
-
 -- the log with one more record
-pub log-pushed : (v later : LogView) (next : ThreadState) (r : Record) → AreRecorded v.thread v.records v.known
-    → length v.records < max_records → v.known ≤ r.seen → allows v.nests v.records r.body ≡ true
-    → IsSoundIn 2 r.body → IsInRange r → r.thread ≡ v.thread → r.nests ≡ v.nests
-    → r.seq ≡ length v.records
-    → later.thread ≡ v.thread → later.records ≡ v.records ++ r ∷ []
-    → later.known ≡ known_from r.seen r.body
+pub log-pushed : (v later : LogView) (next : ThreadState) (r : Record)
+    → AreRecorded v.thread v.records v.known → length v.records < max_records → v.known ≤ r.seen
+    → allows v.nests v.records r.body ≡ true → IsSoundIn 2 r.body → IsInRange r → r.thread ≡ v.thread
+    → r.nests ≡ v.nests → r.seq ≡ length v.records → later.thread ≡ v.thread
+    → later.records ≡ v.records ++ r ∷ [] → later.known ≡ known_from r.seen r.body
     → IsLeft (v.records ++ r ∷ []) next
     → AreRecorded later.thread later.records later.known × IsLeft later.records next
 log-pushed v later next r recorded few rises allowed sound in_range is_thread is_kind is_seq same is_later

@@ -35,8 +35,8 @@ invariant_of-self-2 c =
     let allowed =
     subst (λ (v : LogView). allows v.nests v.records c.args.body ≡ true) (sym c.self.view_is)
     c.requires.allowed in
-    log-pushed before after c.advance.new.self event
-    c.self.invariant.0 few rises allowed c.requires.sound c.read_numbers.ensures
-    c.thread.ensures (c.nests.ensures ∙ c.advance.ensures.nests) c.len.ensures c.push_reserved.ensures.thread c.push_reserved.ensures.records
-    c.known_from-self-inside.ensures
-    (c.in-Ok.ensures.left i.buffer.records event refl (c.nests.ensures ∙ c.advance.ensures.nests) c.self.invariant.1)
+    let kind = c.nests.ensures ∙ c.advance.ensures.nests in
+    log-pushed before after c.advance.new.self event c.self.invariant.0 few rises allowed c.requires.sound
+    c.read_numbers.ensures c.thread.ensures kind c.len.ensures c.push_reserved.ensures.thread
+    c.push_reserved.ensures.records c.known_from-self-inside.ensures
+    (c.in-Ok.ensures.left i.buffer.records event refl kind c.self.invariant.1)
