@@ -179,7 +179,7 @@ list_of task None is = absurd (none-some task is)
 list_of task (Some (own, items)) is = (items, ap (λ t. Some (t, items)) (same_Some own task is))
 
 -- a list follows the creation of its task
-list_follows : (rs : List Record) → EachRecord ListsAwaited rs → (i task : ℕ) (items : List Dep)
+pub list_follows : (rs : List Record) → EachRecord ListsAwaited rs → (i task : ℕ) (items : List Dep)
     → at dependences rs i ≡ Some (task, items) → (a : ℕ) × AreFollowed rs a i
 list_follows rs lists_each i task items says =
     let below = at_within dependences rs i (task, items) says in

@@ -19,3 +19,20 @@ pub mod AwaitLemmas
 mod CreatorLemmas
 pub mod ClearLaw
 pub mod SettledLemmas
+mod ReplayLemmas
+mod LiveLemmas
+mod CallLemmas
+mod TakenLemmas
+pub mod ReplayLaw
+mod GroupLemmas
+mod GroupSteps
+mod GroupEnds
+mod GroupWalks
+mod UseLemmas
+mod UseSteps
+mod UseEnds
+mod FamilyLemmas
+mod PushLemmas
+mod ListingLemmas
+mod ListLaw
+mod MergeLemmas

@@ -1,6 +1,6 @@
 //! When the order of a file is an order of its records, and what the records up to a place tell of it. These are
 //! laws about the definitions alone, proved for all records. The functions do nothing.
-ghost use Rattle.std.specs.Prelude.{◌≡◌, ◌<◌, ◌≤◌, ◌+◌, ◌↔◌, ◌∷◌, ◌++◌, ℕ, true, List, [], length};
+ghost use Rattle.std.specs.Prelude.{Bool, ◌≡◌, ◌<◌, ◌≤◌, ◌+◌, ◌↔◌, ◌∷◌, ◌++◌, ℕ, true, List, [], length};
 ghost use Rattle.ompt_events.specs.declared.records.Record.{Record};
 ghost use Rattle.ompt_events.specs.declared.names.SyncKind.{SyncKind};
 ghost use Rattle.ompt_events.specs.declared.cause.Cause.{Cause};
@@ -15,6 +15,10 @@ ghost use Rattle.ompt_events.specs.Completion.{IsCompleteAt};
 ghost use Rattle.ompt_events.specs.Violations.{IsRequired};
 ghost use Rattle.ompt_events.specs.Causes.{HasCause, IsFreeOf};
 ghost use Rattle.ompt_events.specs.Linearization.{IsLinearization, IsGreedy};
+ghost use Rattle.ompt_events.specs.declared.cause.Cause.TheVariants.{NotCurrent, TurnGap, RegionOrder};
+ghost use Rattle.ompt_events.specs.Causes.{ShowsNowhere};
+ghost use Rattle.scripts.specs.Progress.{Values};
+ghost use Rattle.online.specs.Replays.{IsReplayed};
 ghost use Rattle.online.specs.Online.{IsInOrder, IsWatchable, is_told_at_once, stays_told};
 ghost use Rattle.online.specs.Online.{EndsLast, AreBegun, HasTeamBegun, AreListed, HasLists, IsDependentAt};
 ghost use Rattle.online.specs.Online.{EachRecord, ComesAfter, ListsAwaited, NoneAwaited, PassesAfter};
@@ -171,4 +175,21 @@ pub fn each_record_is_tested_once()
         → EachRecord PassesAfter (rs ++ r ∷ []) }
     ensures settled { (rs : List Record) (r : Record) → EachRecord IsSettledAfter rs → IsSettledAfter rs r
         → EachRecord IsSettledAfter (rs ++ r ∷ []) }
+{}
+
+/// Records that recorders would make, if they were given their calls (`IsReplayed`), show none of the causes that
+/// speak of how tasks run: each record of a task is made by the thread that runs the task (`current`), turns are
+/// those of the tasks (`gapless`), each task moves as its states allow (`ordered`), regions end as they began
+/// (`closed`), and a record that finishes a task claims its place in the tree and its children (`claimed`).
+pub fn replayed_records_show_no_cause_of_tasks()
+    ensures current { (nests : Bool) (rs : List Record) (values : Values) → IsReplayed nests rs values
+        → ShowsNowhere rs NotCurrent }
+    ensures gapless { (nests : Bool) (rs : List Record) (values : Values) → IsReplayed nests rs values
+        → ShowsNowhere rs TurnGap }
+    ensures ordered { (nests : Bool) (rs : List Record) (values : Values) → IsReplayed nests rs values
+        → ShowsNowhere rs StatusOrder }
+    ensures closed { (nests : Bool) (rs : List Record) (values : Values) → IsReplayed nests rs values
+        → ShowsNowhere rs RegionOrder }
+    ensures claimed { (nests : Bool) (rs : List Record) (values : Values) → IsReplayed nests rs values
+        → ShowsNowhere rs ShareWrong }
 {}

@@ -1,0 +1,138 @@
+//! Records taken one after another, as if recorders were given their calls.
+ghost use Rattle.std.specs.Prelude.{ℕ, List, Bool, true, false, Some, None, ◌≡◌, ◌<◌, ◌^◌, ◌++◌, ◌∷◌, [], IsTrue, IfOk, IfSome, OnOk, length, nat_eq};
+ghost use Rattle.ompt_events.specs.declared.records.Record.{Record};
+ghost use Rattle.ompt_events.specs.Records.{made};
+ghost use Rattle.ompt_events.specs.Limits.{max_records};
+ghost use Rattle.callbacks.specs.Standing.{allows};
+ghost use Rattle.callbacks.specs.Logs.{IsLeft};
+ghost use Rattle.online.specs.Replays.{IsReplayOf, IsNoted, IsNextOf, IsNextThere, IsCalled, IsAdvanced};
+
+use crate::calls::{Place, take};
+use crate::tasks::Tasks;
+use crate::thread::Thread;
+use ompt_events::{Body, MAX_RECORDS, MAX_TASKS, Record};
+use std::alloc::{AllocError, Global};
+use std::collections::BTreeSet;
+
+/// Thread numbers are below this.
+const THREADS: usize = 256;
+
+/// What the records so far leave: of each thread, of each task that is live, and which ids tasks have had.
+#[derive(Drop)]
+pub struct Replay {
+    /// Whether regions may lie inside others.
+    nests: bool,
+    threads: Vec<Thread>,
+    tasks: Tasks,
+    used: BTreeSet<u64>,
+    /// How many records there are, and how many tasks they make.
+    count: usize,
+    made: usize,
+}
+
+impl Replay {
+    /// Returns what no records leave, in a trace where regions may lie inside others or not. Fails only when out
+    /// of memory.
+    pub fn new(alloc: Global, nests: bool) -> Result<Replay, AllocError>
+        ensures { IfOk result (IsReplayOf []) }
+    {
+        let mut threads = Vec::with_capacity(alloc, THREADS)?;
+        for _thread in 0..THREADS {
+            threads.push(Thread::new(alloc, nests))?;
+        }
+        Ok(Replay {
+            nests,
+            threads,
+            tasks: Tasks::new(alloc),
+            used: BTreeSet::new(alloc),
+            count: 0,
+            made: 0,
+        })
+    }
+
+    /// Takes one more record, and returns true, only if recorders that were given the calls of the records so far
+    /// and then this one make these records, but for the ledger lengths.
+    pub fn take(&mut self, record: &Record) -> Result<bool, AllocError>
+        ensures { IfOk result (λ taken. IsTrue taken → (rs : List Record) → IsReplayOf rs self.old
+            → IsReplayOf (rs ++ «record».now ∷ []) self.new) }
+    {
+        if record.nests != self.nests || self.count >= MAX_RECORDS || !self.fits(record) {
+            return Ok(false);
+        }
+        if !self.take_call(record)? {
+            return Ok(false);
+        }
+        if !self.note_made(&record.body)? {
+            return Ok(false);
+        }
+        self.advance(record)
+    }
+
+    /// Returns whether the record is the next one of its thread, by its number there and by what the thread's
+    /// records so far allow.
+    fn fits(&self, record: &Record) -> bool
+        ensures { IsTrue result → IsNextThere self.now «record».now }
+    {
+        match self.threads.get(usize::from(record.thread)) {
+            Some(thread) => is_next(thread, record),
+            None => false,
+        }
+    }
+
+    /// Does to the tasks what the record's call does. Returns true only if recorders that are given the call make
+    /// the record.
+    fn take_call(&mut self, record: &Record) -> Result<bool, AllocError>
+        ensures { IfOk result (λ taken. IsTrue taken → IsCalled self.old self.new «record».now) }
+    {
+        let alloc = *self.threads.allocator();
+        let Some(thread) = self.threads.get(usize::from(record.thread)) else {
+            return Ok(false);
+        };
+        let place = Place {
+            number: record.thread,
+            state: &thread.state,
+        };
+        take(alloc, &mut self.tasks, &place, &record.body)
+    }
+
+    /// Goes on with the thread behind its record, and counts the record. Returns false where there is no such
+    /// thread.
+    fn advance(&mut self, record: &Record) -> Result<bool, AllocError>
+        ensures { IfOk result (λ done. IsTrue done → IsAdvanced self.old self.new «record».now) }
+    {
+        let Some(thread) = self.threads.get_mut(usize::from(record.thread)) else {
+            return Ok(false);
+        };
+        if thread.count >= MAX_RECORDS as u64 || self.count >= MAX_RECORDS {
+            return Ok(false);
+        }
+        thread.advance(&record.body)?;
+        self.count += 1;
+        Ok(true)
+    }
+
+    /// Notes the id of the task that the record makes, if it makes one. Returns false where a task had this id, or
+    /// where there are as many tasks as there may be.
+    fn note_made(&mut self, body: &Body) -> Result<bool, AllocError>
+        ensures { IfOk result (λ noted. IsTrue noted → IsNoted self.old self.new (made body.now)) }
+    {
+        let Some(task) = body.made() else {
+            return Ok(true);
+        };
+        if self.used.contains(&task) || self.made >= MAX_TASKS {
+            return Ok(false);
+        }
+        self.used.insert(task)?;
+        self.made += 1;
+        Ok(true)
+    }
+}
+
+/// Returns whether the record is the next one of the thread.
+fn is_next(thread: &Thread, record: &Record) -> bool
+    ensures { IsTrue result → IsNextOf thread.now «record».now }
+{
+    u64::from(record.seq) == thread.count
+        && record.seq < MAX_RECORDS as u32
+        && thread.state.allows(&record.body)
+}
