@@ -9,6 +9,7 @@
 #include <stdio.h>
 #include <stdlib.h>
 #include <string.h>
+#include <sys/stat.h>
 #include <sys/syscall.h>
 #include <unistd.h>
 
@@ -165,6 +166,97 @@ static bool make_part(void) {
     return false;
 }
 
+/* A live file is written under the name that it keeps: into a new file, or a pipe or device that is there. Beside it is,
+   at the end, a file with this behind the name. */
+
+#define ENDING ".end"
+/* From this number on a program hardly has files of its own. */
+enum { FIRST_DESCRIPTOR = 500 };
+/* Where it is written, or -1; and what it was at the begin. */
+static int live = -1;
+static struct stat live_found;
+
+static bool has_prefix(const char *name, const char *prefix) {
+    return strncmp(name, prefix, strlen(prefix)) == 0;
+}
+
+/* Opens the pipe or device of this name, or a descriptor of this process. Returns -1 with `errno` 0 if it is another
+   file. A pipe is opened when somebody reads it. */
+static int open_pipe(const char *name) {
+    struct stat found;
+    bool is_descriptor = has_prefix(name, "/dev/fd/") || has_prefix(name, "/proc/self/fd/");
+    errno = 0;
+    if (stat(name, &found) != 0 || (S_ISREG(found.st_mode) && !is_descriptor)) {
+        errno = 0;
+        return -1;
+    }
+    int opened;
+    do opened = open(name, O_WRONLY | O_APPEND | O_CLOEXEC);
+    while (opened < 0 && errno == EINTR);
+    return opened;
+}
+
+/* Makes a file of this name; where there is one already, with the number of the process behind it, or a count. */
+static int open_new(void) {
+    struct text text = {whole_name, strlen(whole_name), sizeof whole_name};
+    int made = open(whole_name, O_WRONLY | O_CREAT | O_EXCL | O_CLOEXEC, 0666);
+    if (made < 0 && errno == EEXIST && !names_process) {
+        put_text(&text, ".");
+        put_digits(&text, (uint64_t)getpid());
+        made = open(whole_name, O_WRONLY | O_CREAT | O_EXCL | O_CLOEXEC, 0666);
+    }
+    size_t length = text.length;
+    for (uint64_t count = 2; made < 0 && errno == EEXIST && count < MOST_NAMES; count++) {
+        text.length = length;
+        put_text(&text, ".");
+        put_digits(&text, count);
+        made = open(whole_name, O_WRONLY | O_CREAT | O_EXCL | O_CLOEXEC, 0666);
+    }
+    return made;
+}
+
+/* The file that says how the process ended. */
+static const char *ending_name(void) {
+    static char name[LONGEST_NAME];
+    struct text text = {name, 0, sizeof name};
+    put_text(&text, whole_name);
+    put_text(&text, ENDING);
+    return name;
+}
+
+static bool make_live(void) {
+    int opened = open_pipe(whole_name);
+    if (opened < 0 && errno == 0) opened = open_new();
+    if (opened < 0) return refuse(whole_name, strerror(errno));
+    live = fcntl(opened, F_DUPFD_CLOEXEC, FIRST_DESCRIPTOR);
+    if (live < 0) live = opened; /* so many are not allowed */
+    else close(opened);
+    fstat(live, &live_found);
+    unlink(ending_name());
+    strcpy(part_name, whole_name);
+    tell_run("live", part_name, program());
+    return true;
+}
+
+int live_file(void) {
+    return live;
+}
+
+bool is_live_file(void) {
+    struct stat found;
+    return fstat(live, &found) == 0 && found.st_dev == live_found.st_dev && found.st_ino == live_found.st_ino;
+}
+
+void cut_live_file(uint64_t length) {
+    bool is_cut = is_live_file() && S_ISREG(live_found.st_mode) && ftruncate(live, live_found.st_size + (off_t)length) == 0;
+    (void)is_cut;
+}
+
+void fail_live_file(const char *why) {
+    refuse(part_name, why);
+    part_name[0] = 0;
+}
+
 /* Takes a text from the environment; says where it is too long, and returns false. */
 static bool take_setting(char *to, const char *name) {
     const char *value = getenv(name);
@@ -202,10 +294,20 @@ static bool take_version(void) {
     return refuse("TASKAUDIT_VERSION", "no version of a trace file; 1, 2 and 3 are");
 }
 
+/* Whether the environment asks for this. */
+static bool is_set(const char *name) {
+    const char *value = getenv(name);
+    return value && *value && strcmp(value, "0") != 0;
+}
+
 /* Takes from the environment what else the recorder is to do. */
 static bool take_wishes(void) {
-    const char *times = getenv("TASKAUDIT_TIME"), *shaking = getenv("TASKAUDIT_SHAKE");
-    settings.has_times = times && *times && strcmp(times, "0") != 0;
+    const char *shaking = getenv("TASKAUDIT_SHAKE");
+    settings.has_times = is_set("TASKAUDIT_TIME");
+    settings.is_live = is_set("TASKAUDIT_LIVE");
+    if (settings.is_live && settings.version < NESTING_VERSION)
+        return refuse("TASKAUDIT_LIVE", "a file that is written while the program runs has version 3, not the one that"
+                                        " TASKAUDIT_VERSION names");
     if (!shaking || !*shaking || take_shaking(shaking)) return true;
     return refuse("TASKAUDIT_SHAKE", "must be a seed, or a seed and the number of a run, as 7 or 7:3");
 }
@@ -214,17 +316,19 @@ bool begin_file(void) {
     if (!take_setting(settings.run, "TASKAUDIT_RUN")) return false;
     if (!take_version() || !take_file() || !take_wishes()) return false;
     find_modules();
-    return name_file() && make_part();
+    return name_file() && (settings.is_live ? make_live() : make_part());
 }
 
 bool begin_file_of_fork(void) {
     if (!name_file()) return false;
     if (!names_process) add_process();
-    return make_part();
+    return settings.is_live ? make_live() : make_part();
 }
 
 void forget_file(void) {
     part_name[0] = 0;
+    if (live >= 0) close(live);
+    live = -1;
 }
 
 /* The end of the file */
@@ -265,11 +369,30 @@ static const char *reason(int number) {
 
 void finish_file(const char *ending) {
     if (!part_name[0]) return;
+    if (settings.is_live) {
+        finish_writing(ending);
+        return;
+    }
     int file = open(part_name, O_WRONLY | O_CREAT | O_TRUNC | O_CLOEXEC, 0666);
     const char *why = file < 0 ? reason(errno) : write_records(file, ending);
     if (file >= 0 && close(file) != 0 && !why) why = reason(errno);
     if (!why && !move_to_name()) why = reason(errno);
     if (why) refuse(part_name, why);
+    else tell_run("end", part_name, whole_name);
+    part_name[0] = 0;
+}
+
+/* A pipe that is named by a descriptor has no file beside it. */
+void close_live_file(const char *ending, const char *fault) {
+    if (is_live_file() && close(live) != 0 && !fault) fault = reason(errno);
+    live = -1;
+    int file = open(ending_name(), O_WRONLY | O_CREAT | O_TRUNC | O_CLOEXEC, 0666);
+    if (file >= 0) {
+        const char *why = write_ending(file, ending);
+        if (close(file) != 0 && !why) why = reason(errno);
+        if (!fault) fault = why;
+    }
+    if (fault) refuse(part_name, fault);
     else tell_run("end", part_name, whole_name);
     part_name[0] = 0;
 }

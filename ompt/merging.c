@@ -8,6 +8,7 @@
 #include "recorder.h"
 
 #include <omp-tools.h>
+#include <string.h>
 #include <sys/mman.h>
 
 /* The records */
@@ -68,10 +69,21 @@ static bool begins_root(const struct record *record) {
     return record->callback == IMPLICIT_TASK && record->endpoint == ompt_scope_begin;
 }
 
+static bool is_begun(uint32_t region) {
+    if (settings.is_live) return is_begun_live(region);
+    return !begun_in || begun_in[region] >= pass;
+}
+
+static void note_begun(uint32_t region) {
+    if (begun_in) begun_in[region] = pass;
+    struct live_team *team = settings.is_live ? live_team(region) : NULL;
+    if (team) team->is_begun = true;
+}
+
 /* What the begin of a root lacks. What the runtime says of the region of an initial task may be wrong. */
 static struct need lack_of_root(const struct record *record) {
-    bool is_member = begun_in && !record->task->is_initial && record->region && record->region <= last_region;
-    if (!is_member || begun_in[record->region] >= pass) return (struct need){.kind = NOTHING};
+    bool is_member = !record->task->is_initial && record->region && record->region <= last_region;
+    if (!is_member || is_begun(record->region)) return (struct need){.kind = NOTHING};
     return (struct need){.kind = REGION, .number = record->region};
 }
 
@@ -82,7 +94,7 @@ static struct need lack_of_next(const struct record *record) {
     struct task *next = record->other;
     uint32_t turn = record->turns.next;
     if (!is_made(next)) return (struct need){.kind = TURN, .task = next};
-    if (turn <= next->ended || next->root == next || next == record->task) return (struct need){.kind = NOTHING};
+    if (turn <= *ended_of(next) || next->root == next || next == record->task) return (struct need){.kind = NOTHING};
     return (struct need){.kind = TURN, .number = turn, .task = next};
 }
 
@@ -138,24 +150,24 @@ static void wake(struct need need) {
 static void make(struct task *task) {
     if (is_made(task)) return;
     task->made_in = pass;
-    task->ended = 0;
+    *ended_of(task) = 0;
 }
 
 /* Notes that this is out from here on. */
 static void meet(struct need need) {
     if (need.kind == LENGTH) entries = need.number;
-    else if (need.kind == REGION) begun_in[need.number] = pass;
-    else if (need.number) need.task->ended = need.number;
+    else if (need.kind == REGION) note_begun(need.number);
+    else if (need.number) *ended_of(need.task) = need.number;
     else make(need.task);
     wake(need);
 }
 
 /* Notes what is out when the record is. */
 static void meet_by(const struct record *record) {
-    bool is_begun = record->callback == PARALLEL_BEGIN && begun_in && record->region <= last_region;
+    bool begins_region = record->callback == PARALLEL_BEGIN && record->region <= last_region;
     if (record->callback == TASK_CREATE) meet((struct need){.kind = TURN, .task = record->other});
     else if (begins_root(record)) meet((struct need){.kind = TURN, .task = record->task});
-    else if (is_begun) meet((struct need){.kind = REGION, .number = record->region});
+    else if (begins_region) meet((struct need){.kind = REGION, .number = record->region});
     else if (record->callback == TASK_SCHEDULE && record->other)
         meet((struct need){.kind = TURN, .number = record->turns.prior + 1, .task = record->task});
     if (makes_entry(record) && record->seen >= entries) meet((struct need){.kind = LENGTH, .number = record->seen + 1});
@@ -217,4 +229,78 @@ const struct record *next_in_time(int *thread) {
         } else pass_over();
     }
     return NULL;
+}
+
+/* The same while the program runs. A record that makes an entry goes out only when all that happened before it is seen.
+   That is so if it was seen already the time before the threads were looked at last: whatever happened before it was
+   recorded by then. */
+
+/* How many records each thread had the time before. */
+static uint32_t settled[MAX_THREADS];
+/* Threads whose head is their last record, and may be followed by the dependences that it has to say. */
+static bool awaits_list[MAX_THREADS];
+
+void begin_parts(void) {
+    pass = 1;
+    entries = 0;
+    ready_count = finishing_count = waiting_count = 0;
+    thread_total = 0;
+    memset(lists, 0, sizeof lists);
+    memset(needs, 0, sizeof needs);
+    memset(cursors, 0, sizeof cursors);
+    memset(settled, 0, sizeof settled);
+    memset(awaits_list, 0, sizeof awaits_list);
+}
+
+/* Looks how many records the thread has by now; returns whether it has a head that it had not before. */
+static bool look_at_thread(int number, struct thread *thread) {
+    struct cursor *cursor = &cursors[number];
+    uint32_t count = atomic_load_explicit(&thread->count, memory_order_acquire);
+    settled[number] = cursor->count;
+    if (count == cursor->count) return false;
+    bool had_none = cursor->at == cursor->count || awaits_list[number];
+    if (!cursor->block) cursor->block = thread->first;
+    cursor->count = count;
+    awaits_list[number] = false;
+    if (had_none) ready[ready_count++] = (uint8_t)number;
+    return had_none;
+}
+
+/* Comes where no thread is ready. */
+bool look_again(void) {
+    int made = atomic_load(&thread_count);
+    bool is_more = finishing_count > 0;
+    thread_total = made < MAX_THREADS ? made : MAX_THREADS;
+    for (int i = 0; i < thread_total; i++) {
+        struct thread *thread = __atomic_load_n(&threads[i], __ATOMIC_ACQUIRE);
+        if (thread && look_at_thread(i, thread)) is_more = true;
+    }
+    last_region = atomic_load(&region_count);
+    return is_more;
+}
+
+/* Whether it is not known yet what the head of the thread says. */
+static bool is_unsaid(int thread) {
+    const struct record *head = cursors[thread].at + 1 == cursors[thread].count ? head_of(thread) : NULL;
+    return awaits_list[thread] = head && head->callback == TASK_CREATE && head->endpoint;
+}
+
+static bool is_settled(int thread) {
+    return cursors[thread].at < settled[thread];
+}
+
+const struct record *next_so_far(int *thread) {
+    while (ready_count) {
+        *thread = ready[--ready_count];
+        if (!is_unsaid(*thread) && goes_out(*thread)) return take_out(*thread);
+    }
+    if (!finishing_count || !is_settled(finishing[finishing_count - 1])) return NULL;
+    *thread = finishing[--finishing_count];
+    return take_out(*thread);
+}
+
+void end_parts(void) {
+    for (int i = 0; i < thread_total; i++)
+        if (awaits_list[i]) ready[ready_count++] = (uint8_t)i;
+    memset(awaits_list, 0, sizeof awaits_list);
 }

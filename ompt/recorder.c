@@ -41,8 +41,7 @@ void note(enum note what, const void *code) {
     if (atomic_fetch_add_explicit(&notes[what], 1, memory_order_relaxed) == 0) atomic_store(&first_code[what], code);
 }
 
-/* Ends recording, and not the program. */
-static void stop(enum note why, const void *code) {
+void stop(enum note why, const void *code) {
     if (!atomic_exchange(&is_over, true)) note(why, code);
 }
 
@@ -80,7 +79,7 @@ void release_thread(struct thread *thread) {
 
 /* Makes this thread, at its first callback of any kind: a thread that is not the runtime's may fulfil an event. */
 static __attribute__((noinline)) struct thread *new_thread(void) {
-    if (!atomic_exchange(&has_file, true) && !begin_file_of_fork()) {
+    if ((!atomic_exchange(&has_file, true) && !begin_file_of_fork()) || (settings.is_live && !begin_writing())) {
         atomic_store(&is_over, true);
         return NULL;
     }
@@ -98,7 +97,8 @@ static __attribute__((noinline)) struct thread *new_thread(void) {
     set_signal_stack();
     made->number = number;
     made->id = (int)syscall(SYS_gettid);
-    return threads[number] = own = made;
+    __atomic_store_n(&threads[number], made, __ATOMIC_RELEASE);
+    return own = made;
 }
 
 struct thread *act_as(struct thread *thread) {
@@ -116,6 +116,14 @@ void end_recording(void) {
     atomic_store(&is_over, true);
 }
 
+bool is_recording(void) {
+    return !atomic_load_explicit(&is_over, memory_order_relaxed);
+}
+
+uint32_t entry_count(void) {
+    return atomic_load(&ledger);
+}
+
 /* The first callback makes a file, so that a process that uses no OpenMP has none. */
 void forget_records(void) {
     own = NULL;
@@ -125,13 +133,14 @@ void forget_records(void) {
     memset(notes, 0, sizeof notes);
     thread_count = 0;
     region_count = ledger = block_count = task_block_count = 0;
+    if (settings.is_live) forget_writing();
     is_forked = true;
     has_file = false;
     atomic_store(&is_over, false);
 }
 
-/* Returns zeroed memory that is never given back, or NULL. It is taken in large pieces, which cost few page faults. */
-static void *take(struct thread *thread, size_t bytes) {
+/* It is taken in large pieces, which cost few page faults. */
+void *take(struct thread *thread, size_t bytes) {
     bytes = (bytes + 15) / 16 * 16;
     if (bytes > thread->memory_left) {
         size_t size = thread->memory ? PIECE : FIRST_PIECE;
@@ -149,6 +158,7 @@ static void *take(struct thread *thread, size_t bytes) {
 
 /* Adds room for more records; returns false where a limit is reached. */
 static __attribute__((noinline)) bool add_block(struct thread *thread) {
+    if (settings.is_live) return add_live_block(thread);
     bool is_full = atomic_fetch_add(&block_count, 1) >= MAX_RECORDS / RECORDS_OF_BLOCK;
     size_t times = settings.has_times ? RECORDS_OF_BLOCK * sizeof *thread->last->times : 0;
     struct block *made = is_full ? NULL : take(thread, sizeof *made + times);
@@ -222,6 +232,7 @@ static struct task *task_of(const ompt_data_t *data) {
 /* Returns a new task, or NULL where a limit is reached. */
 static struct task *new_task(struct thread *thread) {
     if (thread->tasks_left == 0) {
+        if (settings.is_live) return new_live_task(thread);
         bool is_full = atomic_fetch_add(&task_block_count, 1) >= MAX_TASKS / TASKS_OF_BLOCK;
         thread->tasks = is_full ? NULL : take(thread, TASKS_OF_BLOCK * sizeof *thread->tasks);
         if (!thread->tasks) {
@@ -345,7 +356,7 @@ void on_implicit_task(ompt_scope_endpoint_t endpoint, ompt_data_t *region, ompt_
    run there; then it is the one that does. */
 void on_task_create(ompt_data_t *encountering, const ompt_frame_t *frame, ompt_data_t *data, int flags,
                            int has_dependences, const void *code) {
-    (void)frame, (void)has_dependences;
+    (void)frame;
     struct thread *thread = this_thread();
     if (!thread) return;
     struct task *creator = running_task(thread, encountering);
@@ -365,8 +376,8 @@ void on_task_create(ompt_data_t *encountering, const ompt_frame_t *frame, ompt_d
     made->root = creator->root;
     made->depth = creator->depth + 1;
     made->number = creator->children++;
-    keep_known(thread, (struct record){.callback = TASK_CREATE, .task = creator, .other = made, .flags = flags,
-                                       .code = code});
+    keep_known(thread, (struct record){.callback = TASK_CREATE, .endpoint = has_dependences != 0, .task = creator,
+                                       .other = made, .flags = flags, .code = code});
     shake(thread, BEHIND_CREATION);
 }
 
@@ -393,15 +404,18 @@ void on_dependences(ompt_data_t *data, const ompt_dependence_t *items, int count
     struct record *creation = made ? &thread->last->records[(made - 1) % RECORDS_OF_BLOCK] : NULL;
     bool is_behind = creation && creation->callback == TASK_CREATE && creation->other == task;
     size_t most = count < MAX_DEPENDENCES ? (size_t)count : MAX_DEPENDENCES;
-    struct dependence *list = take(thread, most * sizeof *list);
+    struct dependence *list = NULL;
+    if (!settings.is_live) list = take(thread, most * sizeof *list);
+    else if (room(thread)) list = take_list(thread, most); /* which goes when the block of its record does */
     if (!list) {
         stop(NO_MEMORY, NULL);
         return;
     }
     uint32_t kept = copy_list(list, items, count);
     if (kept && !is_behind) note(LATE_LIST, NULL);
-    struct record record = {.callback = DEPENDENCES, .task = task, .list = list, .size = kept};
-    if (kept && is_behind && keep_known(thread, record)) creation->kind = task->has_list = true;
+    if (!kept || !is_behind || !room(thread)) return;
+    creation->kind = task->has_list = true; /* before the record is there: what is behind a creation has it written */
+    keep_known(thread, (struct record){.callback = DEPENDENCES, .task = task, .list = list, .size = kept});
 }
 
 /* A status that names no next task. */

@@ -1,7 +1,7 @@
 /* What the parts of the recorder share: the records of a process in memory. recorder.c fills them in the callbacks of
    OMPT, writer.c makes a trace file of them in the order that merging.c finds, files.c names the file, and ending.c
-   sees to it that it is written however the process ends. docs/RECORDING.md of taskaudit has the rules that all
-   follow. */
+   sees to it that it is written however the process ends. live.c has it written while the program runs, where that is
+   asked for. docs/RECORDING.md of taskaudit has the rules that all follow. */
 #ifndef TASKAUDIT_RECORDER_H
 #define TASKAUDIT_RECORDER_H
 
@@ -43,11 +43,22 @@ struct task {
         uint32_t turn;         /* how often it has resumed since it started, on any thread */
         uint32_t ended;        /* when the file is written: how many of its turns have ended in what is out */
     };
-    bool is_initial : 1, is_discarded : 1;
+    bool is_initial : 1;
     bool is_of_league : 1; /* an initial task of a teams construct, in a file that has these */
     bool has_list : 1;     /* its dependences are recorded */
-    bool has_started : 1;  /* for the writer: its start was counted */
+    bool is_discarded;
+    bool has_started;      /* for the writer: its start was counted */
     uint8_t made_in;       /* when the file is written: in how many passes the record that makes it is out */
+};
+
+/* A task, where the file is written while the program runs. What follows the task is the writer's alone, since the task
+   needs both values of each union itself then. */
+struct live_task {
+    struct task task;
+    uint64_t id : 56;
+    uint64_t maker : 8;    /* the thread that created it */
+    uint32_t ended;
+    uint32_t holders;      /* its children whose memory is in use, and 2 until it is finished */
 };
 
 struct dependence {
@@ -63,7 +74,7 @@ struct turns {
 struct record {
     uint8_t callback;      /* enum callback */
     uint8_t kind;          /* kind of a thread or a region, status of a task_schedule, deps of a task_create */
-    uint8_t endpoint;
+    uint8_t endpoint;      /* of a task_create: whether a list of dependences may follow */
     uint32_t seen, flags;
     uint32_t size, index;  /* actual and index; requested; children of a finished task; length of a list */
     uint32_t region;       /* the parallel region, from 1; 0 where the runtime names none */
@@ -103,6 +114,11 @@ struct thread {
     bool is_held;              /* it tells something behind a lock, or another one tells it: it is delayed no more */
     struct thread *next_ended;
     _Atomic int standing;      /* for the recorder of libgomp */
+    /* Of a live file: tasks that are finished, as the writer gives them back, and as the thread has taken them; and room
+       for new ones. */
+    struct live_task *_Atomic returned;
+    struct live_task *spare, *new_tasks;
+    uint32_t new_tasks_left;
 };
 
 /* What was changed or left out, and what the audit does not cover: each with its name in the header of the file. */
@@ -132,11 +148,18 @@ void release_thread(struct thread *thread);
 
 /* Counts something that was changed or left out. */
 void note(enum note what, const void *code);
+/* Ends recording for a reason, and not the program. */
+void stop(enum note why, const void *code);
+/* How many tasks have finished: the length of the ledger. */
+uint32_t entry_count(void);
+/* Returns zeroed memory that is never given back, or NULL. */
+void *take(struct thread *thread, size_t bytes);
 
 /* Forgets all records, in a forked process: they are its parent's. */
 void forget_records(void);
 /* Ends recording, and not the program: no callback that begins later adds a record. */
 void end_recording(void);
+bool is_recording(void);
 
 /* Begins to see to the end of this process. */
 void watch_ending(void);
@@ -147,8 +170,19 @@ void end_process(const char *ending);
 /* Writes the records to the file; returns why it could not, or NULL. Like what follows, it calls nothing that a signal
    handler may not. */
 const char *write_records(int file, const char *ending);
-/* Finds out which code is where. Not for signal handlers. */
+/* Finds out which code is where. Not for signal handlers, and in a live file only until it begins. */
 void find_modules(void);
+
+/* The same in parts, for a live file: its header, a record that is the next in time, and the last lines. Each returns why
+   it could not be written, or NULL. */
+const char *begin_records(int file);
+const char *write_record(const struct record *record, int thread);
+const char *flush_records(void);
+const char *end_records(void);
+/* Writes a line to another file that says how the process ended, and what was recorded. */
+const char *write_ending(int file, const char *ending);
+/* Forgets what was written, in a forked process. */
+void forget_written(void);
 
 /* The records that are written */
 
@@ -176,6 +210,58 @@ void begin_pass(void);
 /* The next record in this order, and the number of its thread; or NULL. */
 const struct record *next_in_time(int *thread);
 
+/* The same while the threads run: begins to go through their records, at first none. */
+void begin_parts(void);
+/* Looks how many records there are by now; returns whether there are more that may come next. */
+bool look_again(void);
+/* The next record of those that were seen, or NULL where it is not known yet. */
+const struct record *next_so_far(int *thread);
+/* No record is added any more: next_in_time has all that are left. */
+void end_parts(void);
+
+/* Parallel regions */
+
+/* The team of a region: its size, how many members began, and the index of the last that did. */
+struct team {
+    uint32_t size, begun, index;
+    bool is_in_league; /* an initial task of a teams construct began it */
+    uint64_t time;     /* when the last one began */
+};
+/* The same of a live file. */
+struct live_team {
+    struct team team;
+    bool is_begun, has_ended, is_done;
+    uint64_t members[MAX_THREADS / 64]; /* which have begun: a bit for each */
+};
+/* The team of a region of a live file; NULL where all of it is out, or there is no memory. */
+struct live_team *live_team(uint32_t region);
+/* Whether the begin of the region is out. */
+bool is_begun_live(uint32_t region);
+/* Notes that its members, and its end, may be out, and forgets it if they are. */
+void look_at_live_team(uint32_t region);
+/* Forgets all, in a forked process. */
+void forget_teams(void);
+
+/* A live file */
+
+/* Adds room for more records. Waits where the writer cannot follow. Returns false where recording is over. */
+bool add_live_block(struct thread *thread);
+/* Room for a list of the record that comes next, or NULL. */
+struct dependence *take_list(struct thread *thread, size_t count);
+/* A new task, or NULL. */
+struct task *new_live_task(struct thread *thread);
+/* Begins to write, at the first callback; returns false where no thread can be made for it. */
+bool begin_writing(void);
+/* Writes what is left, and closes the file. */
+void finish_writing(const char *ending);
+/* Forgets all, in a forked process. */
+void forget_writing(void);
+/* How often threads waited for room, and how long in nanoseconds; and the most memory that records had. */
+struct waits {
+    uint64_t count, time, memory;
+};
+struct waits waits_for_room(void);
+
 /* The length of text that files have no more of: names, and sentences on them. */
 enum { LONGEST_NAME = 4096 };
 
@@ -188,6 +274,7 @@ struct settings {
     char run[LONGEST_NAME];     /* the list of a run's files that taskaudit-run reads, or nothing */
     int version;
     bool has_times;             /* each record has a time */
+    bool is_live;               /* the file is written while the program runs */
     bool is_shaken;             /* in this way, by numbers that are drawn from the seed and the number of the run */
     enum way way;
     uint64_t seed, run_number;
@@ -197,6 +284,18 @@ extern struct settings settings;
 /* Whether the file has regions inside others as they are. */
 static inline bool is_nesting(void) {
     return settings.version >= NESTING_VERSION;
+}
+
+/* The number of a task in the file, and how many of its turns have ended in what is out. */
+static inline uint64_t id_of(const struct task *task) {
+    return settings.is_live ? ((const struct live_task *)task)->id : task->id;
+}
+static inline void set_id(struct task *task, uint64_t id) {
+    if (settings.is_live) ((struct live_task *)task)->id = id;
+    else task->id = id;
+}
+static inline uint32_t *ended_of(struct task *task) {
+    return settings.is_live ? &((struct live_task *)task)->ended : &task->ended;
 }
 
 /* Where the timing of a run may be changed. */
@@ -219,6 +318,15 @@ bool begin_file_of_fork(void);
 void forget_file(void);
 /* Writes the file that was made, under the name that it has to have. */
 void finish_file(const char *ending);
+/* Where a live file is written; and whether that still is this file, and not one of the program's. */
+int live_file(void);
+bool is_live_file(void);
+/* Cuts it behind so many bytes, if it is no pipe. */
+void cut_live_file(uint64_t length);
+/* Says that a live file cannot be written on; at the end closes it, and writes how the process ended to a file beside
+   it. */
+void fail_live_file(const char *why);
+void close_live_file(const char *ending, const char *fault);
 /* The name of the program that runs, without its folder. */
 const char *program_name(void);
 

@@ -46,16 +46,20 @@ static char text[1 << 20];
 static size_t length;
 static const char *fault;
 
+/* Whether it is a live file, and how much of that is written; it has whole lines. */
+static bool is_live_text;
+static uint64_t whole_length;
+
 static void flush(void) {
-    for (size_t at = 0; at < length;) {
+    if (length && is_live_text && !fault && !is_live_file()) fault = "the program closed it";
+    for (size_t at = 0; at < length && !fault;) {
         ssize_t written = write(file, text + at, length - at);
         if (written < 0 && errno == EINTR) continue;
-        if (written <= 0) {
-            fault = written < 0 && errno == ENOSPC ? "the disk is full" : "it could not be written";
-            break;
-        }
-        at += (size_t)written;
+        if (written <= 0) fault = written < 0 && errno == ENOSPC ? "the disk is full" : "it could not be written";
+        else at += (size_t)written;
     }
+    if (!fault) whole_length += length;
+    else if (is_live_text) cut_live_file(whole_length);
     length = 0;
 }
 
@@ -128,6 +132,9 @@ static int add_module(struct dl_phdr_info *info, size_t size, void *unused) {
 }
 
 void find_modules(void) {
+    static bool is_found;
+    if (settings.is_live && is_found) return; /* the writer may read them */
+    is_found = true;
     module_count = 0;
     dl_iterate_phdr(add_module, NULL);
 }
@@ -201,7 +208,7 @@ static void put_next(const struct record *record) {
         put("null");
         return;
     }
-    put_number(record->other->id);
+    put_number(id_of(record->other));
     if (settings.version > FIRST_VERSION) put_member(",\"next_turn\":", record->turns.next);
 }
 
@@ -251,7 +258,7 @@ static void put_implicit_task(const struct record *record, uint64_t time) {
 }
 
 static void put_task_create(const struct record *record, uint64_t time) {
-    put_member("{\"cb\":\"task_create\",\"child\":", record->other->id);
+    put_member("{\"cb\":\"task_create\",\"child\":", id_of(record->other));
     put_others(time, record->code);
     put(record->kind ? ",\"deps\":true" : ",\"deps\":false");
     put_flags(task_flags, record->flags);
@@ -262,9 +269,9 @@ static void put_task_schedule(const struct record *record, uint64_t time) {
     put_others(time, NULL);
     if (makes_entry(record)) put_claim(record);
     else put_next(record);
-    put_member(",\"prior\":", record->task->id);
+    put_member(",\"prior\":", id_of(record->task));
     if (record->other && settings.version > FIRST_VERSION) put_member(",\"prior_turn\":", record->turns.prior);
-    if (makes_entry(record)) put_member(",\"root\":", record->task->root->id);
+    if (makes_entry(record)) put_member(",\"root\":", id_of(record->task->root));
 }
 
 static void put_sync_region(const struct record *record, uint64_t time) {
@@ -284,7 +291,7 @@ static void put_cancel(const struct record *record, uint64_t time) {
     put_flags(cancel_flags, record->flags);
     if (!makes_entry(record)) return;
     put_claim(record);
-    put_member(",\"root\":", record->task->root->id);
+    put_member(",\"root\":", id_of(record->task->root));
 }
 
 static void put_thread_record(const struct record *record, uint64_t time) {
@@ -324,7 +331,7 @@ static void put_record(const struct record *record, uint64_t time, int thread, u
     put_member(",\"seen\":", record->seen);
     put_member(",\"seq\":", seq);
     if (record->callback == TASK_SCHEDULE) put_name(",\"status\":", statuses[record->kind]);
-    else if (record->callback > THREAD_END) put_member(",\"task\":", record->task->id);
+    else if (record->callback > THREAD_END) put_member(",\"task\":", id_of(record->task));
     put_member(",\"thread\":", (uint64_t)thread);
     put("}\n");
     if (length > sizeof text - LONGEST_LINE) flush();
@@ -347,38 +354,70 @@ static uint64_t last_id;
 static uint64_t regions_of_kind[sizeof region_kinds / sizeof *region_kinds];
 /* What is audited: ends of regions that wait for tasks, and tasks with dependences that start. */
 static uint64_t wait_count, dependent_count;
+/* How many ends and begins of barriers got another name. */
+static uint64_t renamed_count;
 /* How many lines each thread has in the file, the one of added members last; and how many regions did not end. */
 static uint32_t lines[MAX_THREADS + 1];
 static uint32_t open_regions;
 
-/* Of each parallel region the size of its team, how many members began, and the index of the last that did. */
-static struct team {
-    uint32_t size, begun, index;
-    bool is_in_league; /* an initial task of a teams construct began it */
-    uint64_t time;     /* when the last one began */
-} *teams;
+/* Of each parallel region the team; not of a live file. */
+static struct team *teams;
+
+/* The team of a region, or NULL where there is none, or no memory. */
+static struct team *team_of(uint32_t region) {
+    if (region == 0 || region > last_region) return NULL;
+    if (!settings.is_live) return teams ? &teams[region] : NULL;
+    struct live_team *found = live_team(region);
+    return found ? &found->team : NULL;
+}
 
 static void count(enum note what, const void *code) {
     if (atomic_fetch_add(&notes[what], 1) == 0) atomic_store(&first_code[what], code);
 }
 
+/* Notes which member of a team begins. */
+static void look_at_live_member(const struct record *record) {
+    struct live_team *team = live_team(record->region);
+    if (record->index < MAX_THREADS) team->members[record->index / 64] |= 1ull << record->index % 64;
+    look_at_live_team(record->region);
+}
+
 static void look_at_root(const struct record *record, uint64_t time) {
     if (record->endpoint != ompt_scope_begin) return;
-    record->task->id = ++last_id;
-    if (!teams || record->task->is_initial || record->region > last_region) return;
-    teams[record->region].size = record->size;
-    teams[record->region].index = record->index;
-    teams[record->region].time = time;
-    teams[record->region].begun++;
+    set_id(record->task, ++last_id);
+    struct team *team = record->task->is_initial ? NULL : team_of(record->region);
+    if (!team) return;
+    team->size = record->size;
+    team->index = record->index;
+    team->time = time;
+    team->begun++;
+    if (settings.is_live) look_at_live_member(record);
 }
 
 static void look_at_parallel(const struct record *record) {
+    struct team *team = team_of(record->region);
     open_regions++;
-    if (teams && record->region <= last_region) teams[record->region].is_in_league = record->task->is_of_league;
+    if (team) team->is_in_league = record->task->is_of_league;
+}
+
+static void look_at_end(const struct record *record) {
+    struct live_team *team = settings.is_live && team_of(record->region) ? live_team(record->region) : NULL;
+    open_regions--;
+    if (!team) return;
+    team->has_ended = true;
+    look_at_live_team(record->region);
+}
+
+/* What a live file renames is known only by what came before: whether another library goes by the name of gcc's, or there
+   was a `barrier`. */
+static void look_at_live_barrier(const struct record *record) {
+    renames_barriers = is_gcc || regions_of_kind[ompt_sync_region_barrier];
+    renamed_count += renames_barriers && record->kind == ompt_sync_region_barrier_implementation;
 }
 
 static void look_at_region(const struct record *record) {
     regions_of_kind[record->kind]++;
+    if (settings.is_live) look_at_live_barrier(record);
     bool waits = record->kind != ompt_sync_region_barrier_implementation && record->kind != ompt_sync_region_reduction &&
                  record->kind != BARRIER_TEAMS;
     wait_count += waits && record->endpoint != ompt_scope_begin;
@@ -401,11 +440,11 @@ static bool leaves_out(struct cursor *cursor, const struct record *begin) {
 /* Looks at the record just before the cursor, which moves on where a region is left out. Returns whether the record has a
    line. */
 static bool look_at(const struct record *record, struct cursor *cursor) {
-    if (record->callback == TASK_CREATE) record->other->id = ++last_id;
+    if (record->callback == TASK_CREATE) set_id(record->other, ++last_id);
     else if (record->callback == IMPLICIT_TASK) look_at_root(record, time_of_last(cursor));
     else if (record->callback == SYNC_REGION) look_at_region(record);
     else if (record->callback == TASK_SCHEDULE) look_at_schedule(record);
-    else if (record->callback == PARALLEL_END) open_regions--;
+    else if (record->callback == PARALLEL_END) look_at_end(record);
     else if (record->callback == PARALLEL_BEGIN) {
         if (may_leave_out(record) && leaves_out(cursor, record)) return false;
         look_at_parallel(record);
@@ -428,33 +467,39 @@ static void look_at_records(void) {
 static void look_at_barriers(void) {
     uint64_t found = regions_of_kind[ompt_sync_region_barrier_implementation];
     renames_barriers = found && (is_gcc || regions_of_kind[ompt_sync_region_barrier]);
-    if (!renames_barriers) return;
-    atomic_store(&notes[BARRIERS_RENAMED], found / 2);
-    wait_count += found / 2;
+    if (renames_barriers) renamed_count = found;
+}
+
+static void count_renamed(void) {
+    if (!renamed_count) return;
+    atomic_store(&notes[BARRIERS_RENAMED], renamed_count / 2);
+    wait_count += renamed_count / 2;
 }
 
 /* Members that never began: the program ended before their threads woke; or their region is the one that each initial
    task of a teams construct begins, of which the runtime tells the first member only. A thread of their own begins and
    ends them, where the file has room for one more. */
 
-static bool lacks_members(uint32_t region) {
-    return teams[region].begun < teams[region].size && teams[region].size <= MAX_THREADS && thread_total < MAX_THREADS;
+static bool lacks_members(const struct team *team) {
+    return team && team->begun < team->size && team->size <= MAX_THREADS && thread_total < MAX_THREADS;
 }
 
 static void look_at_teams(void) {
-    for (uint32_t region = 1; teams && region <= last_region; region++) {
-        if (!lacks_members(region)) continue;
-        enum note what = teams[region].is_in_league ? LEAGUE_MEMBERS : ADDED_MEMBERS;
-        atomic_fetch_add(&notes[what], teams[region].size - teams[region].begun);
+    for (uint32_t region = 1; region <= last_region; region++) {
+        const struct team *team = team_of(region);
+        if (!lacks_members(team)) continue;
+        enum note what = team->is_in_league ? LEAGUE_MEMBERS : ADDED_MEMBERS;
+        atomic_fetch_add(&notes[what], team->size - team->begun);
     }
     lines[thread_total] = 2 * (uint32_t)(notes[ADDED_MEMBERS] + notes[LEAGUE_MEMBERS]);
 }
 
 /* All records are searched only where several members began. */
 static void find_begun(uint32_t region, bool *is_begun) {
+    const struct team *team = team_of(region);
     memset(is_begun, 0, MAX_THREADS);
-    if (teams[region].begun == 1 && teams[region].index < MAX_THREADS) {
-        is_begun[teams[region].index] = true;
+    if (team->begun == 1 && team->index < MAX_THREADS) {
+        is_begun[team->index] = true;
         return;
     }
     for (int i = 0; i < thread_total; i++) {
@@ -466,22 +511,36 @@ static void find_begun(uint32_t region, bool *is_begun) {
     }
 }
 
+static void find_begun_live(uint32_t region, bool *is_begun) {
+    const struct live_team *team = live_team(region);
+    for (int index = 0; index < MAX_THREADS; index++) is_begun[index] = team->members[index / 64] >> index % 64 & 1;
+}
+
+/* Puts the begin and the end of a member, which are these two of the thread. */
+static void put_member_of(uint32_t region, uint32_t size, uint32_t index, uint64_t time, uint32_t seq) {
+    struct live_task member = {.id = 0};
+    struct record record = {.callback = IMPLICIT_TASK, .endpoint = ompt_scope_begin, .flags = ompt_task_implicit,
+                            .size = size, .index = index, .region = region, .task = &member.task};
+    set_id(&member.task, ++last_id);
+    put_record(&record, time, thread_total, seq);
+    record.endpoint = ompt_scope_end;
+    put_record(&record, time, thread_total, seq + 1);
+}
+
 static void put_missing_members(void) {
     static bool is_begun[MAX_THREADS];
     uint32_t seq = 0;
     uint64_t time = 0;
-    for (uint32_t region = 1; teams && region <= last_region; region++) {
-        if (!lacks_members(region)) continue;
-        find_begun(region, is_begun);
-        if (time < teams[region].time) time = teams[region].time;
-        for (uint32_t index = 0; index < teams[region].size; index++) {
+    for (uint32_t region = 1; region <= last_region; region++) {
+        const struct team *team = team_of(region);
+        if (!lacks_members(team)) continue;
+        if (settings.is_live) find_begun_live(region, is_begun);
+        else find_begun(region, is_begun);
+        if (time < team->time) time = team->time;
+        for (uint32_t index = 0; index < team->size; index++) {
             if (is_begun[index]) continue;
-            struct task member = {.id = ++last_id};
-            struct record record = {.callback = IMPLICIT_TASK, .endpoint = ompt_scope_begin, .flags = ompt_task_implicit,
-                                    .size = teams[region].size, .index = index, .region = region, .task = &member};
-            put_record(&record, time, thread_total, seq++);
-            record.endpoint = ompt_scope_end;
-            put_record(&record, time, thread_total, seq++);
+            put_member_of(region, team->size, index, time, seq);
+            seq += 2;
         }
     }
 }
@@ -538,13 +597,16 @@ static void put_shaking(void) {
     put("}");
 }
 
-/* The header, whose member `recorder` says how the run ended, what the file has of it, and what was changed. */
-static void put_header(const char *ending) {
+/* Puts which program is recorded. */
+static void put_program(void) {
     static char program[256];
     copy_plain(program, sizeof program, program_name());
-    put("{\"format\":\"task-credit-audit\",\"recorder\":{");
     put_name("\"program\":", program);
     put_member(",\"process\":", (uint64_t)getpid());
+}
+
+/* Puts how the run ended, what the file has of it, and what was changed. */
+static void put_all_told(const char *ending) {
     put_name(",\"ending\":", ending);
     if (settings.is_shaken) put_shaking();
     put_recording(strncmp(ending, "SIG", 3) == 0);
@@ -552,6 +614,15 @@ static void put_header(const char *ending) {
     put_member(",\"waits\":", wait_count);
     put_member(",\"dependent_starts\":", dependent_count);
     put_notes();
+}
+
+/* The header, whose member `recorder` says all this; in a live file what is known at the begin. */
+static void put_header(const char *ending) {
+    put("{\"format\":\"task-credit-audit\",\"recorder\":{");
+    put_program();
+    if (!settings.is_live) put_all_told(ending);
+    else if (settings.is_shaken) put_shaking();
+    if (settings.is_live) put(",\"live\":true");
     put_member("},\"version\":", (uint64_t)settings.version);
     put("}\n");
 }
@@ -563,10 +634,65 @@ const char *write_records(int to, const char *ending) {
     if (teams == MAP_FAILED) teams = NULL;
     look_at_records();
     look_at_barriers();
+    count_renamed();
     look_at_teams();
     put_header(ending);
     put_records();
     put_missing_members();
     flush();
     return fault;
+}
+
+/* A live file */
+
+const char *flush_records(void) {
+    flush();
+    return fault;
+}
+
+const char *begin_records(int to) {
+    file = to;
+    is_live_text = true;
+    put_header(NULL);
+    return flush_records();
+}
+
+const char *write_record(const struct record *record, int thread) {
+    struct cursor *cursor = &cursors[thread];
+    look_at(record, cursor);
+    put_record(record, time_of_last(cursor), thread, lines[thread]++);
+    return fault;
+}
+
+const char *end_records(void) {
+    count_renamed();
+    look_at_teams();
+    put_missing_members();
+    return flush_records();
+}
+
+const char *write_ending(int to, const char *ending) {
+    struct waits waits = waits_for_room();
+    file = to;
+    is_live_text = false;
+    fault = NULL;
+    put("{");
+    put_program();
+    put_all_told(ending);
+    put_member(",\"live\":{\"waits\":", waits.count);
+    put_member(",\"nanoseconds\":", waits.time);
+    put_member(",\"memory\":", waits.memory);
+    put("}}\n");
+    flush();
+    return fault;
+}
+
+void forget_written(void) {
+    length = whole_length = 0;
+    fault = NULL;
+    last_id = wait_count = dependent_count = renamed_count = 0;
+    open_regions = 0;
+    renames_barriers = false;
+    memset(lines, 0, sizeof lines);
+    memset(regions_of_kind, 0, sizeof regions_of_kind);
 }

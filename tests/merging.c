@@ -14,6 +14,7 @@ enum { RUNS = 500, MOST_STEPS = 6000, MOST_TASKS = 2 * MOST_STEPS + MAX_THREADS 
 struct thread *threads[MAX_THREADS];
 _Atomic int thread_count;
 _Atomic uint32_t region_count;
+struct settings settings;
 
 /* What the run has so far, and of each thread its records. */
 static struct task tasks[MOST_TASKS];
