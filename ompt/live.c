@@ -14,8 +14,12 @@
 #include <sys/mman.h>
 #include <time.h>
 
-/* How much memory blocks may have, while the writer can go on; and how many there may be in any case. */
-enum { MOST_MEMORY = 64 << 20, MOST_BLOCKS = 1 << 17 };
+/* How much memory blocks may have, while the writer can go on (tests choose less); and how many there may be in any
+   case. */
+#ifndef MOST_MEMORY
+#define MOST_MEMORY (64 << 20)
+#endif
+enum { MOST_BLOCKS = 1 << 17 };
 /* How many records a thread, and how many finished tasks a run may have: a file has numbers below 2^32. */
 static const uint32_t last_count = UINT32_MAX - (1u << 20);
 /* How long a thread sleeps until it looks again whether there is room, and the writer whether there are records: first,

@@ -47,7 +47,7 @@ static size_t length;
 static const char *fault;
 
 /* Whether it is a live file, and how much of that is written; it has whole lines. */
-static bool is_live_text;
+static bool is_live_text, is_unwritten;
 static uint64_t whole_length;
 
 static void flush(void) {
@@ -58,8 +58,9 @@ static void flush(void) {
         if (written <= 0) fault = written < 0 && errno == ENOSPC ? "the disk is full" : "it could not be written";
         else at += (size_t)written;
     }
-    if (!fault) whole_length += length;
-    else if (is_live_text) cut_live_file(whole_length);
+    if (is_live_text && !is_unwritten && fault) cut_live_file(whole_length);
+    is_unwritten |= is_live_text && fault;
+    whole_length += length;
     length = 0;
 }
 
@@ -566,7 +567,8 @@ static void put_recording(bool is_signalled) {
         put_name(between, note_names[lessening[i]]);
         between = ",";
     }
-    if (is_signalled) put_name(between, "signal");
+    if (is_unwritten) put_name(between, "unwritten");
+    else if (is_signalled) put_name(between, "signal");
     else if (open_regions && !is_stopped()) put_name(between, "open_region");
     put("],\"records\":[");
     int count = thread_total + (lines[thread_total] > 0);
@@ -690,6 +692,7 @@ const char *write_ending(int to, const char *ending) {
 void forget_written(void) {
     length = whole_length = 0;
     fault = NULL;
+    is_unwritten = false;
     last_id = wait_count = dependent_count = renamed_count = 0;
     open_regions = 0;
     renames_barriers = false;
