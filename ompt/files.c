@@ -180,17 +180,20 @@ static bool has_prefix(const char *name, const char *prefix) {
     return strncmp(name, prefix, strlen(prefix)) == 0;
 }
 
-/* Opens the pipe or device of this name, or a descriptor of this process. Returns -1 with `errno` 0 if it is another
-   file. A pipe is opened when somebody reads it. */
+/* Whether the name is that of a file which the process has open. */
+static bool is_descriptor(const char *name) {
+    return has_prefix(name, "/dev/fd/") || has_prefix(name, "/proc/self/fd/");
+}
+
+/* Opens the pipe or device of this name, or what the process has open. Returns -1 with `errno` 0 if there is none. A pipe
+   is opened when somebody reads it. */
 static int open_pipe(const char *name) {
     struct stat found;
-    bool is_descriptor = has_prefix(name, "/dev/fd/") || has_prefix(name, "/proc/self/fd/");
-    errno = 0;
-    if (stat(name, &found) != 0 || (S_ISREG(found.st_mode) && !is_descriptor)) {
+    int opened = -1;
+    if (stat(name, &found) != 0 || (S_ISREG(found.st_mode) && !is_descriptor(name))) {
         errno = 0;
         return -1;
     }
-    int opened;
     do opened = open(name, O_WRONLY | O_APPEND | O_CLOEXEC);
     while (opened < 0 && errno == EINTR);
     return opened;
@@ -224,6 +227,11 @@ static const char *ending_name(void) {
     return name;
 }
 
+/* Whether a file may be beside it: not beside a device. */
+static bool has_ending(void) {
+    return (S_ISREG(live_found.st_mode) || S_ISFIFO(live_found.st_mode)) && !is_descriptor(whole_name);
+}
+
 static bool make_live(void) {
     int opened = open_pipe(whole_name);
     if (opened < 0 && errno == 0) opened = open_new();
@@ -232,7 +240,7 @@ static bool make_live(void) {
     if (live < 0) live = opened; /* so many are not allowed */
     else close(opened);
     fstat(live, &live_found);
-    unlink(ending_name());
+    if (has_ending()) unlink(ending_name());
     strcpy(part_name, whole_name);
     tell_run("live", part_name, program());
     return true;
@@ -382,16 +390,19 @@ void finish_file(const char *ending) {
     part_name[0] = 0;
 }
 
-/* A pipe that is named by a descriptor has no file beside it. */
+/* Returns why the file beside it could not be written, or NULL. */
+static const char *make_ending(const char *ending) {
+    int file = open(ending_name(), O_WRONLY | O_CREAT | O_TRUNC | O_CLOEXEC, 0666);
+    if (file < 0) return reason(errno);
+    const char *why = write_ending(file, ending);
+    return close(file) != 0 && !why ? reason(errno) : why;
+}
+
 void close_live_file(const char *ending, const char *fault) {
     if (is_live_file() && close(live) != 0 && !fault) fault = reason(errno);
     live = -1;
-    int file = open(ending_name(), O_WRONLY | O_CREAT | O_TRUNC | O_CLOEXEC, 0666);
-    if (file >= 0) {
-        const char *why = write_ending(file, ending);
-        if (close(file) != 0 && !why) why = reason(errno);
-        if (!fault) fault = why;
-    }
+    const char *why = has_ending() ? make_ending(ending) : NULL;
+    if (!fault) fault = why;
     if (fault) refuse(part_name, fault);
     else tell_run("end", part_name, whole_name);
     part_name[0] = 0;

@@ -3,7 +3,7 @@ import os
 from collections import Counter, namedtuple
 
 from outcomes import Outcome, counts_in_words
-from recording import Recording
+from recording import ENDING, Recording
 
 # The greatest number that a seed may be.
 GREATEST = 2**63 - 1
@@ -113,5 +113,8 @@ class Repetition:
 
 
 def remove(files):
+    """Removes the files of a run, and what is beside those that were written while it ran."""
     for it in files:
-        os.remove(it)
+        for name in (it, it + ENDING):
+            if os.path.isfile(name):
+                os.remove(name)

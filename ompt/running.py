@@ -40,15 +40,16 @@ def terminal():
 
 class Run:
     """A run of the program, from its start to its end. It has the terminal only from when it wants it, since others that
-    were started with this process, as by `make -j`, are in front too, and Ctrl-C is for all of them."""
+    were started with this process, as by `make -j`, are in front too, and Ctrl-C is for all of them. `kept` are open
+    files of this process that the program keeps."""
 
-    def __init__(self, words, environment, seconds=None):
+    def __init__(self, words, environment, seconds=None, kept=()):
         self.terminal, self.group, self.seconds = terminal(), os.getpgrp(), seconds
         self.was_told = self.has_terminal = self.is_late = False
         self.before = {it: signal.getsignal(it) for it in (*PASSED_ON, signal.SIGTSTP, signal.SIGTTOU, signal.SIGALRM)}
         signal.pthread_sigmask(signal.SIG_BLOCK, PASSED_ON)
         try:
-            self.program = subprocess.Popen(words, env=environment, preexec_fn=lead)
+            self.program = subprocess.Popen(words, env=environment, preexec_fn=lead, pass_fds=kept)
             self.take_signals()
         finally:
             signal.pthread_sigmask(signal.SIG_UNBLOCK, PASSED_ON)

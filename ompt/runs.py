@@ -8,6 +8,10 @@ from collections import namedtuple
 # A process that began to record: its number and its program, by its path; the file if it is whole, or why there is none.
 Process = namedtuple('Process', 'number program file reason')
 
+# The words of a list by which a process begins its file: one that it writes at the end, or while it runs.
+BEGINS = 'begin', 'live'
+# No line of a file is longer.
+LONGEST_LINE = 1 << 16
 # How long processes may take to end after a signal.
 SECONDS = 10
 LEFT = 'it was killed, or left by _exit or exec, before it could write its file'
@@ -40,7 +44,7 @@ def wait_for_others(path):
     while time.monotonic() < ends:
         lines = lines_of(path)
         done = {part for word, _, part, _ in lines if word != 'begin'}
-        if not any(is_running(number) for word, number, part, _ in lines if word == 'begin' and part not in done):
+        if not any(is_running(number) for word, number, part, _ in lines if word in BEGINS and part not in done):
             return
         time.sleep(0.01)
 
@@ -48,13 +52,40 @@ def wait_for_others(path):
 def processes(path):
     """The processes that recorded, in the order in which they began; and why others could not, in sentences."""
     lines = lines_of(path)
-    began = {part: (int(number), program) for word, number, part, program in lines if word == 'begin'}
+    began = {part: (int(number), program) for word, number, part, program in lines if word in BEGINS}
+    live = {part for word, _, part, _ in lines if word == 'live'}
     ended = {part: file for word, _, part, file in lines if word == 'end'}
     failed = [(int(number), what, why) for word, number, what, why in lines if word == 'failed']
     unwritten = {what: why for _, what, why in failed if what in began}
-    found = [Process(number, program, ended.get(part), reason_of(number, part, unwritten.get(part)))
+    found = [Process(number, program, *(told_of_live if part in live else told_of)(number, part, ended, unwritten))
              for part, (number, program) in began.items()]
     return found, [f'process {number}: {what}: {why}' for number, what, why in failed if what not in began]
+
+
+def told_of(number, part, ended, unwritten):
+    """The file of a process, and why it has none."""
+    return ended.get(part), reason_of(number, part, unwritten.get(part))
+
+
+def told_of_live(number, part, ended, unwritten):
+    """The same where the file was written while the process ran: what there is of it counts. A process that was killed may
+    have cut the last line."""
+    if part in unwritten and not (os.path.isfile(part) and os.path.getsize(part)):
+        if os.path.isfile(part):
+            os.remove(part)
+        return None, unwritten[part]
+    if os.path.isfile(part) and part not in ended and not is_running(number):
+        cut_line(part)
+    return part, None
+
+
+def cut_line(path):
+    """Cuts what is behind the last end of a line."""
+    with open(path, 'rb+') as it:
+        size = it.seek(0, os.SEEK_END)
+        begin = max(0, size - LONGEST_LINE)
+        it.seek(begin)
+        it.truncate(begin + it.read().rfind(b'\n') + 1)
 
 
 def reason_of(number, part, failure):

@@ -86,6 +86,8 @@ class Surroundings:
                      'TASKAUDIT_FILE': from_the_root(asked.o), 'TASKAUDIT_PARENT': str(os.getpid())}
         if asked.time:
             self.told['TASKAUDIT_TIME'] = '1'
+        if asked.live:
+            self.told['TASKAUDIT_LIVE'] = '1'
         if os.environ.get('OMP_TOOL') == 'disabled':
             log.say('OMP_TOOL=disabled is set to enabled for this run')
         self.add_other_tool()

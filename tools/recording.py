@@ -1,5 +1,8 @@
-"""What the header of a file says of the recording: whether it is of a whole run, and what was changed or left out."""
+"""What the header of a file says of the recording: whether it is of a whole run, and what was changed or left out. Of a file
+that was written while the program ran (a live one) a second file beside it says so."""
 import json
+import os
+import stat
 
 # What each note in the header says, and how often; the code of the first time follows.
 CHANGED = {
@@ -49,6 +52,18 @@ PARTIAL = {
     'signal': 'the program ended by a signal ({ending}); the file has what was recorded until then',
     'open_region': 'the program ended inside a parallel region; the file has what was recorded until then',
 }
+# In a live file there is no limit that a program reaches soon.
+PARTIAL_OF_LIVE = {
+    **PARTIAL,
+    'many_records': 'recording stopped near 2^32 records of a thread, or finished tasks; the program went on',
+    'unwritten': 'the file could not be written any more: the disk is full, or nobody read the pipe; the program went on',
+}
+# Behind the name of a live file is this in the name of the one that says how the process ended.
+ENDING = '.end'
+NOT_ENDED = ('it does not say how the process ended: that still runs, or it was killed, or left by _exit or exec; the file has'
+             ' what was written until then')
+WAITED = ('threads waited {waits} times, {seconds:.3f} seconds in all, until older records were written: this changed the'
+          ' timing of the program')
 UNTOLD = 'its header does not say how much was recorded: it was cut or changed, or an early recorder wrote it'
 LONGEST_LINE = 1 << 16
 PIECE = 1 << 20
@@ -58,12 +73,14 @@ class Recording:
     """What our recorder says of a file in its header. Other recorders say nothing: their files are taken as whole."""
 
     def __init__(self, path):
-        self.path = path
-        with open(path, 'rb') as it:
-            header = value_of(it.readline(LONGEST_LINE + 1))
+        self.path, self.is_pipe = path, is_pipe(path)
+        header = {'recorder': {'live': True}} if self.is_pipe else value_of(first_line(path))
         told = header.get('recorder')
         self.version, self.is_ours = header.get('version'), isinstance(told, dict)
         self.told = told if self.is_ours else {}
+        self.is_live = bool(self.told.get('live'))
+        if self.is_live:
+            self.told = {**self.told, **value_of(first_line(path + ENDING))}
         notes = self.told.get('notes')
         self.notes = {name: it for name, it in notes.items() if isinstance(it, dict)} if isinstance(notes, dict) else {}
 
@@ -90,11 +107,16 @@ class Recording:
         if not self.is_ours:
             return []
         extent = self.extent()
+        if not extent and self.is_pipe and self.path.startswith('/dev/'):
+            return []  # it has no place for a file beside it
         if not extent:
-            return [UNTOLD]
-        (wanted, names), count = extent, self.count() if count is None else count
+            return [NOT_ENDED if self.is_live else UNTOLD]
+        wanted, names = extent
+        if count is None:
+            count = wanted if self.is_pipe else self.count()
         cut = [f'the file has {count:,} of {wanted:,} records: it was cut or changed'] * (count != wanted)
-        return cut + [self.sentence(PARTIAL[it], it) if it in PARTIAL else it for it in names]
+        sentences = PARTIAL_OF_LIVE if self.is_live else PARTIAL
+        return cut + [self.sentence(sentences[it], it) if it in sentences else it for it in names]
 
     def count(self):
         """How many lines follow the header."""
@@ -104,10 +126,32 @@ class Recording:
     def changes(self):
         """What was changed or left out in what is recorded, and what the audit does not cover, in sentences."""
         found = [self.sentence(text, name) for name, text in CHANGED.items() if name in self.notes]
+        live = self.told.get('live')
+        if isinstance(live, dict) and live.get('waits'):
+            found.append(WAITED.format(waits=live['waits'], seconds=live.get('nanoseconds', 0) / 10**9))
         if 'moved' in self.notes:
             found.append(self.sentence(MOVED_BY_VERSION.get(self.version, MOVED), 'moved'))
         return found + [f'NOT AUDITED: {self.sentence(text, name)}' for name, text in NOT_AUDITED.items()
                         if name in self.notes]
+
+
+def is_pipe(path):
+    """Whether it is a pipe or a device, which cannot be read once more."""
+    try:
+        return not stat.S_ISREG(os.stat(path).st_mode)
+    except OSError:
+        return False
+
+
+def first_line(path):
+    """The first line of a file; none where a live file has no end."""
+    try:
+        with open(path, 'rb') as it:
+            return it.readline(LONGEST_LINE + 1)
+    except FileNotFoundError:
+        if path.endswith(ENDING):
+            return b''
+        raise
 
 
 def value_of(line):
