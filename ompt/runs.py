@@ -10,6 +10,8 @@ Process = namedtuple('Process', 'number program file reason')
 
 # The words of a list by which a process begins its file: one that it writes at the end, or while it runs.
 BEGINS = 'begin', 'live'
+# What the file beside one that was written while the process ran has behind the name (tools/recording.py).
+ENDING = '.end'
 # No line of a file is longer.
 LONGEST_LINE = 1 << 16
 # How long processes may take to end after a signal.
@@ -70,7 +72,7 @@ def told_of(number, part, ended, unwritten):
 def told_of_live(number, part, ended, unwritten):
     """The same where the file was written while the process ran: what there is of it counts. A process that was killed may
     have cut the last line."""
-    if part in unwritten and not (os.path.isfile(part) and os.path.getsize(part)):
+    if part in unwritten and not os.path.exists(part + ENDING):
         if os.path.isfile(part):
             os.remove(part)
         return None, unwritten[part]

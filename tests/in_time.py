@@ -7,7 +7,8 @@
 - a member of a team begins only behind the begin of its region, if the file has that.
 
 In a file of version 1 the turns are those that its lines imply. Of a run that ended while its threads were at work a
-record may be lost, on which others go on: its file is not looked at."""
+record may be lost, on which others go on: its file is not looked at, but where it was written while the program ran
+and the program was killed."""
 import json
 from collections import defaultdict
 
@@ -80,11 +81,23 @@ def finishes(line):
     return 'kept' in line
 
 
+def partial(path, told):
+    """Why the file has a part of the run only. A file that was written while the program ran has this beside it, if the
+    program was not killed: then no record was written before one on which it goes on."""
+    if told.get('live'):
+        try:
+            with open(path + '.end', encoding='utf-8') as file:
+                told = json.load(file)
+        except FileNotFoundError:
+            return set()
+    return {*told['recording']['partial']}
+
+
 def fault_of_order(path):
     """The first line that is not in the order of time, and why, in words; or None."""
     with open(path, encoding='utf-8') as file:
         header, *records = map(json.loads, file)
-    if AT_WORK & {*header['recorder']['recording']['partial']}:
+    if AT_WORK & partial(path, header['recorder']):
         return None
     lines = Lines(it['parallel'] for it in records if it['cb'] == 'parallel_begin')
     for number, line in enumerate(records, 2):
