@@ -28,6 +28,8 @@ enum { NAP = 100000, DOUBLINGS = 6 };
 /* How often the writer must find nothing before more room is given; and how many records it takes to look again at once.
    Each look slows the threads a little. */
 enum { STUCK = 4, MANY = 4096 };
+/* How many times as much as blocks may have, before the writer takes a record as lost. */
+enum { LOST = 8 };
 
 /* Blocks */
 
@@ -183,10 +185,11 @@ static void release(struct block *block) {
 }
 
 /* The writer has written all that it can: what it lacks may come from a thread that waits, or that one keeps from going
-   on. So each gets a block. */
+   on. So each gets a block. Where much more than allowed is in use, a record seems to be lost, or the runtime is broken. */
 static void give_room(void) {
-    uint32_t count = atomic_load(&waiting);
-    if (count) atomic_store(&allowed, atomic_load(&used) + count);
+    uint32_t count = atomic_load(&waiting), now = atomic_load(&used);
+    if (count && now > LOST * limit()) give_up_waiting();
+    if (count) atomic_store(&allowed, now + count);
 }
 
 struct waits waits_for_room(void) {

@@ -299,6 +299,10 @@ const struct record *next_so_far(int *thread) {
     return take_out(*thread);
 }
 
+void give_up_waiting(void) {
+    if (waiting_count && !ready_count) pass_over();
+}
+
 void end_parts(void) {
     for (int i = 0; i < thread_total; i++)
         if (awaits_list[i]) ready[ready_count++] = (uint8_t)i;

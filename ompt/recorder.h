@@ -216,6 +216,8 @@ void begin_parts(void);
 bool look_again(void);
 /* The next record of those that were seen, or NULL where it is not known yet. */
 const struct record *next_so_far(int *thread);
+/* Where the next record is not known: what one lacks counts as out, since it seems to be lost. */
+void give_up_waiting(void);
 /* No record is added any more: next_in_time has all that are left. */
 void end_parts(void);
 

@@ -1,7 +1,7 @@
-/* live THREADS REGIONS STEPS: makes the callbacks of a run on real threads, for the recorder alone, so that a checker of
+/* live THREADS REGIONS STEPS [LOST]: makes the callbacks of a run on real threads, for the recorder alone, so that a checker of
    races sees all of it. In each region every member creates so many tasks and takes tasks from the pool of all: they have
-   children, dependences and events, stop, and go on on other threads. All are complete at the region's end. It is built
-   with the recorder's sources; the environment says where the file goes. */
+   children, dependences and events, stop, and go on on other threads. All are complete at the region's end. So many
+   stops of tasks are not told. It is built with the recorder's sources; the environment says where the file goes. */
 #define _GNU_SOURCE
 #include "callbacks.h"
 #include "tool.h"
@@ -29,6 +29,7 @@ static pthread_mutex_t lock = PTHREAD_MUTEX_INITIALIZER;
 static pthread_barrier_t meeting;
 static _Atomic int unfinished;
 static int thread_count, region_count, step_count;
+static _Atomic int lost;
 static ompt_data_t region;
 
 struct member {
@@ -84,7 +85,7 @@ static void run(struct member *self, struct item *item) {
     self->running = below;
     if (!item->has_stopped && drawn(self, 3) == 0) {
         item->has_stopped = true;
-        on_task_schedule(&item->task, ompt_task_switch, below);
+        if (atomic_fetch_sub(&lost, 1) <= 0) on_task_schedule(&item->task, ompt_task_switch, below);
         push(item);
     } else if (drawn(self, 5) == 0) {
         item->has_ended = true;
@@ -158,8 +159,9 @@ static ompt_interface_fn_t look_up(const char *name) {
 }
 
 int main(int count, char **words) {
-    if (count != 4) return 2;
+    if (count < 4) return 2;
     thread_count = atoi(words[1]), region_count = atoi(words[2]), step_count = atoi(words[3]);
+    lost = count > 4 ? atoi(words[4]) : 0;
     ompt_start_tool_result_t *tool = start_recorder();
     if (!tool || thread_count < 1 || thread_count > MOST_THREADS) return 2;
     pthread_t threads[MOST_THREADS];

@@ -1,7 +1,8 @@
 /* merging [N]: tries the merge of the recorder, ompt/merging.c, on the records of N random runs (500) of up to 256
    threads. Of each run all records come in an order of time, by the rules in `is_in_order`. Also of a run of which
    records are lost, and of one in which some are changed, each record comes once, behind those of its thread before
-   it, and in a second pass in the same order. The last line is `N passed, M failed`. */
+   it, and in a second pass in the same order. The records of a run are also merged while it goes on: the threads are
+   looked at one after another, while others add records. The last line is `N passed, M failed`. */
 #include "recorder.h"
 
 #include <omp-tools.h>
@@ -21,6 +22,10 @@ static struct task tasks[MOST_TASKS];
 static bool is_running[MOST_TASKS], is_over[MOST_TASKS];
 static uint32_t turns[MOST_TASKS], task_count, ledger;
 static struct thread all[MAX_THREADS];
+/* The threads that added the records, in the order of time. */
+enum { MOST_RECORDS = MOST_STEPS * 4 + MAX_THREADS, MOST_IN_PARTS = 16 };
+static uint8_t history[MOST_RECORDS];
+static uint32_t history_length;
 
 static uint32_t drawn(uint32_t below) {
     static uint64_t state = 88172645463325252;
@@ -41,6 +46,7 @@ static void add(struct thread *thread, struct record record) {
     record.seen = thread->known;
     thread->last->records[at] = record;
     thread->count++;
+    history[history_length++] = (uint8_t)(thread - all);
 }
 
 static void add_reading(struct thread *thread, struct record record) {
@@ -89,9 +95,9 @@ static void fork_team(struct thread *thread, int count) {
     for (int i = 0; i < 3; i++) begin_root(&all[drawn((uint32_t)count)], region);
 }
 
-/* Another thread fulfils the event of a task that is not over. */
+/* Another thread fulfils the event of a task that is not over, often of one that runs. */
 static void fulfil(struct thread *thread) {
-    uint32_t task = drawn(task_count);
+    uint32_t task = drawn(2) ? drawn(task_count) : (uint32_t)(all[drawn((uint32_t)thread_count)].current - tasks);
     if (is_over[task]) return;
     add_reading(thread, (struct record){.callback = TASK_SCHEDULE, .kind = ompt_task_early_fulfill,
                                         .task = &tasks[task]});
@@ -127,7 +133,7 @@ static void forget(void) {
     memset(tasks, 0, sizeof tasks);
     memset(is_over, 0, sizeof is_over);
     memset(turns, 0, sizeof turns);
-    task_count = ledger = 0;
+    task_count = ledger = history_length = 0;
     region_count = 0;
 }
 
@@ -167,11 +173,22 @@ static void spoil(int count) {
     }
 }
 
-/* Whether the record may come where so many entries are out: they are as many as it has seen, the tasks that it names
-   are made, the one that goes on has ended the turn before, the one that begins has a region that has begun, and the
-   one whose event is fulfilled is not complete. */
-static bool is_in_order(const struct record *record, uint32_t entries, const uint32_t *ended, const bool *is_made,
-                        const bool *is_done, const bool *is_begun) {
+/* What is out: how many entries, which turns have ended, and which tasks are made, and complete; and which regions. */
+static uint32_t entries, ended[MOST_TASKS];
+static bool is_made[MOST_TASKS], is_done[MOST_TASKS], is_begun[MOST_STEPS + 1];
+
+static void begin_check(void) {
+    entries = 0;
+    memset(ended, 0, sizeof ended);
+    memset(is_made, 0, sizeof is_made);
+    memset(is_done, 0, sizeof is_done);
+    memset(is_begun, 0, sizeof is_begun);
+}
+
+/* Whether the record may come now: so many entries are out as it has seen, the tasks that it names are made, the one
+   that goes on has ended the turn before, the one that begins has a region that has begun, and the one whose event is
+   fulfilled is not complete. */
+static bool is_in_order(const struct record *record) {
     bool is_begin = record->callback == IMPLICIT_TASK, goes_on = record->callback == TASK_SCHEDULE && record->other;
     size_t task = (size_t)(record->task - tasks), next = goes_on ? (size_t)(record->other - tasks) : 0;
     if (record->seen > entries || (makes_entry(record) && record->seen != entries)) return false;
@@ -181,34 +198,57 @@ static bool is_in_order(const struct record *record, uint32_t entries, const uin
     return !goes_on || (is_made[next] && ended[next] == record->turns.next);
 }
 
+/* The same; from here on the record is out. */
+static bool comes_in_order(const struct record *record) {
+    size_t task = (size_t)(record->task - tasks);
+    bool is_right = is_in_order(record);
+    if (record->callback == TASK_CREATE) is_made[record->other - tasks] = true;
+    if (record->callback == IMPLICIT_TASK) is_made[task] = true;
+    if (record->callback == PARALLEL_BEGIN) is_begun[record->region] = true;
+    if (record->callback == TASK_SCHEDULE && record->other) ended[task] = record->turns.prior + 1;
+    is_done[task] |= makes_entry(record);
+    entries += makes_entry(record);
+    return is_right;
+}
+
 /* Whether all records come in an order of time. */
 static bool is_order(void) {
-    static uint32_t ended[MOST_TASKS];
-    static bool is_made[MOST_TASKS], is_done[MOST_TASKS], is_begun[MOST_STEPS + 1];
-    uint32_t entries = 0;
     int thread;
     bool is_right = true;
-    memset(ended, 0, sizeof ended);
-    memset(is_made, 0, sizeof is_made);
-    memset(is_done, 0, sizeof is_done);
-    memset(is_begun, 0, sizeof is_begun);
+    begin_check();
     begin_pass();
-    for (const struct record *record; (record = next_in_time(&thread));) {
-        size_t task = (size_t)(record->task - tasks);
-        is_right &= is_in_order(record, entries, ended, is_made, is_done, is_begun);
-        if (record->callback == TASK_CREATE) is_made[record->other - tasks] = true;
-        if (record->callback == IMPLICIT_TASK) is_made[task] = true;
-        if (record->callback == PARALLEL_BEGIN) is_begun[record->region] = true;
-        if (record->callback == TASK_SCHEDULE && record->other) ended[task] = record->turns.prior + 1;
-        is_done[task] |= makes_entry(record);
-        entries += makes_entry(record);
-    }
+    for (const struct record *record; (record = next_in_time(&thread));) is_right &= comes_in_order(record);
     return is_right;
+}
+
+/* Shows so many records of each thread as it has where it is looked at: from this time on, by one thread after another,
+   between which so many records are added. */
+static void show_until(int count, uint32_t time, uint32_t step, uint32_t *times) {
+    for (int i = 0; i < count; i++, time += step)
+        for (; times[i] < time && times[i] < history_length; times[i]++) all[i].count += history[times[i]] == i;
+}
+
+/* Whether all records come in an order of time while the run goes on. Others are added between two looks too. */
+static bool is_order_in_parts(int count) {
+    uint32_t times[MOST_IN_PARTS] = {0}, time = 0, total = 0, step = drawn(30);
+    int thread;
+    bool is_right = true;
+    begin_check();
+    begin_parts();
+    for (int i = 0; i < count; i++) all[i].count = 0;
+    for (bool is_last = false; !is_last; time += (uint32_t)count * step + drawn(20)) {
+        show_until(count, time, step, times);
+        is_last = !look_again() && time >= history_length;
+        for (const struct record *record; (record = next_so_far(&thread)); total++) is_right &= comes_in_order(record);
+    }
+    end_parts();
+    for (const struct record *record; (record = next_in_time(&thread)); total++) is_right &= comes_in_order(record);
+    return is_right && total == history_length;
 }
 
 /* Whether each record comes once in each of two passes, in the order of its thread, and in the same order. */
 static bool is_whole(int count) {
-    static uint8_t order[MOST_STEPS * 4 + MAX_THREADS];
+    static uint8_t order[MOST_RECORDS];
     uint32_t total = 0, places[MAX_THREADS];
     bool is_right = true;
     for (int i = 0; i < count; i++) total += all[i].count;
@@ -238,7 +278,9 @@ int main(int words, char **given) {
         int count = i % 5 == 4 ? MAX_THREADS : 1 + (int)drawn(12);
         run(count, drawn(MOST_STEPS));
         prepare();
-        bool is_right = is_order() && is_whole(count);
+        bool is_right = count > MOST_IN_PARTS || is_order_in_parts(count);
+        prepare();
+        is_right &= is_order() && is_whole(count);
         cut(count);
         prepare();
         is_right &= is_whole(count);
