@@ -1,7 +1,8 @@
 //! The items that children depend on, record by record: when all is complete that a dependent task must wait for.
-ghost use Rattle.std.specs.Prelude.{◌≡◌, ◌↔◌, [], None, Some, IfOk, IfSome, OnOk, IsTrue};
+ghost use Rattle.std.specs.Prelude.{ℕ, ◌≡◌, ◌↔◌, ◌⊎◌, [], None, Some, IfOk, IfSome, OnOk, IsTrue};
 ghost use Rattle.online.specs.Items.{IsItemsOf, AreUses, TakesCreation, TakesList, TakesOther, TakesCompletion};
 ghost use Rattle.online.specs.Items.{TakesEnd, KeepsItems, IsReadyOf, HasListsOf, awaited_of};
+ghost use Rattle.online.specs.Uses.{numbers_of, location_of};
 ghost use Rattle.online.specs.Items.{Admits, IsUseAt, IsWider, AddsItem};
 
 use crate::uses::{Use, UseTable};
@@ -34,7 +35,8 @@ impl Items {
 
     /// Reads a record that creates a child. Returns false where a list of another child of the parent is missing.
     pub fn create(&mut self, parent: u64, child: u64, has_list: bool) -> Result<bool, AllocError>
-        ensures { IfOk result (λ taken. IsTrue taken → TakesCreation self.old self.new parent child has_list) }
+        ensures taken { IfOk result (λ taken. IsTrue taken → TakesCreation self.old self.new parent child has_list) }
+        ensures refused { awaited_of self.old parent ≡ None → IfOk result IsTrue }
     {
         if !self.awaits_none(parent) {
             return Ok(false);
@@ -70,7 +72,8 @@ impl Items {
 
     /// Takes out a task that is complete by the entries below the length.
     pub fn complete(&mut self, task: u64, length: u64) -> Result<(), AllocError>
-        ensures { OnOk result (TakesCompletion self.old self.new task length) }
+        ensures completed { OnOk result (TakesCompletion self.old self.new task length) }
+        ensures taken { OnOk result (numbers_of self.new.uses task ≡ None) }
     {
         self.uses.complete(task, length)?;
         Ok(())
@@ -78,7 +81,8 @@ impl Items {
 
     /// Takes out the locations that children of the task use. Its body has ended.
     pub fn end(&mut self, parent: u64) -> Result<(), AllocError>
-        ensures { OnOk result (TakesEnd self.old self.new parent) }
+        ensures ended { OnOk result (TakesEnd self.old self.new parent) }
+        ensures taken { OnOk result ((w : ℕ) → location_of self.new.uses parent w ≡ None) }
     {
         self.uses.end(parent)?;
         Ok(())
@@ -88,6 +92,7 @@ impl Items {
     /// task may be finished.
     pub fn is_ready(&mut self, task: u64, length: u64) -> Result<bool, AllocError>
         ensures ready { IfOk result (λ ready. IsTrue ready → IsReadyOf self.old task length) }
+        ensures other { numbers_of self.old.uses task ≡ None → IfOk result IsTrue }
         ensures kept { IfOk result (λ _. KeepsItems self.old self.new) }
     {
         let ready = self.uses.is_ready(task, length)?;
@@ -96,14 +101,15 @@ impl Items {
 
     /// Returns whether the lists of dependences that count for the child are there.
     pub fn has_lists(&self, parent: u64, task: u64) -> bool
-        ensures { IsTrue result → HasListsOf self.now parent task }
+        ensures listed { IsTrue result → HasListsOf self.now parent task }
+        ensures missing { IsTrue result ⊎ (awaited_of self.now parent ≡ Some task) }
     {
         !self.is_awaited(parent, task)
     }
 
     /// Returns whether no list of a child of the task is missing.
     fn awaits_none(&self, parent: u64) -> bool
-        ensures { IsTrue result → awaited_of self.now parent ≡ None }
+        ensures { IsTrue result ↔ (awaited_of self.now parent ≡ None) }
     {
         self.awaited(parent).is_none()
     }

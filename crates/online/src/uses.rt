@@ -3,7 +3,7 @@
 ghost use Rattle.std.specs.Prelude.{ℕ, ◌≡◌, None, IfOk, OnOk, IfSome, IsTrue, true, Some, [], ◌∷◌, option_map};
 ghost use Rattle.online.specs.Groups.{group_at, put, KeepsCounts};
 ghost use Rattle.online.specs.Uses.{can_share, IsUses, HasFound, HasPlaced, HasListed, HasCompleted, HasEnded};
-ghost use Rattle.online.specs.Uses.{KeepsUses, IsReadyBy, last_in, location_in, family_at};
+ghost use Rattle.online.specs.Uses.{KeepsUses, IsReadyBy, last_in, location_in, family_at, numbers_of, location_of};
 
 use crate::groups::Groups;
 use ompt_events::{DepKind, conflicts};
@@ -79,7 +79,8 @@ impl UseTable {
     /// Takes out a task that is complete by entries below the length. Fails when out of memory; the table is of no
     /// use then.
     pub(crate) fn complete(&mut self, task: u64, length: u64) -> Result<(), AllocError>
-        ensures { OnOk result (HasCompleted self.old self.new task length) }
+        ensures completed { OnOk result (HasCompleted self.old self.new task length) }
+        ensures taken { OnOk result (numbers_of self.new task ≡ None) }
     {
         let Some(numbers) = self.tasks.remove(&task) else {
             return Ok(());
@@ -91,7 +92,8 @@ impl UseTable {
     /// Takes out the locations that the children of a task use. It may create no more children. Fails when out of
     /// memory; the table is of no use then.
     pub(crate) fn end(&mut self, parent: u64) -> Result<(), AllocError>
-        ensures { OnOk result (HasEnded self.old self.new parent) }
+        ensures ended { OnOk result (HasEnded self.old self.new parent) }
+        ensures taken { OnOk result ((w : ℕ) → location_of self.new parent w ≡ None) }
     {
         let family = take_family(self.alloc, &mut self.families, parent);
         release_all(&mut self.groups, &family)?;
@@ -102,6 +104,7 @@ impl UseTable {
     /// memory; the table is of no use then.
     pub(crate) fn is_ready(&mut self, task: u64, length: u64) -> Result<bool, AllocError>
         ensures ready { IfOk result (λ ready. IsTrue ready → IsReadyBy self.old task length) }
+        ensures other { numbers_of self.old task ≡ None → IfOk result IsTrue }
         ensures kept { IfOk result (λ _. KeepsUses self.old self.new) }
     {
         let Some(numbers) = self.tasks.get(&task) else {

@@ -6,8 +6,8 @@ use Rattle.online.proofs.ListingLemmas.{listings_plain, listings_created}
 use Rattle.std.specs.Prelude.{if◌then◌else◌}
 use Rattle.online.proofs.items.Items.create.Goals as goal
 
-pub returns-then-not-has_list : goal.returns-then-not-has_list
-returns-then-not-has_list c = λ yes rs r creates is.
+pub returns-then-not-has_list-clause-taken : goal.returns-then-not-has_list-clause-taken
+returns-then-not-has_list-clause-taken c = λ yes rs r creates is.
     let (history, ends, gone, table, lists) = is in (
       history,
       ends,
@@ -17,11 +17,11 @@ returns-then-not-has_list c = λ yes rs r creates is.
           creates.watchable
           creates.once creates.creates
           (creates.has_deps ∙ ap (λ (b : Bool). if b then Some c.args.child else None) c.if-not-has_list.true)
-          (c.if-not-awaits_none.ensures refl) lists,
+          (c.if-not-awaits_none.ensures.0 refl) lists,
     )
 
-pub returns : goal.returns
-returns c = λ yes rs r creates is.
+pub returns-clause-taken : goal.returns-clause-taken
+returns-clause-taken c = λ yes rs r creates is.
     let (history, ends, gone, table, lists) = is in (
       history,
       ends,
@@ -32,6 +32,6 @@ returns c = λ yes rs r creates is.
           c.args.parent c.args.child creates.watchable creates.once creates.creates
           (creates.has_deps ∙ ap (λ (b : Bool). if b then Some c.args.child else None)
           c.if-not-has_list.false)
-          (c.if-not-awaits_none.ensures refl)
+          (c.if-not-awaits_none.ensures.0 refl)
           (λ q. c.in_ok-insert.ensures.updates.0 q) lists,
     )

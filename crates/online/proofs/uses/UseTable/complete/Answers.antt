@@ -10,8 +10,8 @@ use Rattle.online.proofs.FamilyLemmas.{map_put}
 use Rattle.online.proofs.UseEnds.{table_over}
 use Rattle.online.proofs.uses.UseTable.complete.Goals as goal
 
-pub returns-in_default : goal.returns-in_default
-returns-in_default c = λ history ends gone is. (
+pub returns-in_default-clause-completed : goal.returns-in_default-clause-completed
+returns-in_default-clause-completed c = λ history ends gone is. (
   is.0,
   table_over history ends gone is.0 is.0 (group_at c.args.self.now.groups) (group_at c.args.self.now.groups)
       c.args.self.now.groups.next (numbers_of c.args.self.now)
@@ -26,8 +26,8 @@ returns-in_default c = λ history ends gone is. (
       is.1,
 )
 
-pub returns : goal.returns
-returns c = λ history ends gone is.
+pub returns-clause-completed : goal.returns-clause-completed
+returns-clause-completed c = λ history ends gone is.
     let all = is.0 in
     let here : numbers_of c.args.self.now c.args.task ≡ Some c.in-Some.numbers.items =
     sym (ap (option_map (λ v. v.items)) c.in-Some.ensures.value) in

@@ -9,8 +9,8 @@ use Rattle.online.proofs.UseLemmas.{table_counts}
 use Rattle.online.proofs.UseEnds.{table_gone}
 use Rattle.online.proofs.uses.UseTable.end.Goals as goal
 
-pub returns : goal.returns
-returns c = λ history ends gone is.
+pub returns-clause-ended : goal.returns-clause-ended
+returns-clause-ended c = λ history ends gone is.
     let families = c.take_family-family.new.families in (
       is.0,
       subst
