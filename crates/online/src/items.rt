@@ -12,7 +12,7 @@ use std::collections::HashMap;
 
 /// The items of the tasks that are not complete, and the locations that children of tasks use.
 ///
-/// A step that fails when out of memory, or that answers false, leaves items that are of no use.
+/// The items are of no use once a call has failed when out of memory, or once `list` has returned false.
 #[derive(Debug, Drop)]
 pub struct Items {
     uses: UseTable,
