@@ -84,16 +84,27 @@ def in_full(record, turns):
     return found
 
 
+def told_turns(record):
+    """The turns that a record of version 2 or 3 has, or None."""
+    return (record['prior_turn'], record['next_turn']) if runs_next(record) else None
+
+
+def read(data):
+    """The header and the records of a readable file."""
+    header, *records = [json.loads(line) for line in data.split(b'\n')[:-1]]
+    return header, records
+
+
 def text_of(values):
     return ''.join(json.dumps(it, sort_keys=True, separators=(',', ':')) + '\n' for it in values).encode()
 
 
 def answer(data, to=FIRST_WITH_TURNS):
     """The result for a readable file: standard output, standard error and the exit status."""
-    header, *records = [json.loads(line) for line in data.split(b'\n')[:-1]]
+    header, records = read(data)
     version = max(header['version'], to)
     if header['version'] >= FIRST_WITH_TURNS:
-        turns = {i: (it['prior_turn'], it['next_turn']) for i, it in enumerate(records) if runs_next(it)}
+        turns = {i: told_turns(it) for i, it in enumerate(records)}
     else:
         moved = moved_at(records)
         if moved is not None:
@@ -101,6 +112,14 @@ def answer(data, to=FIRST_WITH_TURNS):
         turns = turns_of(records)
     written = [{'format': FORMAT, 'version': version}, *(in_full(it, turns.get(i)) for i, it in enumerate(records))]
     return text_of(written), b'', 0
+
+
+def ordered(data, order):
+    """The readable file with its records in this order of their places, in the same version, as it is written."""
+    header, records = read(data)
+    has_turns = header['version'] >= FIRST_WITH_TURNS
+    written = [in_full(records[i], told_turns(records[i]) if has_turns else None) for i in order]
+    return text_of([{'format': FORMAT, 'version': header['version']}, *written])
 
 
 def main():

@@ -16,16 +16,15 @@ use Rattle.taskaudit.specs.declared.work.AuditFault.{AuditFault}
 use Rattle.taskaudit.specs.declared.work.AuditFault.TheVariants.{Read, Write, Check, Call, Upgrade, Memory}
 use Rattle.taskaudit.specs.declared.work.Outcome.{Outcome}
 use Rattle.taskaudit.specs.declared.work.Outcome.TheVariants.{Malformed}
-use Rattle.taskaudit.specs.declared.work.Printed.{Printed}
-use Rattle.taskaudit.specs.Audits.{BreaksOff, IsJudged, IsOfCrew, IsWriteFault, Leaves, LeavesOn, Prints}
-use Rattle.taskaudit.specs.Audits.{Reports}
+use Rattle.taskaudit.specs.Audits.{BreaksOff, IsJudged, IsOfCrew, IsWriteFault, Leaves, LeavesOn, Reports}
+use Rattle.taskaudit.specs.Audits.{IsReadRightly, Shown}
 use Rattle.taskaudit.specs.Devices.{read_cause_of}
 use Rattle.taskaudit.specs.Reports.{outcome_of}
 use Rattle.taskaudit.proofs.HeadlineLemmas.{synchronised}
 
-module _ (shown : Printed) (bytes old new : Option (List ℕ)) (trace : TraceView) (verdict : Verdict)
+module _ (shown : Shown) (bytes old new : Option (List ℕ)) (trace : TraceView) (verdict : Verdict)
     (text : List ℕ)
-    (judged : IsJudged bytes trace verdict) (printed : Prints shown trace.records verdict text) where
+    (judged : IsJudged bytes trace verdict) (printed : shown trace verdict text) where
   pub reports_of : (r : Result Outcome AuditFault) → IfOk r (λ outcome. outcome ≡ outcome_of verdict)
       → OnOk r (Appends old new text)
       → IfOk r (Reports shown bytes old new)
@@ -86,10 +85,10 @@ of_crew workers may_refuse passed (Err check.Thread) some few wrong gate before 
     absurd (thread refl)
 
 -- an audit by workers leaves the same, and they have passed the gate
-pub leaves_on : (shown : Printed) (workers : ℕ) (may_refuse passed : ℕ → Type 0)
+pub leaves_on : (shown : Shown) (workers : ℕ) (may_refuse passed : ℕ → Type 0)
     (bytes old new : Option (List ℕ))
     (trace : TraceView) (verdict : Verdict) (text : List ℕ)
-    → IsJudged bytes trace verdict → Prints shown trace.records verdict text
+    → IsJudged bytes trace verdict → shown trace verdict text
     → HavePassedFor passed workers verdict → (r : Result Outcome AuditFault)
     → IfErr r (IsWriteFault (λ n. Appends old new (take n text)))
     → IfErr r (LeavesOn shown workers may_refuse passed bytes old new)
@@ -160,3 +159,15 @@ no_read_cause part (Err (Check f)) fault = refl
 no_read_cause part (Err (Call line f)) fault = refl
 no_read_cause part (Err (Upgrade line f)) fault = refl
 no_read_cause part (Err Memory) fault = refl
+
+-- nor is it a fault of the input
+pub read_rightly : {X : Type 0} (part : ℕ → Type 0) (bytes left : Option (List ℕ))
+    (result : Result X AuditFault)
+    → IfErr result (IsWriteFault part) → IfErr result (IsReadRightly bytes left)
+read_rightly part bytes left (Ok x) fault = tt
+read_rightly part bytes left (Err (Write f)) fault = tt
+read_rightly part bytes left (Err (Read f)) fault = absurd fault
+read_rightly part bytes left (Err (Check f)) fault = tt
+read_rightly part bytes left (Err (Call line f)) fault = tt
+read_rightly part bytes left (Err (Upgrade line f)) fault = tt
+read_rightly part bytes left (Err Memory) fault = tt

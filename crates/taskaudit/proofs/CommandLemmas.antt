@@ -17,7 +17,7 @@ use Rattle.clap.specs.declared.parser.matches.Found.{Found}
 use Rattle.clap.proofs.ValueTestLemmas.{accepts-Accepts}
 use Rattle.clap.proofs.WalkLemmas.{one_text-rows}
 use Rattle.std.specs.Str.Parse.{ParsesUnsigned}
-use Rattle.taskaudit.specs.declared.work.Job.TheVariants.{Check, Order, Record, Upgrade}
+use Rattle.taskaudit.specs.declared.work.Job.TheVariants.{Check, Record, Upgrade}
 use Rattle.clap.specs.ValueTests.{is_unsigned_in}
 use Rattle.clap.specs.Walk.{nothing_held, rows_after, stop_after, walk_from}
 use Rattle.clap.specs.Matches.{has_subcommand}
@@ -29,7 +29,7 @@ use Rattle.clap.proofs.OnLiterals.{clap_on_literals}
 use Rattle.clap.specs.declared.error.kind.ErrorKind.TheVariants.{DisplayVersion}
 use Rattle.taskaudit.specs.declared.work.Job.{Job}
 use Rattle.taskaudit.specs.Commands.{command_line, check_by, check_in, upgrade_to, number_in, number_of}
-use Rattle.taskaudit.specs.Commands.{job_named, is_given, most_asked}
+use Rattle.taskaudit.specs.Commands.{job_named, is_given, most_asked, order_in}
 use Rattle.taskaudit.specs.Commands.{AsksFor, AsksVersion}
 use Rattle.taskaudit.specs.Commands.{HasItsNumber, AsksOf, Place, by_no_word, by_dash, by_name}
 use Rattle.taskaudit.specs.Commands.{file_word, place_named}
@@ -261,7 +261,7 @@ job_numbered (Some (name, rows)) job e =
   where
     go : (check order recording upgrading : Bool)
         → cond check (check_in rows)
-        (cond order (Some Order)
+        (cond order (Some (order_in rows))
         (cond recording (Some Record) (cond upgrading (upgrade_to (one_of (codes "to") rows)) None)))
         ≡ Some job
         → HasItsNumber job

@@ -7,6 +7,7 @@ mod CountLemmas
 mod HeadlineLemmas
 mod AuditLemmas
 mod OrderLemmas
+mod OrderingLemmas
 mod FindingLemmas
 mod RecordingLemmas
 mod UpgradingLemmas

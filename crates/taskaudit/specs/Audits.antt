@@ -1,11 +1,11 @@
 -- What an audit makes of the bytes that it reads, and what it writes.
 use Rattle.std.specs.Prelude.{◌≡◌, ◌<◌, ◌≤◌, ℕ, ◌++◌, List, take, Option, Some, None, IfSome, Ok, ⊤}
 use Rattle.std.specs.Io.KnownBytes.{Appends, Keeps}
-use Rattle.ompt_events.specs.declared.records.Record.{Record}
 use Rattle.ompt_events.specs.Traces.{TraceView}
 use Rattle.certificate.specs.Files.{file_says}
 use Rattle.certificate.specs.Reading.{IsToldRightly}
 use Rattle.certificate.specs.ReadingOn.{IsToldInRoom, block_size, room_of}
+use Rattle.certificate.specs.TraceTexts.{trace_text}
 use Rattle.certificate.specs.declared.faults.WriteFault.TheVariants as write
 use Rattle.checker.specs.declared.verdict.CheckFault.TheVariants as check
 use Rattle.checker.specs.declared.verdict.Verdict.{Verdict}
@@ -23,7 +23,7 @@ use Rattle.taskaudit.specs.declared.work.AuditFault.{AuditFault}
 use Rattle.taskaudit.specs.declared.work.AuditFault.TheVariants.{Read, Write, Check, Call, Upgrade, Memory}
 use Rattle.taskaudit.specs.Headline.{IsSynchronised}
 use Rattle.taskaudit.specs.FindingTexts.{findings_text}
-use Rattle.taskaudit.specs.Orders.{order_lines}
+use Rattle.taskaudit.specs.Orders.{in_order, order_lines}
 use Rattle.taskaudit.specs.Reports.{report_of, outcome_of}
 
 -- the bytes that were read, where they are known, are a file for the trace, and this is the records' verdict
@@ -36,37 +36,49 @@ abbrev pub shown_of : Option ℕ → Printed
 shown_of None = Report
 shown_of (Some most) = Findings most
 
--- what is shown of the verdict: its report; or behind it too the records at which it shows; or of a yes its
+-- what is printed of a verdict: its report; or behind it too the records at which it shows; or of a yes its
 -- order, and of a no an order that leaves the named task incomplete at the named record
-abbrev pub Prints : Printed → List Record → Verdict → List ℕ → Type 0
-Prints Report rs found text = text ≡ report_of rs found
-Prints (Findings most) rs found text =
-    (all : checker.Findings) × IsFoundOf rs most found all
-    × (text ≡ report_of rs found ++ findings_text rs most all)
-Prints Order rs (verdict.Yes order) text = text ≡ report_of rs (verdict.Yes order) ++ order_lines rs order
-Prints Order rs (verdict.No i why) text =
-    (order : List ℕ) × IsCounterOrder rs i (task_of why) order
-    × (text ≡ report_of rs (verdict.No i why) ++ order_lines rs order)
-Prints Order rs (verdict.Malformed i cause) text = text ≡ report_of rs (verdict.Malformed i cause)
+abbrev pub Prints : Printed → TraceView → Verdict → List ℕ → Type 0
+Prints Report trace found text = text ≡ report_of trace.records found
+Prints (Findings most) trace found text =
+    (all : checker.Findings) × IsFoundOf trace.records most found all
+    × (text ≡ report_of trace.records found ++ findings_text trace.records most all)
+Prints Order trace (verdict.Yes order) text =
+    text ≡ report_of trace.records (verdict.Yes order) ++ order_lines trace.records order
+Prints Order trace (verdict.No i why) text =
+    (order : List ℕ) × IsCounterOrder trace.records i (task_of why) order
+    × (text ≡ report_of trace.records (verdict.No i why) ++ order_lines trace.records order)
+Prints Order trace (verdict.Malformed i cause) text =
+    text ≡ report_of trace.records (verdict.Malformed i cause)
 
--- what is shown of the verdict was written, and nothing else, and the outcome is the verdict's kind
-pub record Reports (shown : Printed) (bytes old new : Option (List ℕ)) (outcome : Outcome) : Type 0 where
+-- what `order --records` writes: of a yes the file with its records in the order of the yes, and of any other
+-- verdict what `order` prints
+abbrev pub WritesRecords : TraceView → Verdict → List ℕ → Type 0
+WritesRecords trace (verdict.Yes order) text = text ≡ trace_text (in_order trace order)
+WritesRecords trace found text = Prints Order trace found text
+
+-- which texts show a verdict
+abbrev pub Shown : Type 1
+Shown = TraceView → Verdict → List ℕ → Type 0
+
+-- a text that shows the verdict was written, and nothing else, and the outcome is the verdict's kind
+pub record Reports (shown : Shown) (bytes old new : Option (List ℕ)) (outcome : Outcome) : Type 0 where
   pub trace : TraceView
   pub verdict : Verdict
   pub judged : IsJudged bytes trace verdict
   pub text : List ℕ
-  pub printed : Prints shown trace.records verdict text
+  pub printed : shown trace verdict text
   pub written : Appends old new text
   pub kind : outcome ≡ outcome_of verdict
   pub kept : outcome ≡ Yes → IsSynchronised trace.records
 
--- that text was written up to somewhere
-pub record BreaksOff (shown : Printed) (bytes old new : Option (List ℕ)) : Type 0 where
+-- such a text was written up to somewhere
+pub record BreaksOff (shown : Shown) (bytes old new : Option (List ℕ)) : Type 0 where
   pub trace : TraceView
   pub verdict : Verdict
   pub judged : IsJudged bytes trace verdict
   pub text : List ℕ
-  pub printed : Prints shown trace.records verdict text
+  pub printed : shown trace verdict text
   pub count : ℕ
   pub written : Appends old new (take count text)
 
@@ -82,9 +94,9 @@ IsWriteFault part (Write write.Memory) = ⊥
 IsWriteFault part (Write f) = (count : ℕ) × part count
 IsWriteFault part _ = ⊥
 
--- what a fault leaves: a prefix of that text where the sink failed, and else nothing. An audit on one thread
--- starts no thread, makes no call of a script and upgrades nothing
-abbrev pub Leaves : Printed → Option (List ℕ) → Option (List ℕ) → Option (List ℕ) → AuditFault → Type 0
+-- what a fault leaves: a prefix of such a text where the sink failed, or memory ran out while it was written,
+-- and else nothing. An audit on one thread starts no thread, makes no call of a script and upgrades nothing
+abbrev pub Leaves : Shown → Option (List ℕ) → Option (List ℕ) → Option (List ℕ) → AuditFault → Type 0
 Leaves shown bytes old new (Write f) = BreaksOff shown bytes old new
 Leaves shown bytes old new (Check check.Memory) = Keeps old new
 Leaves shown bytes old new (Check f) = ⊥
@@ -107,7 +119,7 @@ IsOfCrew workers may_refuse passed fault = IsOutOfMemory fault
 -- it has, one of those that the gate may refuse, after those before it have passed; where no thread can be
 -- started the work is done all the same. A text that broke off is of a verdict for which the workers have
 -- passed
-abbrev pub LeavesOn : Printed → ℕ → (ℕ → Type 0) → (ℕ → Type 0) → Option (List ℕ) → Option (List ℕ)
+abbrev pub LeavesOn : Shown → ℕ → (ℕ → Type 0) → (ℕ → Type 0) → Option (List ℕ) → Option (List ℕ)
     → Option (List ℕ) → AuditFault → Type 0
 LeavesOn shown workers may_refuse passed bytes old new (Check check.Workers) =
     IsNoCrew workers × Keeps old new

@@ -30,12 +30,20 @@ workers_rule = number_rule (codes "workers") 1 256
 abbrev pub version_rule : Rule
 version_rule = number_rule (codes "to") 2 3
 
--- the option `--all`, which has no value
-abbrev pub all_rule : Rule
-all_rule = record (new_rule (codes "all")) {
-  long = Some (codes "all");
+-- an option of this name, which has no value
+abbrev pub flag_rule : Text → Rule
+flag_rule name = record (new_rule name) {
+  long = Some name;
   action = Some SetTrue;
 }
+
+-- the option `--all`
+abbrev pub all_rule : Rule
+all_rule = flag_rule (codes "all")
+
+-- the option `--records`
+abbrev pub records_rule : Rule
+records_rule = flag_rule (codes "records")
 
 -- the option `--most N`: a number from 1 to 1,000
 abbrev pub most_rule : Rule
@@ -52,9 +60,12 @@ file_rule = record (new_rule (codes "file")) {
 abbrev pub file_app : Text → App
 file_app name = with_rule (new_app name) file_rule
 
--- the subcommands with options, `check` and `upgrade`
+-- the subcommands with options, `check`, `order` and `upgrade`
 abbrev pub check_app : App
 check_app = with_rule (with_rule (with_rule (file_app (codes "check")) workers_rule) all_rule) most_rule
+
+abbrev pub order_app : App
+order_app = with_rule (file_app (codes "order")) records_rule
 
 abbrev pub upgrade_app : App
 upgrade_app = with_rule (file_app (codes "upgrade")) version_rule
@@ -69,8 +80,7 @@ command_line = record {
     subcommand_required = true;
     disable_help_subcommand = true;
   };
-  subs = check_app.top ∷ (file_app (codes "order")).top
-      ∷ (file_app (codes "record")).top ∷ upgrade_app.top ∷ [];
+  subs = check_app.top ∷ order_app.top ∷ (file_app (codes "record")).top ∷ upgrade_app.top ∷ [];
 }
 
 -- behind the name of the program stands what asks for the version, and nothing else
@@ -88,7 +98,7 @@ number_in low high None = Some None
 number_in low high (Some value) =
     if is_unsigned_in low high value then Some (Some (number_of value)) else None
 
--- whether `--all` is given: clap then has this text for it
+-- whether an option without a value is given: clap then has this text for it
 abbrev pub is_given : Option Text → Bool
 is_given None = false
 is_given (Some value) = bytes_eq value (codes "true")
@@ -117,10 +127,14 @@ check_in rows =
     check_by (one_of (codes "workers") rows) (is_given (first_of (codes "all") rows))
     (one_of (codes "most") rows)
 
+-- the order that is asked for: with the records themselves where `--records` is given
+abbrev pub order_in : List Row → Job
+order_in rows = Order (is_given (first_of (codes "records") rows))
+
 -- the job that a subcommand names, with the values that were found for its arguments
 abbrev pub job_named : Text × List Row → Option Job
 job_named (name, rows) = if bytes_eq name (codes "check") then check_in rows
-    else (if bytes_eq name (codes "order") then Some Order
+    else (if bytes_eq name (codes "order") then Some (order_in rows)
     else (if bytes_eq name (codes "record") then Some Record
     else (if bytes_eq name (codes "upgrade") then upgrade_to (one_of (codes "to") rows) else None)))
 

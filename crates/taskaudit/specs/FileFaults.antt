@@ -31,7 +31,7 @@ unpacker Xz = codes "xzcat"
 -- the word that asks for a job
 abbrev pub job_name : Job → List ℕ
 job_name (Check workers most) = codes "check"
-job_name Order = codes "order"
+job_name (Order records) = codes "order"
 job_name Record = codes "record"
 job_name (Upgrade to) = codes "upgrade"
 

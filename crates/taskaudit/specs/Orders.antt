@@ -1,8 +1,9 @@
--- The order that shows a verdict, and its lines, to the byte.
+-- The order that shows a verdict, its lines, to the byte, and a trace with its records in an order.
 use Rattle.std.specs.Prelude.{ℕ, ◌++◌, List, Option, Some, None, codes, decimal, slice_get}
-use Rattle.std.specs.List.{flat_map}
+use Rattle.std.specs.List.{filter_map, flat_map}
 use Rattle.std.specs.Option.{option_map_or}
 use Rattle.ompt_events.specs.declared.records.Record.{Record}
+use Rattle.ompt_events.specs.Traces.{TraceView}
 use Rattle.checker.specs.declared.verdict.Verdict.{Verdict}
 use Rattle.checker.specs.declared.verdict.Verdict.TheVariants.{Yes, No, Malformed}
 
@@ -21,3 +22,11 @@ abbrev pub order_shown : Verdict → Option (List ℕ) → Option (List ℕ)
 order_shown (Yes order) counter = Some order
 order_shown (No i why) counter = counter
 order_shown (Malformed i cause) counter = None
+
+-- the records at the places, one after another
+abbrev pub records_at : List Record → List ℕ → List Record
+records_at rs order = filter_map (slice_get rs) order
+
+-- the trace of the same version with its records in this order
+abbrev pub in_order : TraceView → List ℕ → TraceView
+in_order trace order = record { version = trace.version; records = records_at trace.records order }

@@ -19,7 +19,7 @@ use Rattle.taskaudit.specs.declared.work.FileFault.TheVariants.{Unopened, Compre
 use Rattle.taskaudit.specs.declared.work.OpenFault.{OpenFault}
 use Rattle.taskaudit.specs.declared.work.Packing.{Packing}
 use Rattle.taskaudit.specs.declared.work.Printed.TheVariants as shown
-use Rattle.taskaudit.specs.Audits.{Reports, Leaves, shown_of}
+use Rattle.taskaudit.specs.Audits.{Prints, Reports, Leaves, WritesRecords, shown_of}
 use Rattle.taskaudit.specs.Commands.{command_line, AsksFor, AsksOf, by_no_word, by_dash, by_name}
 use Rattle.taskaudit.specs.Packings.{IsPacked}
 use Rattle.taskaudit.specs.Recordings.{Records, LeavesRecording}
@@ -33,10 +33,12 @@ abbrev pub ending_of : Result Done AuditFault → Result Done Refusal
 ending_of (Ok done) = Ok done
 ending_of (Err fault) = Err (Audit fault)
 
--- the job was done: a verdict was reported, or a trace was written
+-- the job was done: a text that shows a verdict was written, or a trace was
 abbrev pub Does : Job → Option (List ℕ) → Option (List ℕ) → Option (List ℕ) → Done → Type 0
-Does (Check workers most) bytes old new (Judged outcome) = Reports (shown_of most) bytes old new outcome
-Does Order bytes old new (Judged outcome) = Reports shown.Order bytes old new outcome
+Does (Check workers most) bytes old new (Judged outcome) =
+    Reports (Prints (shown_of most)) bytes old new outcome
+Does (Order false) bytes old new (Judged outcome) = Reports (Prints shown.Order) bytes old new outcome
+Does (Order true) bytes old new (Judged outcome) = Reports WritesRecords bytes old new outcome
 Does Record bytes old new Written = Records bytes old new
 Does (Upgrade to) bytes old new Written = Upgrades (version_to to) bytes old new
 Does _ bytes old new _ = ⊥
@@ -44,8 +46,9 @@ Does _ bytes old new _ = ⊥
 -- what the fault leaves of the job. A check by workers has as many as the words say, 1 to 256, and its gate
 -- is open: it has no other faults than a check on one thread
 abbrev pub LeavesOfJob : Job → Option (List ℕ) → Option (List ℕ) → Option (List ℕ) → AuditFault → Type 0
-LeavesOfJob (Check workers most) bytes old new fault = Leaves (shown_of most) bytes old new fault
-LeavesOfJob Order bytes old new fault = Leaves shown.Order bytes old new fault
+LeavesOfJob (Check workers most) bytes old new fault = Leaves (Prints (shown_of most)) bytes old new fault
+LeavesOfJob (Order false) bytes old new fault = Leaves (Prints shown.Order) bytes old new fault
+LeavesOfJob (Order true) bytes old new fault = Leaves WritesRecords bytes old new fault
 LeavesOfJob Record bytes old new fault = LeavesRecording bytes old new fault
 LeavesOfJob (Upgrade to) bytes old new fault = LeavesUpgrade (version_to to) bytes old new fault
 

@@ -71,7 +71,7 @@ pub data IsToldFile (made : Call → Type 0) : FileFault → Refusal → Type 0 
 abbrev pub reading_text_of : Job → List ℕ
 reading_text_of (Check workers most) =
     codes "taskaudit: reading a trace from this terminal (Ctrl-D ends it); see taskaudit check --help\n"
-reading_text_of Order =
+reading_text_of (Order records) =
     codes "taskaudit: reading a trace from this terminal (Ctrl-D ends it); see taskaudit order --help\n"
 reading_text_of Record =
     codes "taskaudit: reading a script from this terminal (Ctrl-D ends it); see taskaudit record --help\n"

@@ -34,9 +34,9 @@ pub fn audit<I: Source, O: Sink>(
     sink: &mut O,
 ) -> Result<Outcome, AuditFault>
     ensures reports { IfOk result
-        (Reports shown (I.remaining source.old) (O.contents sink.old) (O.contents sink.new)) }
+        (Reports (Prints shown) (I.remaining source.old) (O.contents sink.old) (O.contents sink.new)) }
     ensures leaves { IfErr result
-        (Leaves shown (I.remaining source.old) (O.contents sink.old) (O.contents sink.new)) }
+        (Leaves (Prints shown) (I.remaining source.old) (O.contents sink.old) (O.contents sink.new)) }
     ensures unreadable { IfErr result (IsReadRightly (I.remaining source.old) (I.remaining source.new)) }
 
     // A fault of the source or of the sink is told exactly where it occurs.
@@ -76,8 +76,8 @@ pub fn audit_on<R: Threads + Sync, G: Gate + Sync, I: Source, O: Sink>(
     sink: &mut O,
 ) -> Result<Outcome, AuditFault>
     ensures reports { IfOk result
-        (Reports (shown_of most) (I.remaining source.old) (O.contents sink.old) (O.contents sink.new)) }
-    ensures leaves { IfErr result (LeavesOn (shown_of most) crew.entry.workers
+        (Reports (Prints (shown_of most)) (I.remaining source.old) (O.contents sink.old) (O.contents sink.new)) }
+    ensures leaves { IfErr result (LeavesOn (Prints (shown_of most)) crew.entry.workers
         (G.may_refuse crew.entry.gate.now) (G.passed crew.entry.gate.now)
         (I.remaining source.old) (O.contents sink.old) (O.contents sink.new)) }
     ensures unreadable { IfErr result (IsReadRightlyOn crew.entry.workers
@@ -112,7 +112,11 @@ pub fn audit_on<R: Threads + Sync, G: Gate + Sync, I: Source, O: Sink>(
 }
 
 /// Writes what is shown of the verdict, and returns its kind.
-fn put<O: Sink>(verdict: &Verdict, text: &[u8], sink: &mut O) -> Result<Outcome, AuditFault>
+pub(crate) fn put<O: Sink>(
+    verdict: &Verdict,
+    text: &[u8],
+    sink: &mut O,
+) -> Result<Outcome, AuditFault>
     ensures kind { IfOk result (λ outcome. outcome ≡ outcome_of verdict.now) }
     ensures written { OnOk result (Appends (O.contents sink.old) (O.contents sink.new) text.now) }
     ensures part { IfErr result (IsWriteFault (λ n.
@@ -134,7 +138,7 @@ fn answer_and_leave(
     trace: PackedTrace,
 ) -> Result<(Verdict, Vec<u8>), AuditFault>
     ensures verdict { IfOk result (λ answer. IsVerdict trace.records answer.0) }
-    ensures text { IfOk result (λ answer. Prints shown trace.records answer.0 answer.1.items) }
+    ensures text { IfOk result (λ answer. Prints shown trace answer.0 answer.1.items) }
     ensures memory { IfErr result IsOutOfMemory }
 {
     let answer = answer(alloc, shown, &trace);
@@ -149,7 +153,7 @@ fn answer(
     trace: &PackedTrace,
 ) -> Result<(Verdict, Vec<u8>), AuditFault>
     ensures verdict { IfOk result (λ answer. IsVerdict trace.now.records answer.0) }
-    ensures text { IfOk result (λ answer. Prints shown trace.now.records answer.0 answer.1.items) }
+    ensures text { IfOk result (λ answer. Prints shown trace.now answer.0 answer.1.items) }
     ensures memory { IfErr result IsOutOfMemory }
 {
     match shown {
@@ -179,7 +183,7 @@ fn answer_on_and_leave<R: Threads + Sync, G: Gate + Sync>(
 ) -> Result<(Verdict, Vec<u8>), AuditFault>
     requires { (1 ≤ crew.workers) × (crew.workers ≤ 256) }
     ensures verdict { IfOk result (λ answer. IsVerdict trace.records answer.0) }
-    ensures text { IfOk result (λ answer. Prints (shown_of most) trace.records answer.0 answer.1.items) }
+    ensures text { IfOk result (λ answer. Prints (shown_of most) trace answer.0 answer.1.items) }
     ensures passed { IfOk result (λ answer.
         HavePassedFor (G.passed crew.entry.gate.now) crew.entry.workers answer.0) }
     ensures fault { IfErr result
@@ -199,7 +203,7 @@ fn answer_on<R: Threads + Sync, G: Gate + Sync>(
 ) -> Result<(Verdict, Vec<u8>), AuditFault>
     requires { (1 ≤ crew.workers) × (crew.workers ≤ 256) }
     ensures verdict { IfOk result (λ answer. IsVerdict trace.now.records answer.0) }
-    ensures text { IfOk result (λ answer. Prints (shown_of most) trace.now.records answer.0 answer.1.items) }
+    ensures text { IfOk result (λ answer. Prints (shown_of most) trace.now answer.0 answer.1.items) }
     ensures passed { IfOk result (λ answer.
         HavePassedFor (G.passed crew.entry.gate.now) crew.entry.workers answer.0) }
     ensures fault { IfErr result
@@ -263,7 +267,7 @@ fn reported(
     requires counts { IfSome counts (AreCounts trace.now.records) }
     ensures verdict { IfOk result (λ answer. IsVerdict trace.now.records answer.0) }
     ensures found { IfOk result (λ answer. found ≡ Ok answer.0) }
-    ensures text { IfOk result (λ answer. Prints Printed.Report trace.now.records answer.0 answer.1.items) }
+    ensures text { IfOk result (λ answer. Prints Printed.Report trace.now answer.0 answer.1.items) }
     ensures fault { IfErr result (λ fault. (fault ≡ AuditFault.Memory)
         ⊎ ((f : CheckFault) × (found ≡ Err f) × (fault ≡ AuditFault.Check f))) }
 {

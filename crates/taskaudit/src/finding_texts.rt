@@ -23,9 +23,9 @@ pub(crate) fn found_text(
     report: Vec<u8>,
 ) -> Result<Vec<u8>, AuditFault>
     requires verdict { IsVerdict trace.now.records verdict.now }
-    requires report { Prints Printed.Report trace.now.records verdict.now report.items }
+    requires report { Prints Printed.Report trace.now verdict.now report.items }
     ensures text { IfOk result (λ text.
-        Prints (Printed.Findings most) trace.now.records verdict.now text.items) }
+        Prints (Printed.Findings most) trace.now verdict.now text.items) }
     ensures memory { IfErr result IsOutOfMemory }
 {
     let found = Findings::of(alloc, trace, verdict, most as usize).map_err(AuditFault::Check)?;

@@ -27,7 +27,7 @@ pub fn shown_text(
 ) -> Result<Vec<u8>, AuditFault>
     requires verdict { IsVerdict trace.now.records verdict.now }
     requires counter { IsShownBy (by_task trace.now.records) verdict.now counter.now }
-    ensures text { IfOk result (λ text. Prints Printed.Order trace.now.records verdict.now text.items) }
+    ensures text { IfOk result (λ text. Prints Printed.Order trace.now verdict.now text.items) }
     ensures memory { IsOkUnless result AuditFault.Memory }
 {
     let report = report_by(alloc, verdict, trace, None)?;

@@ -2,7 +2,7 @@
 ghost use Rattle.std.specs.Prelude.{◌≡◌, ◌≤◌, ℕ, List, Option, map, IfOk, IfErr};
 ghost use Rattle.std.specs.Result.{result_map_both};
 ghost use Rattle.clap.specs.Words.{Text};
-ghost use Rattle.taskaudit.specs.Audits.{Reports, Leaves, shown_of};
+ghost use Rattle.taskaudit.specs.Audits.{Prints, Reports, Leaves, shown_of};
 ghost use Rattle.taskaudit.specs.Commands.{AsksOf, AsksVersion, HasItsNumber, by_name};
 ghost use Rattle.taskaudit.specs.Programs.{Does, DoesAsked, IsFileRefused, IsOpened, IsRefused, LeavesOfJob, Ends, Runs, ShowsVersion, ending_of, world_of};
 ghost use Rattle.taskaudit.specs.Statuses.{exit_status_of};
@@ -10,6 +10,7 @@ ghost use Rattle.taskaudit.specs.Statuses.{exit_status_of};
 use crate::auditing::{Crew, audit, audit_on};
 use crate::looking::look;
 use crate::opening::Inputs;
+use crate::ordering::order_records;
 use crate::record::record;
 use crate::report::{NOT_REPORTED, WRONG_WORDS, fault_status, usage_status};
 use crate::telling::{Console, tell, tell_reading};
@@ -168,7 +169,10 @@ fn do_job<R: Threads + Wait + Sync, I: Source, O: Sink>(
             workers: Some(workers),
             most,
         } => audit_by(alloc, rt, workers, most, source, sink).map(Done::Judged),
-        Job::Order => audit(alloc, Printed::Order, source, sink).map(Done::Judged),
+        Job::Order { records: false } => {
+            audit(alloc, Printed::Order, source, sink).map(Done::Judged)
+        }
+        Job::Order { records: true } => order_records(alloc, source, sink).map(Done::Judged),
         Job::Record => record(rt, alloc, source, sink).map(|()| Done::Written),
         Job::Upgrade(to) => { upgrade(alloc, version_to(to), source, sink).map(|()| Done::Written) }
     }
@@ -186,9 +190,9 @@ fn audit_by<R: Threads + Sync, I: Source, O: Sink>(
 ) -> Result<Outcome, AuditFault>
     requires { (1 ≤ workers) × (workers ≤ 256) }
     ensures reports { IfOk result
-        (Reports (shown_of most) (I.remaining source.old) (O.contents sink.old) (O.contents sink.new)) }
+        (Reports (Prints (shown_of most)) (I.remaining source.old) (O.contents sink.old) (O.contents sink.new)) }
     ensures leaves { IfErr result
-        (Leaves (shown_of most) (I.remaining source.old) (O.contents sink.old) (O.contents sink.new)) }
+        (Leaves (Prints (shown_of most)) (I.remaining source.old) (O.contents sink.old) (O.contents sink.new)) }
 {
     let crew = Crew {
         threads: rt,

@@ -173,7 +173,7 @@ fn reading_text(job: Job) -> &'static str
 {
     match job {
         Job::Check { .. } => CHECK_READS,
-        Job::Order => ORDER_READS,
+        Job::Order { .. } => ORDER_READS,
         Job::Record => RECORD_READS,
         Job::Upgrade(_) => UPGRADE_READS,
     }

@@ -2,7 +2,7 @@
 ghost use Rattle.std.specs.Prelude.{◌≡◌, true, false, codes, map, IfOk, IfErr, Some, is_some, option_and_then};
 ghost use Rattle.clap.specs.Words.{app_of, rule_of, rows_of, found_of, first_of, one_of, shape_of, new_app, fault_of, kind_of, takes, subcommand_rows_of, FailsBy};
 ghost use Rattle.clap.specs.declared.builder.command.Command.TheViews.{out-Command};
-ghost use Rattle.taskaudit.specs.Commands.{command_line, check_app, upgrade_app, file_app, file_rule, workers_rule, all_rule, most_rule, version_rule, number_in, is_given, most_asked, check_in, job_named, file_word, place_named, place_of, AsksFor, AsksOf, HasItsNumber};
+ghost use Rattle.taskaudit.specs.Commands.{command_line, check_app, order_app, upgrade_app, file_app, file_rule, flag_rule, workers_rule, all_rule, most_rule, records_rule, version_rule, number_in, is_given, most_asked, check_in, order_in, job_named, file_word, place_named, place_of, AsksFor, AsksOf, HasItsNumber};
 
 use crate::version::VERSION_TEXT;
 use crate::work::{Asked, Input, Job};
@@ -47,6 +47,9 @@ const MOST_HELP: &str = "The same, but N at most (1 to 1000)";
 
 /// How many findings are printed at most where no number is given.
 const USUAL_MOST: u32 = 20;
+
+/// What the option `--records` of `order` is for.
+const RECORDS_HELP: &str = "For a yes, writes the trace file with its events in that order";
 
 /// What the option `--to` of `upgrade` is for.
 const VERSION_HELP: &str = "The version to write, 2 or 3; without it 2";
@@ -105,6 +108,10 @@ const ORDER_EXPLANATION: &str = r#"Answers, on standard output; the first line i
       task is not complete at the named event: here task 2 at the line 0 5
   malformed: line 4, thread 0, seq 2: cause 2 CreatedTwice
       nothing below it
+
+With --records, for a yes in place of these lines: the trace file in the same version,
+with its events in that order. Lines are written as by upgrade, without members that
+the format does not know. For a no and a malformed file: as above.
 
 Exit status: 0 yes, 1 no, 2 malformed, 3 input not read or answer not written,
   4 wrong arguments, 5 out of memory. Errors go to standard error.
@@ -228,7 +235,7 @@ fn job_of(name: &str, found: &ArgMatches) -> Job
     ensures { job_named (name.now, rows_of (found_of found.now)) ≡ Some result }
 {
     match name {
-        "order" => Job::Order,
+        "order" => order_of(found),
         "record" => Job::Record,
         "upgrade" => Job::Upgrade(version_found(found)),
         _ => check_of(found),
@@ -241,8 +248,17 @@ fn check_of(found: &ArgMatches) -> Job
     ensures { check_in (rows_of (found_of found.now)) ≡ Some result }
 {
     let workers = workers_found(found);
-    let most = most_asked(all_found(found), most_found(found));
+    let most = most_asked(flag_found(found, "all"), most_found(found));
     Job::Check { workers, most }
+}
+
+/// Returns the order that was asked for, by what was found for its arguments.
+fn order_of(found: &ArgMatches) -> Job
+    ensures { result ≡ order_in (rows_of (found_of found.now)) }
+{
+    Job::Order {
+        records: flag_found(found, "records"),
+    }
 }
 
 /// Returns how many findings are printed at most, or none where they are not asked for.
@@ -256,11 +272,11 @@ fn most_asked(all: bool, most: Option<u32>) -> Option<u32>
     }
 }
 
-/// Returns whether `--all` is given.
-fn all_found(found: &ArgMatches) -> bool
-    ensures { result ≡ is_given (first_of (codes "all") (rows_of (found_of found.now))) }
+/// Returns whether the option of this name is given, which has no value.
+fn flag_found(found: &ArgMatches, name: &str) -> bool
+    ensures { result ≡ is_given (first_of name.now (rows_of (found_of found.now))) }
 {
-    match found.get_str("all") {
+    match found.get_str(name) {
         Some("true") => true,
         Some(_other) => false,
         None => false,
@@ -297,7 +313,7 @@ fn command<'a>(alloc: Global) -> Result<Command<'a>, AllocError>
     ensures local { IfOk result (λ c. (out-Command c).has_globals ≡ false) }
 {
     let check = checking(alloc)?;
-    let order = reading(alloc, "order", ORDER_ABOUT, ORDER_EXPLANATION, TRACE_HELP)?;
+    let order = ordering(alloc)?;
     let recording = reading(
         alloc,
         "record",
@@ -327,6 +343,15 @@ fn checking<'a>(alloc: Global) -> Result<Command<'a>, AllocError>
         .arg(workers(alloc))?
         .arg(all(alloc))?
         .arg(most(alloc))
+}
+
+/// The subcommand `order`, with its option and its file.
+fn ordering<'a>(alloc: Global) -> Result<Command<'a>, AllocError>
+    ensures shape { IfOk result (λ c. shape_of c ≡ order_app.top) }
+    ensures local { IfOk result (λ c. (out-Command c).has_globals ≡ false) }
+{
+    let command = reading(alloc, "order", ORDER_ABOUT, ORDER_EXPLANATION, TRACE_HELP)?;
+    command.arg(records(alloc))
 }
 
 /// The subcommand `upgrade`, with its option and its file.
@@ -387,9 +412,25 @@ fn all<'a>(alloc: Global) -> Arg<'a>
     ensures rule { rule_of result ≡ all_rule }
     ensures local { result.global ≡ false }
 {
-    Arg::new(alloc, "all")
-        .long("all")
-        .help(ALL_HELP)
+    flag(alloc, "all", ALL_HELP)
+}
+
+/// The option `--records` of `order`.
+fn records<'a>(alloc: Global) -> Arg<'a>
+    ensures rule { rule_of result ≡ records_rule }
+    ensures local { result.global ≡ false }
+{
+    flag(alloc, "records", RECORDS_HELP)
+}
+
+/// An option of this name, which has no value.
+fn flag<'a>(alloc: Global, name: &'a str, help: &'a str) -> Arg<'a>
+    ensures rule { rule_of result ≡ flag_rule name.now }
+    ensures local { result.global ≡ false }
+{
+    Arg::new(alloc, name)
+        .long(name)
+        .help(help)
         .action(ArgAction::SetTrue)
 }
 

@@ -19,8 +19,11 @@ pub enum Job {
         workers: Option<u32>,
         most: Option<u32>,
     },
-    /// To judge the trace and print an order that shows the verdict.
-    Order,
+    /// To judge the trace and print an order that shows the verdict; or, with `records`, to write the trace with
+    /// its records in the order of a yes.
+    Order {
+        records: bool,
+    },
     /// To run the script and write the trace that its recorders gather.
     Record,
     /// To write the trace in this version of its format, or in version 2 where none is given, unless it has that
@@ -35,7 +38,7 @@ impl Job {
     {
         match self {
             Job::Check { .. } => "check",
-            Job::Order => "order",
+            Job::Order { .. } => "order",
             Job::Record => "record",
             Job::Upgrade(_) => "upgrade",
         }
@@ -88,7 +91,7 @@ impl Printed {
 /// What the program has done.
 #[derive(Clone, Copy, Debug, PartialEq, Eq)]
 pub enum Done {
-    /// A verdict of this kind was reported.
+    /// A trace has a verdict of this kind, and a text that shows it was written.
     Judged(Outcome),
     /// A trace was written.
     Written,

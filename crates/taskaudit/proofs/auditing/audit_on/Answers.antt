@@ -1,6 +1,6 @@
 use Rattle.std.proofs.Common.{rules, ◌≡◌, List, ℕ, Ok, OnOk, IfErr, refl, take, subst}
 use Rattle.std.specs.Io.KnownBytes.{Appends}
-use Rattle.taskaudit.specs.Audits.{IsWriteFault, shown_of}
+use Rattle.taskaudit.specs.Audits.{IsWriteFault, Prints, shown_of}
 use Rattle.taskaudit.proofs.AuditLemmas.{reports_of, leaves_on, passed_by, nothing_met, no_read_cause}
 use Rattle.taskaudit.proofs.auditing.audit_on.Goals as goal
 
@@ -18,7 +18,7 @@ returns-clause-reports g c =
     let old = g.O.Sink.contents c.args.sink.now in
     let new = g.O.Sink.contents c.put.new.sink in
     let P : List ℕ → Type 0 = λ text. OnOk c.put.result (Appends old new text) in
-    reports_of (shown_of c.args.most) (g.I.Source.remaining c.args.source.now) old new trace
+    reports_of (Prints (shown_of c.args.most)) (g.I.Source.remaining c.args.source.now) old new trace
     c.in_ok-verdict.verdict
     c.in_ok-verdict.text.items
     (record { file = rw read at c.read_packed_on.ensures.file; right = c.in_ok-verdict.ensures.verdict })
@@ -35,7 +35,7 @@ returns-clause-leaves g c =
     let P : List ℕ → Type 0 =
     λ text. IfErr c.put.result (IsWriteFault (λ n. Appends old new (take n text))) in
     let part : P c.in_ok-verdict.text.items = subst P c.as_slice.ensures.value c.put.ensures.part in
-    leaves_on (shown_of c.args.most) c.args.crew.workers (g.G.Gate.may_refuse c.args.crew.gate.now)
+    leaves_on (Prints (shown_of c.args.most)) c.args.crew.workers (g.G.Gate.may_refuse c.args.crew.gate.now)
     (g.G.Gate.passed c.args.crew.gate.now) bytes old new trace c.in_ok-verdict.verdict
     c.in_ok-verdict.text.items
     (record { file = rw read at c.read_packed_on.ensures.file; right = c.in_ok-verdict.ensures.verdict })
