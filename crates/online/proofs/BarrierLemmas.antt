@@ -49,17 +49,16 @@ region_begin rs i task kind _ (at_once says) = omega arith
 -- ---- barriers
 
 -- where the task began its barriers before the place
-begins_before : List Record → ℕ → ℕ → List ℕ
+abbrev pub begins_before : List Record → ℕ → ℕ → List ℕ
 begins_before rs task i = filter (begins_barrier rs task) (own_before rs task i)
 
 -- a place that is one of the task's own, or is not, and begins a barrier of it, or does not
-one_begin : Bool → Bool → ℕ → List ℕ
+abbrev pub one_begin : Bool → Bool → ℕ → List ℕ
 one_begin own begins i = cond own (cond begins (i ∷ []) []) []
 
-begins_more : (rs : List Record) (task i : ℕ)
+pub begins_more : (rs : List Record) (task i : ℕ)
     → begins_before rs task (i + 1)
     ≡ begins_before rs task i ++ one_begin (is_own rs task i) (begins_barrier rs task i) i
-unfolding begins_before one_begin
 begins_more rs task i =
     ap (filter (begins_barrier rs task)) (own_more rs task i)
     ∙ filter-append (begins_barrier rs task) (own_before rs task i) (cond (is_own rs task i) (i ∷ []) [])
@@ -71,9 +70,8 @@ begins_more rs task i =
     of true = refl
     of false = refl
 
-begins_same : (n : ℕ) (xs ys : List Record) → IsSameTo n xs ys → (task i : ℕ) → i ≤ n
+pub begins_same : (n : ℕ) (xs ys : List Record) → IsSameTo n xs ys → (task i : ℕ) → i ≤ n
     → begins_before xs task i ≡ begins_before ys task i
-unfolding begins_before
 begins_same n xs ys same task zero most = refl
 begins_same n xs ys same task (suc i) most =
     let next : suc i ≡ i + 1 = omega arith in
@@ -92,7 +90,6 @@ begins_same n xs ys same task (suc i) most =
 -- what stands in a list stands there when one place, or none, is put behind it, and the other way round
 begin_stays : (l : List ℕ) (own begins : Bool) (i number start : ℕ) → slice_get l number ≡ Some start
     → slice_get (l ++ one_begin own begins i) number ≡ Some start
-unfolding one_begin
 begin_stays l true true i number start is = get_pushed l i start number is
 begin_stays l true false i number start is = ap (λ k. slice_get k number) (append-nil l) ∙ is
 begin_stays l false begins i number start is = ap (λ k. slice_get k number) (append-nil l) ∙ is
@@ -100,7 +97,6 @@ begin_stays l false begins i number start is = ap (λ k. slice_get k number) (ap
 begin_cases : (l : List ℕ) (own begins : Bool) (i number start : ℕ)
     → slice_get (l ++ one_begin own begins i) number ≡ Some start
     → (slice_get l number ≡ Some start) ⊎ (i ≡ start)
-unfolding one_begin
 begin_cases l true true i number start is = elim (pushed_cases l i start number is) [
   | inl there ↦ inl there
   | inr last ↦ inr last.1
@@ -109,7 +105,7 @@ begin_cases l true false i number start is = inl (sym (ap (λ k. slice_get k num
 begin_cases l false begins i number start is = inl (sym (ap (λ k. slice_get k number) (append-nil l)) ∙ is)
 
 -- a begin keeps its number behind later records
-begins_later : (rs : List Record) (task n more number start : ℕ)
+pub begins_later : (rs : List Record) (task n more number start : ℕ)
     → slice_get (begins_before rs task n) number ≡ Some start
     → slice_get (begins_before rs task (n + more)) number ≡ Some start
 begins_later rs task n zero number start is =
@@ -146,7 +142,6 @@ begins_sooner rs task n (suc more) number start low is =
 pub barrier_begin_back : (n : ℕ) (xs ys : List Record) → IsSameTo n xs ys → n ≤ length xs → length ys ≡ n
     → (task number start : ℕ) → start < n → IsBarrierBegin xs task number start
     → IsBarrierBegin ys task number start
-unfolding begins_before
 barrier_begin_back n xs ys same long all task number start low is =
     let rest : n + (length xs - n) ≡ length xs = omega (arith, long) in
     let first : slice_get (begins_before xs task n) number ≡ Some start =
@@ -157,7 +152,6 @@ barrier_begin_back n xs ys same long all task number start low is =
 
 pub barrier_begin_stays : (n : ℕ) (xs ys : List Record) → IsSameTo n xs ys → length xs ≡ n → n ≤ length ys
     → (task number start : ℕ) → IsBarrierBegin xs task number start → IsBarrierBegin ys task number start
-unfolding begins_before
 barrier_begin_stays n xs ys same all long task number start is =
     let rest : n + (length ys - n) ≡ length ys = omega (arith, long) in
     sym (ap (λ m. slice_get (begins_before ys task m) number) rest)

@@ -63,7 +63,7 @@ children_later rs parent n (suc more) number task is =
     ∙ children_stay rs parent (n + more) number task (children_later rs parent n more number task is)
 
 -- a task has no fewer children behind later records
-number_rises : (rs : List Record) (parent n more : ℕ)
+pub number_rises : (rs : List Record) (parent n more : ℕ)
     → child_number rs parent n ≤ child_number rs parent (n + more)
 number_rises rs parent n zero =
     let same : child_number rs parent (n + zero) ≡ child_number rs parent n =

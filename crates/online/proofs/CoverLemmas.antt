@@ -89,7 +89,7 @@ cover_same n xs ys same i below meet families task
 
 -- ---- what is covered among the first records
 
-region_says : (rs : List Record) (i own : ℕ) (kind : SyncKind) (begin : ℕ) → IsRegion rs i own kind begin
+pub region_says : (rs : List Record) (i own : ℕ) (kind : SyncKind) (begin : ℕ) → IsRegion rs i own kind begin
     → (endpoint : Endpoint) × (at region rs i ≡ Some (own, kind, endpoint))
 region_says rs i own kind begin (ended is) = (End, is.ends)
 region_says rs i own kind _ (at_once says) = (BeginEnd, says)

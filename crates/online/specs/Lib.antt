@@ -1,5 +1,7 @@
--- When records stand in an order in which a program may have made them; and, in Items, what they leave of the items
--- that children depend on: the uses of locations by siblings are in Uses, and how they are counted in Groups.
+-- When records stand in an order in which a program may have made them (Online), and what they leave: of threads and
+-- tasks, as recorders would have them (Replays); of the items that children depend on (Items: the uses of locations by
+-- siblings are in Uses, and how they are counted in Groups); and for the ends of regions that wait for tasks (Waits,
+-- Teams, Kept).
 pub mod Online
 pub mod ThreadStates
 pub mod Tasks
@@ -7,3 +9,6 @@ pub mod Replays
 pub mod Groups
 pub mod Uses
 pub mod Items
+pub mod Waits
+pub mod Kept
+pub mod Teams

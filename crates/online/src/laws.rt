@@ -1,11 +1,13 @@
 //! When the order of a file is an order of its records, and what the records up to a place tell of it. These are
 //! laws about the definitions alone, proved for all records. The functions do nothing.
-ghost use Rattle.std.specs.Prelude.{Bool, ◌≡◌, ◌<◌, ◌≤◌, ◌+◌, ◌↔◌, ◌∷◌, ◌++◌, ℕ, true, List, [], length};
+ghost use Rattle.std.specs.Prelude.{Bool, ◌≡◌, ◌<◌, ◌≤◌, ◌+◌, ◌↔◌, ◌∷◌, ◌++◌, ℕ, true, List, [], length, Option};
 ghost use Rattle.ompt_events.specs.declared.records.Record.{Record};
 ghost use Rattle.ompt_events.specs.declared.names.SyncKind.{SyncKind};
 ghost use Rattle.ompt_events.specs.declared.cause.Cause.{Cause};
 ghost use Rattle.ompt_events.specs.declared.cause.Cause.TheVariants.{CreatedTwice, EntryTwice, LengthAhead};
 ghost use Rattle.ompt_events.specs.declared.cause.Cause.TheVariants.{StatusOrder, DepsPlace, TeamShort, ShareWrong};
+ghost use Rattle.ompt_events.specs.declared.names.Endpoint.{Endpoint};
+ghost use Rattle.ompt_events.specs.Records.{region};
 ghost use Rattle.ompt_events.specs.Places.{places};
 ghost use Rattle.ompt_events.specs.Tree.{children_before};
 ghost use Rattle.ompt_events.specs.Regions.{open_regions, IsRegion, IsBarrierBegin};
@@ -20,6 +22,10 @@ ghost use Rattle.ompt_events.specs.Causes.{ShowsNowhere};
 ghost use Rattle.scripts.specs.Progress.{Values};
 ghost use Rattle.online.specs.Replays.{IsReplayed};
 ghost use Rattle.online.specs.Online.{IsInOrder, IsWatchable, is_told_at_once, stays_told};
+ghost use Rattle.online.specs.declared.kin.Kin.{Kin};
+ghost use Rattle.online.specs.declared.team.Team.{Team};
+ghost use Rattle.online.specs.Teams.{TeamsFollow, SaysNothing};
+ghost use Rattle.online.specs.Waits.{Follows, ChangesNothing, IsCoverComplete};
 ghost use Rattle.online.specs.Online.{EndsLast, AreBegun, HasTeamBegun, AreListed, HasLists, IsDependentAt};
 ghost use Rattle.online.specs.Online.{EachRecord, ComesAfter, ListsAwaited, NoneAwaited, PassesAfter};
 ghost use Rattle.online.specs.Online.{IsUnfinishedAfter, IsCompleteAfter, IsSettledAfter};
@@ -192,4 +198,16 @@ pub fn replayed_records_show_no_cause_of_tasks()
         → ShowsNowhere rs RegionOrder }
     ensures claimed { (nests : Bool) (rs : List Record) (values : Values) → IsReplayed nests rs values
         → ShowsNowhere rs ShareWrong }
+{}
+
+/// Some records need no step of what is kept for the ends of taskwaits, taskgroups and barriers (`Waits`).
+///
+/// - `kept`, `teams`: a record that makes no task, and begins and ends no taskgroup, may be passed over, if it
+///   begins no barrier either. It may still complete a task: then less is known to be complete.
+/// - `empty`: a taskgroup that begins and ends in one record covers nothing.
+pub fn some_records_need_no_step()
+    ensures kept { (table : ℕ → Option Kin) → Follows ChangesNothing table table }
+    ensures teams { (table : ℕ → Option Kin) (teams : ℕ → Option Team) → TeamsFollow SaysNothing table teams table teams }
+    ensures empty { (rs : List Record) (r : Record) (task : ℕ)
+        → region r.body ≡ Some (task, SyncKind.Taskgroup, Endpoint.BeginEnd) → IsCoverComplete rs r }
 {}

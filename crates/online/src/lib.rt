@@ -8,6 +8,10 @@
 //! `Items` answers, when a dependent task starts, whether all its predecessors are complete: read `items`, which
 //! reads record by record, then `uses`, the uses of locations by siblings, and `groups`, how many tasks of a group
 //! of uses are not complete. `item_laws` says what an answer means at the record.
+//!
+//! `Waits` answers, when a taskwait, a taskgroup or a barrier ends, whether all that it covers is complete: read
+//! `waits`, then `kin`, what is kept of a task, and `team`, what is kept of a team; `kins` and `teams` have these by
+//! id, and `scope` counts tasks.
 #![tactic(auto)]
 
 mod calls;
@@ -15,11 +19,18 @@ mod claims;
 mod groups;
 pub mod item_laws;
 mod items;
+mod kin;
+mod kins;
 pub mod laws;
 mod replay;
+mod scope;
 mod tasks;
+mod team;
+mod teams;
 mod thread;
 mod uses;
+mod waits;
 
 pub use items::Items;
 pub use replay::Replay;
+pub use waits::Waits;
