@@ -1,11 +1,9 @@
 //! The turns of a trace, and the tasks' own order.
-ghost use Rattle.task_tree.specs.Family.{IsFamilyOf};
-
 use crate::in_turns::{family_of, told_rising};
 use crate::standard_input::read_trace;
 use anyhow::Result;
 use packed_trace::PackedTrace;
-use task_tree::{Family, arrange, find_gap, turns_of};
+use task_tree::{arrange, find_gap, turns_of};
 
 /// Reads the trace on standard input and asks whether its turns rise along the file.
 pub fn rise(rt: &HostRuntime) -> Result<()> {
@@ -19,16 +17,9 @@ pub fn rise(rt: &HostRuntime) -> Result<()> {
 pub fn arranged(rt: &HostRuntime) -> Result<()> {
     let trace = PackedTrace::of(rt.alloc(), &read_trace(rt)?)?;
     let family = family_of(rt, &trace)?;
-    told_arranged(rt, &trace, &family)
-}
-
-/// Prints how many records the tasks' own order has, and the turn gap.
-fn told_arranged(rt: &HostRuntime, trace: &PackedTrace, family: &Family) -> Result<()>
-    requires { IsFamilyOf trace.now.records family.now }
-{
-    let turns = turns_of(rt.alloc(), trace, family)?;
-    let gap = find_gap(rt.alloc(), trace, family, &turns)?;
-    let order = arrange(rt.alloc(), trace, turns.as_slice())?;
+    let turns = turns_of(rt.alloc(), &trace, &family)?;
+    let gap = find_gap(rt.alloc(), &trace, &family, &turns)?;
+    let order = arrange(rt.alloc(), &trace, turns.as_slice())?;
     println!(rt; "{} records, gap {gap:?}", order.len())?;
     Ok(())
 }
