@@ -59,3 +59,4 @@ mod TeamJoinLemmas
 mod TeamBarrierLemmas
 mod BarrierEndLemmas
 mod WaitTeamLemmas
+mod LengthLemmas

@@ -1,7 +1,7 @@
 -- When records stand in an order in which a program may have made them (Online), and what they leave: of threads and
 -- tasks, as recorders would have them (Replays); of the items that children depend on (Items: the uses of locations by
--- siblings are in Uses, and how they are counted in Groups); and for the ends of regions that wait for tasks (Waits,
--- Teams, Kept).
+-- siblings are in Uses, and how they are counted in Groups); for the ends of regions that wait for tasks (Waits, Teams,
+-- Kept); and of ledger lengths (Lengths).
 pub mod Online
 pub mod ThreadStates
 pub mod Tasks
@@ -12,3 +12,4 @@ pub mod Items
 pub mod Waits
 pub mod Kept
 pub mod Teams
+pub mod Lengths

@@ -21,6 +21,7 @@ ghost use Rattle.ompt_events.specs.declared.cause.Cause.TheVariants.{NotCurrent,
 ghost use Rattle.ompt_events.specs.Causes.{ShowsNowhere};
 ghost use Rattle.scripts.specs.Progress.{Values};
 ghost use Rattle.online.specs.Replays.{IsReplayed};
+ghost use Rattle.online.specs.Lengths.{MayFollow};
 ghost use Rattle.online.specs.Online.{IsInOrder, IsWatchable, is_told_at_once, stays_told};
 ghost use Rattle.online.specs.declared.kin.Kin.{Kin};
 ghost use Rattle.online.specs.declared.team.Team.{Team};
@@ -210,4 +211,11 @@ pub fn some_records_need_no_step()
     ensures teams { (table : ℕ → Option Kin) (teams : ℕ → Option Team) → TeamsFollow SaysNothing table teams table teams }
     ensures empty { (rs : List Record) (r : Record) (task : ℕ)
         → region r.body ≡ Some (task, SyncKind.Taskgroup, Endpoint.BeginEnd) → IsCoverComplete rs r }
+{}
+
+/// Where records are watchable, and neither they nor one more make a task twice, that one may follow them, as
+/// `Lengths::take` asks.
+pub fn lengths_may_be_taken()
+    ensures { (rs : List Record) (r : Record) → IsWatchable rs → IsFreeOf (rs ++ r ∷ []) CreatedTwice
+        → MayFollow rs r }
 {}

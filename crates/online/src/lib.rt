@@ -12,6 +12,8 @@
 //! `Waits` answers, when a taskwait, a taskgroup or a barrier ends, whether all that it covers is complete: read
 //! `waits`, then `kin`, what is kept of a task, and `team`, what is kept of a team; `kins` and `teams` have these by
 //! id, and `scope` counts tasks.
+//!
+//! `Lengths` tests the ledger length that each record names: read `lengths`.
 #![tactic(auto)]
 
 mod calls;
@@ -22,6 +24,7 @@ mod items;
 mod kin;
 mod kins;
 pub mod laws;
+mod lengths;
 mod replay;
 mod scope;
 mod tasks;
@@ -32,5 +35,6 @@ mod uses;
 mod waits;
 
 pub use items::Items;
+pub use lengths::Lengths;
 pub use replay::Replay;
 pub use waits::Waits;
