@@ -30,8 +30,8 @@ def begun(lines):
 
 
 def turns_of(lines, prior, following):
-    """These turns, as members of a record in a file of version 2."""
-    is_told = json.loads(lines[0])["version"] == 2
+    """These turns, as members of a record in a file of version 2 or 3."""
+    is_told = json.loads(lines[0])["version"] >= 2
     return {"prior_turn": prior, "next_turn": following} if is_told else {}
 
 
