@@ -50,7 +50,7 @@ impl Model for Standing {
 
 impl Standing {
     /// Returns the state of a thread that has recorded nothing. Takes no memory.
-    pub fn at_start(alloc: Global) -> Standing
+    pub(crate) fn at_start(alloc: Global) -> Standing
         ensures { result ≡ standing_at_start }
     {
         Standing {
@@ -96,7 +96,7 @@ impl Standing {
 
     /// Changes the state to that after a record with this body, in a trace where regions may lie inside others
     /// or not. Fails only where a root begins, when out of memory, and changes nothing then.
-    pub fn advance(&mut self, body: &Body, nests: bool) -> Result<(), AllocError>
+    pub(crate) fn advance(&mut self, body: &Body, nests: bool) -> Result<(), AllocError>
         ensures advanced { OnOk result (self.new ≡ next_standing nests self.old body.now) }
         ensures unchanged { OnErr result (self.new ≡ self.old) }
         ensures infallible { begun_root body.now ≡ None → IsOk result }
@@ -151,7 +151,7 @@ impl Standing {
 
     /// Returns whether the record comes in its place and is of the task that runs, as far as it must be, and
     /// ends no root but the innermost.
-    pub fn fits(&self, body: &Body) -> bool
+    pub(crate) fn fits(&self, body: &Body) -> bool
         ensures { result ≡ fits self.now body.now }
     {
         self.is_in_place(body) && self.runs_its_task(body) && self.ends_innermost(body)
@@ -190,7 +190,7 @@ impl Standing {
     }
 
     /// Returns whether no parallel region, member or initial task begins inside a parallel region.
-    pub fn is_outside(&self, body: &Body) -> bool
+    pub(crate) fn is_outside(&self, body: &Body) -> bool
         ensures { result ≡ is_outside self.now body.now }
     {
         let is_initial = self.is_initial();

@@ -86,13 +86,6 @@ impl TaskData {
         self.state
     }
 
-    /// Returns the turn that it began last, if it has begun one.
-    pub fn begun_turn(&self) -> Option<u32>
-        ensures { result ≡ self.now.turn }
-    {
-        self.turn
-    }
-
     /// Returns what a record that finishes it now must claim: its root, its path from there, and how many
     /// children it has.
     pub fn claim(&self) -> &Claim
@@ -109,13 +102,6 @@ impl TaskData {
             Origin::Explicit(parent) => Some(parent),
             Origin::Root(_) => None,
         }
-    }
-
-    /// Returns the flags with which it was created, or began.
-    pub fn flags(&self) -> TaskFlags
-        ensures { result ≡ self.now.flags }
-    {
-        self.flags
     }
 
     /// Returns the kinds of its open regions, the innermost last.
@@ -217,7 +203,7 @@ impl TaskData {
 
     /// Returns the entry that the ledger gets when the part of the task is finished on the thread, and the
     /// claim of its record.
-    pub fn finish(&self, thread: u8, part: Part) -> Result<(Entry, BoxedClaim), AllocError>
+    pub(crate) fn finish(&self, thread: u8, part: Part) -> Result<(Entry, BoxedClaim), AllocError>
         ensures entry { IfOk result (λ made. made.0 ≡ entry_of_part thread part self.now) }
         ensures claim { IfOk result (λ made. made.1 ≡ self.now.claim) }
         ensures short { IfOk result (λ made. (length made.0.path ≤ 1024) × (length made.1.path ≤ 1024)) }
@@ -243,7 +229,7 @@ impl TaskData {
 // What a call asks about a task.
 impl TaskData {
     /// Returns the place of the task as a root, if it is one.
-    pub fn place(&self) -> Option<TeamPlace>
+    pub(crate) fn place(&self) -> Option<TeamPlace>
         ensures { result ≡ place_of self.now.origin }
     {
         match self.origin {
@@ -290,14 +276,14 @@ impl TaskData {
     }
 
     /// Returns the state after the task stops or is fulfilled with this status, if that is allowed.
-    pub fn state_stopped(&self, status: Status) -> Option<State>
+    pub(crate) fn state_stopped(&self, status: Status) -> Option<State>
         ensures { result ≡ state_moved self.now (states.Stopped status) }
     {
         self.state_moved(Move::Stopped(status))
     }
 
     /// Returns the state after the task runs next, if that is allowed.
-    pub fn state_started(&self) -> Option<State>
+    pub(crate) fn state_started(&self) -> Option<State>
         ensures { result ≡ state_moved self.now states.Started }
     {
         self.state_moved(Move::Started)
@@ -330,14 +316,14 @@ impl TaskData {
     }
 
     /// Returns the turn in which the task is, or 0 if it has begun none.
-    pub fn turn(&self) -> u32
+    pub(crate) fn turn(&self) -> u32
         ensures { result ≡ current_turn self.now }
     {
         self.turn.unwrap_or(0)
     }
 
     /// Returns the turn that the task begins next, if it is a number of 32 bits.
-    pub fn next_turn(&self) -> Option<u32>
+    pub(crate) fn next_turn(&self) -> Option<u32>
         ensures { result ≡ turn_begun_next self.now }
     {
         match self.turn {
