@@ -30,7 +30,7 @@ use Rattle.ompt_events.proofs.PlaceLemmas.{none_from_test, at_get, get_at}
 use Rattle.ompt_events.proofs.ListLemmas.{get_within}
 use Rattle.credit_ledger.proofs.EntryLemmas.{get_take}
 use Rattle.callbacks.specs.Begun.{begins_it, begins_one, has_begun, has_begun_one}
-use Rattle.callbacks.specs.Standing.{Standing, standing_of, innermost, is_outside, begins_own_region}
+use Rattle.callbacks.specs.Standing.{Standing, standing_of, innermost, is_outside, begins_own_region, allows}
 use Rattle.callbacks.specs.Closed.{ClosedView, AreClosed}
 use Rattle.callbacks.specs.Gathered.{gathered, HaveOwnThreads}
 use Rattle.callbacks.proofs.GatherLemmas.{IsGathered, from_buffer, in_gathered, follows_of, buffer_of}
@@ -170,104 +170,75 @@ none_open : (roots : List ℕ) → slice_get roots 0 ≡ None → roots ≡ []
 none_open [] none = refl
 none_open (root ∷ roots) none = absurd (none-some root (sym none))
 
--- ---- in the gathered trace
+-- ---- by the records of a thread before a record
 
--- the records of the thread before a record, and the state of the thread there
-abbrev own_before : (closed : ClosedView) (i : ℕ) (r : Record) → IsGathered closed.buffers i r → List Record
-own_before closed i r from = take from.place from.buffer.records
+-- one of them stands before it, with this body
+pub record IsEarlier (rs : List Record) (i : ℕ) (r : Record) (body : Body) : Type 0 where
+  pub place : ℕ
+  pub other : Record
+  pub before : place < i
+  pub stands : slice_get rs place ≡ Some other
+  pub same_thread : other.thread ≡ r.thread
+  pub has : other.body ≡ body
 
-abbrev stood : (closed : ClosedView) (i : ℕ) (r : Record) → IsGathered closed.buffers i r → Standing
-stood closed i r from = standing_of (own_before closed i r from)
+-- they allow the record, and the thread's walk there is theirs
+pub record IsAllowedBy (rs : List Record) (i : ℕ) (r : Record) (own : List Record) : Type 0 where
+  pub allowed : allows r.nests own r.body ≡ true
+  pub walk : walk_of r.thread (take i rs) ≡ (standing_of own).walk
+  pub earlier : (p : ℕ) (q : Record) → slice_get own p ≡ Some q → IsEarlier rs i r q.body
 
--- a record of the thread before it stands before it in the trace
-record IsEarlier (closed : ClosedView) (i : ℕ) (r q : Record) : Type 0 where
-  place : ℕ
-  before : place < i
-  stands : slice_get (gathered closed.buffers) place ≡ Some q
-  same_thread : q.thread ≡ r.thread
+-- so it is with each record
+abbrev pub AreAllowed : List Record → Type 0
+AreAllowed rs = (i : ℕ) (r : Record) → slice_get rs i ≡ Some r → (own : List Record) × IsAllowedBy rs i r own
 
-earlier : (closed : ClosedView) (i : ℕ) (r : Record) → AreClosed closed
-    → (from : IsGathered closed.buffers i r) → (p : ℕ) (q : Record)
-    → slice_get (own_before closed i r from) p ≡ Some q → IsEarlier closed i r q
-earlier closed i r are from p q is =
-    let (below, there) = get_take from.buffer.records from.place p q is in
-    let k = length (gathered (take from.number closed.buffers)) + p in
-    record {
-      place = k;
-      before = omega (arith, below, from.here);
-      stands = in_gathered closed.buffers from.number p from.buffer q from.stands there;
-      same_thread =
-          ((buffer_of closed i r are from).orderly p q there).thread_is
-          ∙ sym (follows_of closed i r are from).thread_is;
-    }
+at_earlier : {Val : Type 0} (f : Body → Option Val) (rs : List Record) (i : ℕ) (r : Record) (body : Body)
+    (early : IsEarlier rs i r body) → at f rs early.place ≡ f body
+at_earlier f rs i r body early = at_get f rs early.place early.other early.stands ∙ ap f early.has
 
-walk_at : (closed : ClosedView) (i : ℕ) (r : Record) → AreClosed closed → HaveOwnThreads closed.buffers
-    → (from : IsGathered closed.buffers i r)
-    → walk_of r.thread (take i (gathered closed.buffers)) ≡ (stood closed i r from).walk
-walk_at closed i r are apart from =
-    ap (fold after_record threads.at_start) (buffer_before closed i r are apart from)
-    ∙ sym (walk_along (own_before closed i r from))
+outside_of : (rs : List Record) (i : ℕ) (r : Record) (own : List Record) → IsAllowedBy rs i r own
+    → r.nests ≡ false → is_outside (standing_of own) r.body ≡ true
+outside_of rs i r own by flat = allowed_outside r.nests own r.body flat by.allowed
 
-outside_of : (closed : ClosedView) (i : ℕ) (r : Record) → AreClosed closed
-    → (from : IsGathered closed.buffers i r) → r.nests ≡ false
-    → is_outside (stood closed i r from) r.body ≡ true
-outside_of closed i r are from flat =
-    allowed_outside r.nests (own_before closed i r from) r.body flat (follows_of closed i r are from).allowed
-
-begun_initially : (closed : ClosedView) (i : ℕ) (r : Record) (task : ℕ) → AreClosed closed
-    → (from : IsGathered closed.buffers i r) → innermost (stood closed i r from) ≡ Some task
-    → slice_get (stood closed i r from).initial 0 ≡ Some true → IsInitial (gathered closed.buffers) task
-begun_initially closed i r task are from is kind =
-    let own = own_before closed i r from in
+begun_initially : (rs : List Record) (i : ℕ) (r : Record) (own : List Record) (task : ℕ)
+    → IsAllowedBy rs i r own → innermost (standing_of own) ≡ Some task
+    → slice_get (standing_of own).initial 0 ≡ Some true → IsInitial rs task
+begun_initially rs i r own task by is kind =
     let (p, q, there, begins) = (kinds_along own).begun 0 task is kind in
-    let early = earlier closed i r are from p q there in
-    (early.place, at_get begun_initial (gathered closed.buffers) early.place q early.stands ∙ begins)
+    let early = by.earlier p q there in
+    (early.place, at_earlier begun_initial rs i r q.body early ∙ begins)
 
 -- ---- where no region may lie inside another one
 
-not_nested : (closed : ClosedView) (i : ℕ) → AreClosed closed → HaveOwnThreads closed.buffers
-    → AreMadeOnce (gathered closed.buffers) → IsNested (gathered closed.buffers) i → ⊥
-not_nested closed i are apart once (forked_inside task parallel barred forks other) =
-    let (r, is, forks_it) = get_at forked (gathered closed.buffers) i (task, parallel) forks in
-    let from = from_buffer closed.buffers i r is in
-    let flat = nests_get (gathered closed.buffers) i r false is barred in
-    let outside = outside_of closed i r are from flat in
-    let (inner, kind) = outside_forked (stood closed i r from) r.body task parallel outside forks_it in
-    other (begun_initially closed i r task are from inner kind)
-not_nested closed i are apart once (joined_inside m walk outer barred joins (r, is, walk_is) top member) =
-    let from = from_buffer closed.buffers i r is in
-    let s = stood closed i r from in
-    let flat = nests_get (gathered closed.buffers) i r false is barred in
-    let outside = outside_of closed i r are from flat in
-    let joins_it = sym (at_get joined (gathered closed.buffers) i r is) ∙ joins in
+not_nested : (rs : List Record) (i : ℕ) → AreAllowed rs → AreMadeOnce rs → IsNested rs i → ⊥
+not_nested rs i are once (forked_inside task parallel barred forks other) =
+    let (r, is, forks_it) = get_at forked rs i (task, parallel) forks in
+    let (own, by) = are i r is in
+    let outside = outside_of rs i r own by (nests_get rs i r false is barred) in
+    let (inner, kind) = outside_forked (standing_of own) r.body task parallel outside forks_it in
+    other (begun_initially rs i r own task by inner kind)
+not_nested rs i are once (joined_inside m walk outer barred joins (r, is, walk_is) top member) =
+    let (own, by) = are i r is in
+    let s = standing_of own in
+    let outside = outside_of rs i r own by (nests_get rs i r false is barred) in
+    let joins_it = sym (at_get joined rs i r is) ∙ joins in
     let none = outside_joined s r.body m outside joins_it in
     let inner : innermost s ≡ Some outer =
-    ap (λ (w : Walk). slice_get w.roots 0) (sym (walk_is ∙ walk_at closed i r are apart from)) ∙ top in
-    let kinds = kinds_along (own_before closed i r from) in
+    ap (λ (w : Walk). slice_get w.roots 0) (sym (walk_is ∙ by.walk)) ∙ top in
     let within = slice_get_within s.walk.roots 0 outer inner in
-    let (b, some) = get_within s.initial 0 (omega (arith, within, kinds.as_long)) in
+    let (b, some) = get_within s.initial 0 (omega (arith, within, (kinds_along own).as_long)) in
     let kind = no_member_found (slice_get s.initial 0) b some none in
-    initial_no_member (gathered closed.buffers) outer once
-    (begun_initially closed i r outer are from inner kind) member
-not_nested closed i are apart once (initial_inside task walk barred begins (r, is, walk_is) some) =
-    let from = from_buffer closed.buffers i r is in
-    let s = stood closed i r from in
-    let flat = nests_get (gathered closed.buffers) i r false is barred in
-    let outside = outside_of closed i r are from flat in
-    let begins_it = sym (at_get begun_initial (gathered closed.buffers) i r is) ∙ begins in
+    initial_no_member rs outer once (begun_initially rs i r own outer by inner kind) member
+not_nested rs i are once (initial_inside task walk barred begins (r, is, walk_is) some) =
+    let (own, by) = are i r is in
+    let s = standing_of own in
+    let outside = outside_of rs i r own by (nests_get rs i r false is barred) in
+    let begins_it = sym (at_get begun_initial rs i r is) ∙ begins in
     let none = outside_initial s r.body task outside begins_it in
-    some (ap (λ (w : Walk). w.roots) (walk_is ∙ walk_at closed i r are apart from)
-    ∙ none_open s.walk.roots none)
+    some (ap (λ (w : Walk). w.roots) (walk_is ∙ by.walk) ∙ none_open s.walk.roots none)
 
-pub none_nested_where_once : (closed : ClosedView) → AreClosed closed → HaveOwnThreads closed.buffers
-    → AreMadeOnce (gathered closed.buffers) → IsFreeOf (gathered closed.buffers) NestedParallel
-none_nested_where_once closed are apart once i (nested_parallel nested) =
-    not_nested closed i are apart once nested
-
-pub none_nested : (closed : ClosedView) → AreClosed closed → HaveOwnThreads closed.buffers
-    → IsFreeOf (gathered closed.buffers) CreatedTwice → IsFreeOf (gathered closed.buffers) NestedParallel
-none_nested closed are apart free =
-    none_nested_where_once closed are apart (λ i again. free i (created_twice again))
+pub none_nested_where_allowed : (rs : List Record) → AreAllowed rs → AreMadeOnce rs
+    → IsFreeOf rs NestedParallel
+none_nested_where_allowed rs are once i (nested_parallel nested) = not_nested rs i are once nested
 
 -- ---- where regions may lie inside others
 
@@ -297,46 +268,38 @@ begins_some task None is = absurd (false≢true is)
 begins_some task (Some (t, p)) is = (p, ap (λ x. Some (x, p)) (eqb-true t task is))
 
 -- a task that is current there begins the region by an earlier record of the thread
-begun_there : (closed : ClosedView) (i : ℕ) (r q : Record) (walk : Walk) (task parallel k : ℕ)
-    → AreClosed closed → (from : IsGathered closed.buffers i r)
-    → slice_get (gathered closed.buffers) i ≡ Some r → walk.current ≡ Some task
-    → slice_get (own_before closed i r from) k ≡ Some q → forked q.body ≡ Some (task, parallel)
-    → HasBegun (gathered closed.buffers) i walk parallel
-begun_there closed i r q walk task parallel k are from is runs there begins =
-    let early = earlier closed i r are from k q there in (
+begun_there : (rs : List Record) (i : ℕ) (r q : Record) (own : List Record) (walk : Walk)
+    (task parallel k : ℕ) → IsAllowedBy rs i r own → slice_get rs i ≡ Some r → walk.current ≡ Some task
+    → slice_get own k ≡ Some q → forked q.body ≡ Some (task, parallel) → HasBegun rs i walk parallel
+begun_there rs i r q own walk task parallel k by is runs there begins =
+    let early = by.earlier k q there in (
       early.place,
       task,
       early.before,
       ap (option_map (λ (x : Record). x.thread)) early.stands ∙ ap Some early.same_thread
           ∙ sym (ap (option_map (λ (x : Record). x.thread)) is),
       runs,
-      at_get forked (gathered closed.buffers) early.place q early.stands ∙ begins,
+      at_earlier forked rs i r q.body early ∙ begins,
     )
 
 -- the current task begins the region, or one, by the records of the thread
-own_region : (closed : ClosedView) (i : ℕ) (r : Record) (walk : Walk) (found : Option ℕ) (parallel : ℕ)
-    → AreClosed closed → (from : IsGathered closed.buffers i r)
-    → slice_get (gathered closed.buffers) i ≡ Some r → walk.current ≡ found
-    → has_begun (own_before closed i r from) found parallel ≡ true
-    → HasBegun (gathered closed.buffers) i walk parallel
-own_region closed i r walk None parallel are from is runs begun = absurd (false≢true begun)
-own_region closed i r walk (Some task) parallel are from is runs begun =
-    let (k, q, there, holds) =
-    found_at (λ (x : Record). begins_it task parallel x.body) (own_before closed i r from) begun in
-    begun_there closed i r q walk task parallel k are from is runs there
+own_region : (rs : List Record) (i : ℕ) (r : Record) (own : List Record) (walk : Walk) (found : Option ℕ)
+    (parallel : ℕ) → IsAllowedBy rs i r own → slice_get rs i ≡ Some r → walk.current ≡ found
+    → has_begun own found parallel ≡ true → HasBegun rs i walk parallel
+own_region rs i r own walk None parallel by is runs begun = absurd (false≢true begun)
+own_region rs i r own walk (Some task) parallel by is runs begun =
+    let (k, q, there, holds) = found_at (λ (x : Record). begins_it task parallel x.body) own begun in
+    begun_there rs i r q own walk task parallel k by is runs there
     (begins_this task parallel (forked q.body) holds)
 
-own_league : (closed : ClosedView) (i : ℕ) (r : Record) (walk : Walk) (found : Option ℕ)
-    → AreClosed closed → (from : IsGathered closed.buffers i r)
-    → slice_get (gathered closed.buffers) i ≡ Some r → walk.current ≡ found
-    → has_begun_one (own_before closed i r from) found ≡ true
-    → (parallel : ℕ) × HasBegun (gathered closed.buffers) i walk parallel
-own_league closed i r walk None are from is runs begun = absurd (false≢true begun)
-own_league closed i r walk (Some task) are from is runs begun =
-    let (k, q, there, holds) =
-    found_at (λ (x : Record). begins_one task x.body) (own_before closed i r from) begun in
+own_league : (rs : List Record) (i : ℕ) (r : Record) (own : List Record) (walk : Walk) (found : Option ℕ)
+    → IsAllowedBy rs i r own → slice_get rs i ≡ Some r → walk.current ≡ found
+    → has_begun_one own found ≡ true → (parallel : ℕ) × HasBegun rs i walk parallel
+own_league rs i r own walk None by is runs begun = absurd (false≢true begun)
+own_league rs i r own walk (Some task) by is runs begun =
+    let (k, q, there, holds) = found_at (λ (x : Record). begins_one task x.body) own begun in
     let (parallel, begins) = begins_some task (forked q.body) holds in
-    (parallel, begun_there closed i r q walk task parallel k are from is runs there begins)
+    (parallel, begun_there rs i r q own walk task parallel k by is runs there begins)
 
 -- what is allowed of a root that begins inside another one
 record IsOwn (own : List Record) (body : Body) : Type 0 where
@@ -357,42 +320,85 @@ own_parts own body allowed inside =
           record { joins = first; leads = second }
     ]
 
-own_of : (closed : ClosedView) (i : ℕ) (r : Record) (walk : Walk) → AreClosed closed
-    → (from : IsGathered closed.buffers i r) → r.nests ≡ true → walk ≡ (stood closed i r from).walk
-    → walk.roots ≢ [] → IsOwn (own_before closed i r from) r.body
-own_of closed i r walk are from nested same some =
-    let own = own_before closed i r from in
-    own_parts own r.body (allowed_own r.nests own r.body nested (follows_of closed i r are from).allowed)
+own_of : (rs : List Record) (i : ℕ) (r : Record) (own : List Record) (walk : Walk) → IsAllowedBy rs i r own
+    → r.nests ≡ true → walk ≡ (standing_of own).walk → walk.roots ≢ [] → IsOwn own r.body
+own_of rs i r own walk by nested same some =
+    own_parts own r.body (allowed_own r.nests own r.body nested by.allowed)
     (λ none. some (ap (λ (w : Walk). w.roots) same ∙ none_open (standing_of own).walk.roots none))
 
-not_misnested : (closed : ClosedView) (i : ℕ) → AreClosed closed → HaveOwnThreads closed.buffers
-    → IsMisnested (gathered closed.buffers) i → ⊥
-not_misnested closed i are apart (other_region m walk nested joins (r, is, walk_is) some other) =
-    let from = from_buffer closed.buffers i r is in
-    let own = own_before closed i r from in
-    let same = walk_is ∙ walk_at closed i r are apart from in
-    let nests = nests_get (gathered closed.buffers) i r true is nested in
-    let parts = own_of closed i r walk are from nests same some in
-    let joins_it = sym (at_get joined (gathered closed.buffers) i r is) ∙ joins in
+not_misnested : (rs : List Record) (i : ℕ) → AreAllowed rs → IsMisnested rs i → ⊥
+not_misnested rs i are (other_region m walk nested joins (r, is, walk_is) some other) =
+    let (own, by) = are i r is in
+    let same = walk_is ∙ by.walk in
+    let parts = own_of rs i r own walk by (nests_get rs i r true is nested) same some in
+    let joins_it = sym (at_get joined rs i r is) ∙ joins in
     let begun = sym (ap (λ o. option_map_or
     (λ (n : Membership). has_begun own (standing_of own).walk.current n.parallel) o true) joins_it)
     ∙ parts.joins in
-    other (own_region closed i r walk (standing_of own).walk.current m.parallel are from is
+    other (own_region rs i r own walk (standing_of own).walk.current m.parallel by is
     (ap (λ (w : Walk). w.current) same) begun)
-not_misnested closed i are apart (other_league task walk nested begins (r, is, walk_is) some other) =
-    let from = from_buffer closed.buffers i r is in
-    let own = own_before closed i r from in
-    let same = walk_is ∙ walk_at closed i r are apart from in
-    let nests = nests_get (gathered closed.buffers) i r true is nested in
-    let parts = own_of closed i r walk are from nests same some in
-    let begins_it = sym (at_get begun_initial (gathered closed.buffers) i r is) ∙ begins in
+not_misnested rs i are (other_league task walk nested begins (r, is, walk_is) some other) =
+    let (own, by) = are i r is in
+    let same = walk_is ∙ by.walk in
+    let parts = own_of rs i r own walk by (nests_get rs i r true is nested) same some in
+    let begins_it = sym (at_get begun_initial rs i r is) ∙ begins in
     let current = (standing_of own).walk.current in
     let begun = sym (ap (λ (o : Option ℕ). is_none o || has_begun_one own current) begins_it)
     ∙ parts.leads in
-    let (parallel, has) = own_league closed i r walk (standing_of own).walk.current are from is
-    (ap (λ (w : Walk). w.current) same) begun in
+    let (parallel, has) =
+    own_league rs i r own walk current by is (ap (λ (w : Walk). w.current) same) begun in
     other parallel has
+
+pub none_misnested_where_allowed : (rs : List Record) → AreAllowed rs → IsFreeOf rs RegionNesting
+none_misnested_where_allowed rs are i (region_nesting nested) = not_misnested rs i are nested
+
+-- ---- in the gathered trace
+
+-- the records of the thread before a record
+abbrev own_before : (closed : ClosedView) (i : ℕ) (r : Record) → IsGathered closed.buffers i r → List Record
+own_before closed i r from = take from.place from.buffer.records
+
+earlier : (closed : ClosedView) (i : ℕ) (r : Record) → AreClosed closed
+    → (from : IsGathered closed.buffers i r) → (p : ℕ) (q : Record)
+    → slice_get (own_before closed i r from) p ≡ Some q → IsEarlier (gathered closed.buffers) i r q.body
+earlier closed i r are from p q is =
+    let (below, there) = get_take from.buffer.records from.place p q is in
+    record {
+      place = length (gathered (take from.number closed.buffers)) + p;
+      other = q;
+      before = omega (arith, below, from.here);
+      stands = in_gathered closed.buffers from.number p from.buffer q from.stands there;
+      same_thread =
+          ((buffer_of closed i r are from).orderly p q there).thread_is
+          ∙ sym (follows_of closed i r are from).thread_is;
+      has = refl;
+    }
+
+gathered_allowed : (closed : ClosedView) → AreClosed closed → HaveOwnThreads closed.buffers
+    → AreAllowed (gathered closed.buffers)
+gathered_allowed closed are apart i r is =
+    let from = from_buffer closed.buffers i r is in
+    let own = own_before closed i r from in (
+      own,
+      record {
+        allowed = (follows_of closed i r are from).allowed;
+        walk = ap (fold after_record threads.at_start) (buffer_before closed i r are apart from)
+            ∙ sym (walk_along own);
+        earlier = earlier closed i r are from;
+      },
+    )
+
+pub none_nested_where_once : (closed : ClosedView) → AreClosed closed → HaveOwnThreads closed.buffers
+    → AreMadeOnce (gathered closed.buffers) → IsFreeOf (gathered closed.buffers) NestedParallel
+none_nested_where_once closed are apart =
+    none_nested_where_allowed (gathered closed.buffers) (gathered_allowed closed are apart)
+
+pub none_nested : (closed : ClosedView) → AreClosed closed → HaveOwnThreads closed.buffers
+    → IsFreeOf (gathered closed.buffers) CreatedTwice → IsFreeOf (gathered closed.buffers) NestedParallel
+none_nested closed are apart free =
+    none_nested_where_once closed are apart (λ i again. free i (created_twice again))
 
 pub none_misnested : (closed : ClosedView) → AreClosed closed → HaveOwnThreads closed.buffers
     → IsFreeOf (gathered closed.buffers) RegionNesting
-none_misnested closed are apart i (region_nesting nested) = not_misnested closed i are apart nested
+none_misnested closed are apart =
+    none_misnested_where_allowed (gathered closed.buffers) (gathered_allowed closed are apart)
