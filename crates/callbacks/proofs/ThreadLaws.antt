@@ -54,7 +54,7 @@ allowed_outside nests own body flat allowed =
     (and_parts (is_outside (standing_of own) body) (is_on_host body)
     (allowed_flat nests own body flat allowed)).0
 
-allowed_on_host : (nests : Bool) (own : List Record) (body : Body) → nests ≡ false
+pub allowed_on_host : (nests : Bool) (own : List Record) (body : Body) → nests ≡ false
     → allows nests own body ≡ true → is_on_host body ≡ true
 allowed_on_host nests own body flat allowed =
     (and_parts (is_outside (standing_of own) body) (is_on_host body)
@@ -73,7 +73,7 @@ pub nests_get : (rs : List Record) (i : ℕ) (r : Record) (b : Bool) → slice_g
 nests_get rs i r b is nests =
     sym (ap (λ (o : Option Record). option_map_or (λ (q : Record). q.nests) o false) is) ∙ nests
 
-not_on_host : (body : Body) (task bits : ℕ) → is_on_host body ≡ true → made body ≡ Some task
+pub not_on_host : (body : Body) (task bits : ℕ) → is_on_host body ≡ true → made body ≡ Some task
     → flags body ≡ Some bits → has_flag bits flag.target ≡ true → ⊥
 not_on_host body task bits host makes given device =
     let on_device = option_map_or (λ b. has_flag b flag.target) (flags body) false in

@@ -441,7 +441,7 @@ stacked script (suc n) task w whole within has =
 
 -- ---- the cause
 
-none_unbegun : (script : ScriptView) (n task : ℕ) (kind : SyncKind) → IsWhole script
+pub none_unbegun : (script : ScriptView) (n task : ℕ) (kind : SyncKind) → IsWhole script
     → EndsNoRegion (whole_script script) n task kind → ⊥
 none_unbegun script n task kind whole ends =
     let inside = at_within region rs n (task, kind, End) ends.ends in

@@ -258,7 +258,7 @@ claim_is script (suc n) task w whole within has =
 -- ---- a finished task creates no more
 
 -- it is gone, or its body has ended and its event is awaited
-abbrev IsOver : Option TaskView → Type 0
+abbrev pub IsOver : Option TaskView → Type 0
 IsOver o = (t : TaskView) → o ≡ Some t → t.state ≡ Detached
 
 -- a task that creates runs
@@ -368,7 +368,7 @@ over_same script n task s whole is over = no_child_more script task n s whole is
         (ap (value (values_at script n)) names ∙ was) in
         false≢true (ap is_running (sym (over v was)) ∙ runs)
 
-all_same : (script : ScriptView) (task n m : ℕ) → IsWhole script → n ≤ m → m ≤ length script.steps
+pub all_same : (script : ScriptView) (task n m : ℕ) → IsWhole script → n ≤ m → m ≤ length script.steps
     → IsMadeByStep (take n script.steps) task → IsOver (values_at script n task)
     → (children_before (whole_script script) task m ≡ children_before (whole_script script) task n)
     × IsOver (values_at script m task)
@@ -421,7 +421,7 @@ detached_after t status.Cancel moved part back = absurd (false≢true back)
 detached_after t status.LateFulfill moved part back = absurd (false≢true back)
 detached_after t status.TaskwaitComplete moved part back = absurd (false≢true back)
 
-finishing_by : (r : RecorderView) (thread : ℕ) (body : Body) (first second : Option TaskView) (task : ℕ)
+pub finishing_by : (r : RecorderView) (thread : ℕ) (body : Body) (first second : Option TaskView) (task : ℕ)
     (part : Part) (claimed : Claim) → call_refusal r body first second ≡ None
     → id_of first ≡ first_given body → finish (recorded_body body first second) ≡ Some (task, part)
     → claim (recorded_body body first second) ≡ Some claimed
@@ -503,7 +503,7 @@ finishing_by r thread _ first second task part claimed accepted id finishes clai
 
 -- ---- the cause
 
-right_claim : (script : ScriptView) (n task : ℕ) (part : Part) (claimed : Claim) → IsWhole script
+pub right_claim : (script : ScriptView) (n task : ℕ) (part : Part) (claimed : Claim) → IsWhole script
     → at finish (whole_script script) n ≡ Some (task, part) → at claim (whole_script script) n ≡ Some claimed
     → IsRightClaim (whole_script script) task claimed
 right_claim script n task part claimed whole finishes claims =
