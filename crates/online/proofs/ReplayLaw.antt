@@ -10,7 +10,7 @@ use Rattle.scripts.proofs.ValueSteps.{IsWhole}
 use Rattle.scripts.proofs.HandOverLemmas.{AreRecords}
 use Rattle.online.specs.Replays.{calls_of, script_of, IsReplayed}
 
-without_first : (thread : ℕ) (rs : List Record)
+pub without_first : (thread : ℕ) (rs : List Record)
     → map without_seen (thread_records rs thread) ≡ thread_records (map without_seen rs) thread
 without_first thread [] = refl
 without_first thread (r ∷ rs) = of (r.thread == thread) (without_first thread rs)

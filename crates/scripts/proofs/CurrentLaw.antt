@@ -42,7 +42,7 @@ use Rattle.scripts.proofs.ValueSteps.{IsWhole, values_at, first_at, second_at, r
 use Rattle.scripts.proofs.ValueSteps.{first_has, second_has, first_id_is}
 
 -- the walk of the thread before a record is that before its step
-pub walk_before : (script : ScriptView) (rs : List Record) (i : ℕ) (x : Record) → (p : IsPlaced script rs i x)
+walk_before : (script : ScriptView) (rs : List Record) (i : ℕ) (x : Record) → (p : IsPlaced script rs i x)
     → walk_of x.thread (take i rs) ≡ walk_at script (step_no script rs i) p.step.thread
 walk_before script rs i x p =
     sym (fold-map after_record without_seen at_start (filter (is_of thread_of x.thread) (take i rs)))
