@@ -145,14 +145,14 @@ pub record IsClaimOf (script : ScriptView) (n task : ℕ) (claimed : Claim) : Ty
   pub path : HasPath (whole_script script) claimed.root task claimed.path
   pub kept_is : claimed.kept ≡ length (children_before (whole_script script) task n)
 
-stop_claim : (t : TaskView) (st : Status) → (after_stop t st).claim ≡ t.claim
+pub stop_claim : (t : TaskView) (st : Status) → (after_stop t st).claim ≡ t.claim
 stop_claim t st = by (state_moved t (states.Stopped st))
   where
     by : (o : Option State) → (option_map_or (in_state t) o t).claim ≡ t.claim
     by None = refl
     by (Some state) = refl
 
-start_claim : (t : TaskView) → (after_start t).claim ≡ t.claim
+pub start_claim : (t : TaskView) → (after_start t).claim ≡ t.claim
 start_claim t = by (state_moved t states.Started) (turn_begun_next t)
   where
     by : (o : Option State) (turn : Option ℕ) → (started_in t o turn).claim ≡ t.claim
@@ -397,7 +397,7 @@ all_same script task n (suc m) whole low within was_made over = elim (cases_lt n
 
 -- ---- a record that finishes a task
 
-detached_after : (t : TaskView) (st : Status) → is_some (state_moved t (states.Stopped st)) ≡ true
+pub detached_after : (t : TaskView) (st : Status) → is_some (state_moved t (states.Stopped st)) ≡ true
     → is_some (status_part st) ≡ true → comes_back st ≡ true → (after_stop t st).state ≡ Detached
 detached_after t status.Detach moved part back =
     by (states.may (nature t) (states.Stopped status.Detach)) t.state moved
