@@ -28,7 +28,8 @@ use Rattle.ompt_events.specs.Flags.{has_flag}
 use Rattle.ompt_events.specs.Names.{demands_next}
 use Rattle.ompt_events.specs.Places.{at, is_own, own_before}
 use Rattle.ompt_events.specs.Records.{running, region, created, creation, started, begun_root, made}
-use Rattle.ompt_events.specs.Regions.{after_region, open_regions, kind_at, is_called_barrier, EndsNoRegion}
+use Rattle.ompt_events.specs.Regions.{after_region, open_regions, kind_at, is_called_barrier}
+use Rattle.ompt_events.specs.Regions.{EndsRegion, EndsNoRegion}
 use Rattle.ompt_events.specs.States.{is_task}
 use Rattle.ompt_events.specs.States as states
 use Rattle.ompt_events.specs.declared.state.State.{State}
@@ -441,12 +442,14 @@ stacked script (suc n) task w whole within has =
 
 -- ---- the cause
 
-pub none_unbegun : (script : ScriptView) (n task : ℕ) (kind : SyncKind) → IsWhole script
-    → EndsNoRegion (whole_script script) n task kind → ⊥
-none_unbegun script n task kind whole ends =
-    let inside = at_within region rs n (task, kind, End) ends.ends in
+-- the end of a region belongs to the begin that is innermost there
+pub region_begun : (script : ScriptView) (n task : ℕ) (kind : SyncKind) → IsWhole script
+    → at region (whole_script script) n ≡ Some (task, kind, End)
+    → (begin : ℕ) × EndsRegion (whole_script script) n task kind begin
+region_begun script n task kind whole ends =
+    let inside = at_within region rs n (task, kind, End) ends in
     let (s, is) = get_within script.steps n (omega (arith, inside, all)) in
-    let says_it = sym (step_says region script n s whole region_called is) ∙ ends.ends in
+    let says_it = sym (step_says region script n s whole region_called is) ∙ ends in
     let (v, was, barred, inner) = step_region script n s task kind End whole is says_it in
     by (open_regions rs task n) refl v (stacked script n task v whole (omega (arith, inside, all)) was)
     (inner refl)
@@ -459,20 +462,33 @@ none_unbegun script n task kind whole ends =
 
     by : (open_now : List ℕ) → open_regions rs task n ≡ open_now → (v : TaskView)
         → IsStack rs open_now v.regions
-        → is_innermost_region v kind ≡ true → ⊥
+        → is_innermost_region v kind ≡ true → (begin : ℕ) × EndsRegion rs n task kind begin
     by [] here v empty inner =
-        false≢true
+        absurd
+        (false≢true
         (sym
         (ap (λ l. option_map_or (λ found. (kinds.ghosts).eq found kind) (slice_get l (length l - 1)) false)
         empty)
-        ∙ inner)
+        ∙ inner))
     by (b ∷ open_now) here v (found, rest, is_so, there, stack) inner =
         let equal : (kinds.ghosts).eq found kind ≡ true =
         sym
         (ap (λ l. option_map_or (λ k. (kinds.ghosts).eq k kind) (slice_get l (length l - 1)) false) is_so
         ∙ ap (λ o. option_map_or (λ k. (kinds.ghosts).eq k kind) o false) (last_region rest found))
-        ∙ inner in
-        ends.none b (ap (λ l. slice_get l 0) here) (there ∙ ap Some (same_kinds found kind equal))
+        ∙ inner in (
+          b,
+          record {
+            ends = ends;
+            innermost = ap (λ l. slice_get l 0) here;
+            same_kind = there ∙ ap Some (same_kinds found kind equal);
+          },
+        )
+
+none_unbegun : (script : ScriptView) (n task : ℕ) (kind : SyncKind) → IsWhole script
+    → EndsNoRegion (whole_script script) n task kind → ⊥
+none_unbegun script n task kind whole ends =
+    let (begin, is) = region_begun script n task kind whole ends.ends in
+    ends.none begin is.innermost is.same_kind
 
 none_barrier : (script : ScriptView) (n task : ℕ) (kind : SyncKind) (endpoint : Endpoint) → IsWhole script
     → at region (whole_script script) n ≡ Some (task, kind, endpoint) → is_called_barrier kind ≡ true
