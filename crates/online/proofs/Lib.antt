@@ -24,6 +24,12 @@ mod LiveLemmas
 mod CallLemmas
 mod TakenLemmas
 pub mod ReplayLaw
+pub mod ReplayRecords
+pub mod ReplayThreads
+pub mod ReplayNames
+pub mod ReplayOrder
+pub mod ReplayEnds
+pub mod ReplayFollows
 mod GroupLemmas
 mod GroupSteps
 mod GroupEnds

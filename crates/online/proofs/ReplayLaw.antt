@@ -1,11 +1,10 @@
 -- What records do not show that recorders would make.
-use Rattle.std.proofs.Common.{◌≡◌, ◌∙◌, ◌==◌, ℕ, Bool, true, false, cond, List, [], ◌∷◌, length, take, refl}
+use Rattle.std.proofs.Common.{◌≡◌, ◌∙◌, ◌==◌, ℕ, Bool, true, false, cond, List, [], ◌∷◌, length, refl}
 use Rattle.std.proofs.Common.{sym, ap, arith}
-use Rattle.std.specs.Prelude.{map, filter}
+use Rattle.std.specs.Prelude.{map}
 use Rattle.std.proofs.lemmas.List.{take_all}
 use Rattle.ompt_events.specs.declared.records.Record.{Record}
-use Rattle.scripts.specs.Scripts.{ScriptView}
-use Rattle.scripts.specs.Progress.{Progress, Values, progress, thread_records, without_seen, own_records}
+use Rattle.scripts.specs.Progress.{Values, progress, thread_records, without_seen}
 use Rattle.scripts.proofs.ValueSteps.{IsWhole}
 use Rattle.scripts.proofs.HandOverLemmas.{AreRecords}
 use Rattle.online.specs.Replays.{calls_of, script_of, IsReplayed}

@@ -1,21 +1,20 @@
 -- One record more, as the call of one more step.
-use Rattle.std.proofs.Common.{◌≡◌, ◌∙◌, ℕ, ◌<◌, ◌≤◌, ◌+◌, Bool, true, false, cond, List, [], ◌∷◌, ◌++◌}
+use Rattle.std.proofs.Common.{◌≡◌, ◌∙◌, ℕ, ◌<◌, ◌≤◌, ◌+◌, Bool, true, cond, List, [], ◌∷◌, ◌++◌}
 use Rattle.std.proofs.Common.{length}
 use Rattle.std.proofs.Common.{take, Option, Some, None, refl, sym, ap, subst, arith, inl, inr}
-use Rattle.std.specs.Prelude.{slice_get, is_some, option_and_then, map, fold, ◌==◌}
-use Rattle.std.proofs.lemmas.Bool.{cases_lt, cases_eq, eq-eqb, ne_eqb}
-use Rattle.std.proofs.lemmas.Option.{slice_get_within, same_Some, none-some}
+use Rattle.std.specs.Prelude.{slice_get, is_some, option_and_then, map}
+use Rattle.std.proofs.lemmas.Option.{slice_get_within}
 use Rattle.std.proofs.lemmas.List.{length_push, take-append-le, take_at, map-append}
 use Rattle.std.proofs.lemmas.List.Sums.{fold_push, sum_by_push}
 use Rattle.ompt_events.specs.declared.records.Record.{Record}
 use Rattle.ompt_events.specs.declared.records.Body.{Body}
 use Rattle.ompt_events.specs.Records.{made}
 use Rattle.ompt_events.specs.Limits.{max_records, max_tasks}
-use Rattle.ompt_events.proofs.ListLemmas.{pushed_cases, get_last}
+use Rattle.ompt_events.proofs.ListLemmas.{pushed_cases}
 use Rattle.callbacks.specs.declared.fault.CallFault.{CallFault}
 use Rattle.scripts.specs.declared.script.Step.{Step}
-use Rattle.scripts.specs.Scripts.{ScriptView, IsScript, step_of, may_follow, task_count, life, life_after}
-use Rattle.scripts.specs.Progress.{Progress, Values, value, values_after, progress, progress_to}
+use Rattle.scripts.specs.Scripts.{IsScript, step_of, may_follow, task_count}
+use Rattle.scripts.specs.Progress.{Progress, Values, value, values_after, progress}
 use Rattle.scripts.specs.Progress.{progress_after}
 use Rattle.scripts.specs.Progress.{progress_with, no_progress, step_refusal, refused_at, thread_records}
 use Rattle.scripts.specs.Progress.{without_seen, recorder_with}
@@ -26,7 +25,7 @@ use Rattle.ompt_events.specs.States.{is_task}
 use Rattle.ompt_events.specs.declared.records.Body.TheVariants.{ThreadBegin, ThreadEnd, ParallelBegin}
 use Rattle.ompt_events.specs.declared.records.Body.TheVariants.{ParallelEnd, ImplicitTask, TaskCreate}
 use Rattle.ompt_events.specs.declared.records.Body.TheVariants.{Dependences, TaskSchedule, SyncRegion, Cancel}
-use Rattle.online.specs.Replays.{call_of, calls_of, and_call, script_of, IsReplayed, Makes, own_of, call_on}
+use Rattle.online.specs.Replays.{call_of, calls_of, and_call, IsReplayed, Makes, own_of, call_on}
 
 -- ---- one call more
 

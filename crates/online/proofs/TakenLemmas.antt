@@ -1,28 +1,25 @@
 -- What is kept of the records so far, behind one record more.
-use Rattle.std.proofs.Common.{◌≡◌, ◌≢◌, ◌∙◌, ◌==◌, ℕ, ◌<◌, ◌≤◌, ◌+◌, Bool, true, false, cond, List, [], ◌∷◌}
+use Rattle.std.proofs.Common.{◌≡◌, ◌≢◌, ◌∙◌, ◌==◌, ℕ, ◌<◌, ◌≤◌, ◌+◌, true, false, cond, List, [], ◌∷◌}
 use Rattle.std.proofs.Common.{◌++◌}
 use Rattle.std.proofs.Common.{length, set, Vec, Global, Option, Some, None, refl, sym, ap, subst, arith, inl}
 use Rattle.std.proofs.Common.{inr}
-use Rattle.std.specs.Prelude.{is_some, slice_get, map, filter, fold, ◌||◌}
+use Rattle.std.specs.Prelude.{is_some, slice_get, map, fold, ◌||◌}
 use Rattle.std.specs.Ordering.{nat_cmp}
 use Rattle.std.specs.BTreeSet.{contains}
 use Rattle.std.proofs.lemmas.Bool.{cases_eq, eq-eqb, ne_eqb, false≢true}
-use Rattle.std.proofs.lemmas.Option.{none-some, same_Some, slice_get_within}
+use Rattle.std.proofs.lemmas.Option.{same_Some, slice_get_within}
 use Rattle.std.proofs.lemmas.List.{length_push, map-append, append-nil}
 use Rattle.std.proofs.lemmas.List.Elements.{filter-append}
 use Rattle.std.proofs.lemmas.List.Sums.{fold_push, sum_by_push}
 use Rattle.ompt_events.specs.declared.records.Record.{Record}
-use Rattle.ompt_events.specs.declared.records.Body.{Body}
 use Rattle.ompt_events.specs.Records.{made}
 use Rattle.ompt_events.specs.States.{is_task}
 use Rattle.ompt_events.specs.Limits.{max_records, max_tasks}
-use Rattle.callbacks.specs.Standing.{allows}
 use Rattle.scripts.specs.declared.script.Step.{Step}
 use Rattle.scripts.specs.declared.lives.Life.{Life}
-use Rattle.scripts.specs.declared.lives.Life.TheVariants.{Live}
 use Rattle.scripts.specs.Scripts.{life, life_after, task_count, step_of, may_follow}
 use Rattle.scripts.specs.Progress.{thread_records, without_seen}
-use Rattle.scripts.specs.RunCalls.{first_given, second_given}
+use Rattle.scripts.specs.RunCalls.{first_given}
 use Rattle.task_tree.proofs.LinkLemmas.{get_set_same, get_set_other}
 use Rattle.online.specs.declared.thread.Thread.{Thread}
 use Rattle.online.specs.declared.replay.Replay.{Replay}

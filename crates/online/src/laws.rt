@@ -18,10 +18,12 @@ ghost use Rattle.ompt_events.specs.Violations.{IsRequired};
 ghost use Rattle.ompt_events.specs.Causes.{HasCause, IsFreeOf};
 ghost use Rattle.ompt_events.specs.Linearization.{IsLinearization, IsGreedy};
 ghost use Rattle.ompt_events.specs.declared.cause.Cause.TheVariants.{NotCurrent, TurnGap, RegionOrder};
-ghost use Rattle.ompt_events.specs.Causes.{ShowsNowhere};
+ghost use Rattle.ompt_events.specs.declared.cause.Cause.TheVariants.{SeqGap, Moved, NestedParallel, RegionNesting, TargetTask};
+ghost use Rattle.ompt_events.specs.Causes.{ShowsNowhere, IsMadeAgain};
 ghost use Rattle.scripts.specs.Progress.{Values};
 ghost use Rattle.online.specs.Replays.{IsReplayed};
-ghost use Rattle.online.specs.Lengths.{MayFollow};
+ghost use Rattle.online.specs.Lengths.{MayFollow, NamesLength};
+ghost use Rattle.online.specs.Waits as waits;
 ghost use Rattle.online.specs.Online.{IsInOrder, IsWatchable, is_told_at_once, stays_told};
 ghost use Rattle.online.specs.declared.kin.Kin.{Kin};
 ghost use Rattle.online.specs.declared.team.Team.{Team};
@@ -199,6 +201,47 @@ pub fn replayed_records_show_no_cause_of_tasks()
         → ShowsNowhere rs RegionOrder }
     ensures claimed { (nests : Bool) (rs : List Record) (values : Values) → IsReplayed nests rs values
         → ShowsNowhere rs ShareWrong }
+{}
+
+/// Records that recorders would make show none of the causes that speak of threads and their records: numbers
+/// rise by one (`numbered`), no task is made twice (`once`), none moves without turns (`unmoved`), regions lie
+/// inside others only where they may (`flat`, `nested`), and no task is on a device where none may be
+/// (`on_host`). By file order too, regions end as they began (`closed`), and claims are right (`claimed`).
+pub fn replayed_records_show_no_cause_of_threads()
+    ensures numbered { (nests : Bool) (rs : List Record) (values : Values) → IsReplayed nests rs values
+        → IsFreeOf rs SeqGap }
+    ensures once { (nests : Bool) (rs : List Record) (values : Values) → IsReplayed nests rs values
+        → (i : ℕ) → IsMadeAgain rs i → ⊥ }
+    ensures unmoved { (nests : Bool) (rs : List Record) (values : Values) → IsReplayed nests rs values
+        → IsFreeOf rs Moved }
+    ensures flat { (nests : Bool) (rs : List Record) (values : Values) → IsReplayed nests rs values
+        → IsFreeOf rs NestedParallel }
+    ensures nested { (nests : Bool) (rs : List Record) (values : Values) → IsReplayed nests rs values
+        → IsFreeOf rs RegionNesting }
+    ensures on_host { (nests : Bool) (rs : List Record) (values : Values) → IsReplayed nests rs values
+        → IsFreeOf rs TargetTask }
+    ensures closed { (nests : Bool) (rs : List Record) (values : Values) → IsReplayed nests rs values
+        → IsFreeOf rs RegionOrder }
+    ensures claimed { (nests : Bool) (rs : List Record) (values : Values) → IsReplayed nests rs values
+        → IsFreeOf rs ShareWrong }
+{}
+
+/// What a record says of those before it, where recorders would make all of them.
+///
+/// - `comes`: it passes the tests by which records are watchable, if it names a length that the ledger may have.
+/// - `placed`: each record lists the dependences that its thread awaits.
+/// - `unfinished`: no task has a record behind the end of its body.
+/// - `follows`: it may follow the others, as the steps of `Waits` ask.
+pub fn replayed_records_follow_each_other()
+    ensures comes { (nests : Bool) (rs : List Record) (r : Record) (values : Values)
+        → IsReplayed nests (rs ++ r ∷ []) values → NamesLength rs r → ComesAfter rs r }
+    ensures placed { (nests : Bool) (rs : List Record) (values : Values) → IsReplayed nests rs values
+        → EachRecord ListsAwaited rs }
+    ensures unfinished { (nests : Bool) (rs : List Record) (values : Values) → IsReplayed nests rs values
+        → EachRecord IsUnfinishedAfter rs }
+    ensures follows { (nests : Bool) (rs : List Record) (r : Record) (values : Values)
+        → IsReplayed nests (rs ++ r ∷ []) values → IsWatchable (rs ++ r ∷ [])
+        → IsFreeOf (rs ++ r ∷ []) CreatedTwice → waits.MayFollow rs r }
 {}
 
 /// Some records need no step of what is kept for the ends of taskwaits, taskgroups and barriers (`Waits`).

@@ -1,7 +1,5 @@
-use Rattle.std.proofs.Common.{◌≡◌, ◌∙◌, ◌==◌, ℕ, cond, Some, None, refl, sym, ap, subst}
+use Rattle.std.proofs.Common.{◌∙◌, ◌==◌, cond, Some, sym, ap, subst}
 use Rattle.ompt_events.specs.declared.records.Body.{Body}
-use Rattle.std.proofs.lemmas.Bool.{eq-eqb, true≢false}
-use Rattle.ompt_events.specs.declared.records.Body.TheVariants.{TaskCreate}
 use Rattle.online.specs.Tasks.{value_of}
 use Rattle.online.specs.Replays.{Takes, MayTake}
 use Rattle.online.proofs.CallLemmas.{create_takes}

@@ -1,10 +1,7 @@
-use Rattle.std.proofs.Common.{◌≡◌, ◌∙◌, ℕ, cond, Some, None, refl, sym, ap, subst}
+use Rattle.std.proofs.Common.{◌≡◌, ◌∙◌, None, refl, sym, ap, subst}
 use Rattle.ompt_events.specs.declared.records.Body.{Body}
-use Rattle.ompt_events.specs.declared.records.Body.TheVariants.{ImplicitTask}
-use Rattle.ompt_events.specs.declared.names.Endpoint.TheVariants.{End}
 use Rattle.std.proofs.lemmas.Option.{same_Some}
 use Rattle.packed_trace.specs.Named.{subject}
-use Rattle.callbacks.specs.Tasks.{end_of_root}
 use Rattle.online.specs.Tasks.{value_of, IsChanged}
 use Rattle.online.specs.Replays.{Takes, MayTake}
 use Rattle.online.proofs.CallLemmas.{end_takes}

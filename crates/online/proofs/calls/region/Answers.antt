@@ -1,8 +1,6 @@
-use Rattle.std.proofs.Common.{◌≡◌, ◌∙◌, ◌==◌, ℕ, cond, true, Some, None, refl, sym, ap, subst}
-use Rattle.ompt_events.specs.declared.records.Body.{Body}
+use Rattle.std.proofs.Common.{◌∙◌, sym, subst}
 use Rattle.ompt_events.specs.declared.names.Endpoint.{Endpoint}
 use Rattle.ompt_events.specs.declared.records.Body.TheVariants.{SyncRegion}
-use Rattle.online.specs.declared.tasks.Tasks.{Tasks}
 use Rattle.online.specs.Replays.{Takes, MayTake}
 use Rattle.online.proofs.CallLemmas.{region_begin_takes, region_end_takes, region_in_one_takes}
 use Rattle.online.proofs.calls.region.Goals as goal

@@ -1,12 +1,10 @@
-use Rattle.std.proofs.Common.{◌≡◌, ◌∙◌, ◌≤◌, ℕ, List, length, true, Option, Some, None, refl, sym, ap, subst}
-use Rattle.std.specs.Prelude.{is_some}
-use Rattle.std.proofs.lemmas.Bool.{false≢true, leb-true}
+use Rattle.std.proofs.Common.{◌∙◌, ◌≤◌, List, length, sym, subst}
+use Rattle.std.proofs.lemmas.Bool.{leb-true}
 use Rattle.std.specs.Prelude.{IsTrue}
 use Rattle.std.proofs.lemmas.Result.{IfOk-weaker}
 use Rattle.ompt_events.specs.declared.records.Record.{Record}
 use Rattle.ompt_events.specs.declared.records.Body.{Body}
 use Rattle.ompt_events.specs.declared.deps.Dep.{Dep}
-use Rattle.callbacks.specs.Tasks.{TaskView}
 use Rattle.online.specs.Tasks.{value_of}
 use Rattle.online.specs.Replays.{Takes, MayTake}
 use Rattle.online.proofs.CallLemmas.{thread_takes, join_takes, list_takes, some_value}
