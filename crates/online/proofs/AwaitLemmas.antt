@@ -60,7 +60,7 @@ awaited_other rs n thread r here apart =
 
 -- ---- the last record of a thread among the first n
 
-record IsLast (rs : List Record) (n thread a : ℕ) : Type 0 where
+pub record IsLast (rs : List Record) (n thread a : ℕ) : Type 0 where
   pub below : a < n
   pub of_it : thread_at rs a ≡ Some thread
   pub none : (k : ℕ) → a < k → k < n → thread_at rs k ≢ Some thread
@@ -84,7 +84,7 @@ last_here rs n r here = record {
 }
 
 -- what a thread awaits its last record creates
-awaited_last : (rs : List Record) (n thread task : ℕ) → n ≤ length rs
+pub awaited_last : (rs : List Record) (n thread task : ℕ) → n ≤ length rs
     → awaited_by thread (take n rs) ≡ Some task
     → (a : ℕ) × IsLast rs n thread a × (at created_with_deps rs a ≡ Some task)
 awaited_last rs zero thread task low is = absurd (none-some task is)

@@ -2,7 +2,7 @@
 use Rattle.std.proofs.Common.{◌≡◌, ◌∙◌, ℕ, zero, suc, ◌<◌, ◌+◌, true, List, Some, refl, sym, ap}
 use Rattle.std.proofs.Common.{arith, inl, inr}
 use Rattle.std.proofs.lemmas.Bool.{cases_lt}
-use Rattle.std.proofs.lemmas.Option.{same_Some, slice_get_within}
+use Rattle.std.proofs.lemmas.Option.{same_Some}
 use Rattle.ompt_events.specs.declared.records.Record.{Record}
 use Rattle.ompt_events.specs.declared.cause.Cause.{Cause}
 use Rattle.ompt_events.specs.declared.cause.Cause.TheVariants.{Rootless, StatusOrder, TeamShort, ShareWrong}
@@ -10,7 +10,7 @@ use Rattle.ompt_events.specs.declared.cause.Cause.TheVariants.{LengthAhead, NoOr
 use Rattle.ompt_events.specs.declared.cause.Cause.TheVariants.{NotCurrent, Moved, TurnGap, RegionOrder}
 use Rattle.ompt_events.specs.declared.cause.Cause.TheVariants.{NestedParallel, RegionNesting, EntryTwice}
 use Rattle.ompt_events.specs.declared.cause.Cause.TheVariants.{LengthBack, TargetTask}
-use Rattle.ompt_events.specs.Records.{made, created, begun_root, running, forked, region_named}
+use Rattle.ompt_events.specs.Records.{made, created, begun_root, running}
 use Rattle.ompt_events.specs.Places.{at, places}
 use Rattle.ompt_events.specs.Tree.{IsCreatedAt, IsRooted, root, child}
 use Rattle.ompt_events.specs.Causes.{HasCause, IsFreeOf, unmade, unrooted, no_region, entry, ledger_length}
@@ -23,12 +23,12 @@ use Rattle.ompt_events.proofs.RecordLemmas.{created_at_made}
 use Rattle.ompt_events.proofs.PlaceLemmas.{at_get, get_at, seen_within, contains_place}
 use Rattle.ompt_events.proofs.FileOrderLemmas.{entries_more, entries_all}
 use Rattle.ompt_events.proofs.LinearizationLemmas.{greedy_grounded}
-use Rattle.online.specs.Online.{IsWatchable, is_told_at_once, EachRecord, PassesAfter}
+use Rattle.online.specs.Online.{IsWatchable, is_told_at_once, EachRecord, PassesAfter, AreForked}
 use Rattle.online.specs.Online.{NoneAwaited}
 use Rattle.online.proofs.OrderLemmas.{order_greedy}
 use Rattle.online.proofs.NameLemmas.{running_named}
 use Rattle.online.proofs.CurrentLemmas.{named_by}
-use Rattle.online.proofs.PassLemmas.{first_says, none_twice, none_told}
+use Rattle.online.proofs.PassLemmas.{none_twice, none_told}
 use Rattle.online.proofs.CreatorLemmas.{none_of_itself}
 use Rattle.online.proofs.AwaitLemmas.{none_misplaced}
 
@@ -56,19 +56,17 @@ made_rooted rs watchable alone (suc n) i task low makes =
           ])
     ]
 
-none_rootless : (rs : List Record) → IsWatchable rs → EachRecord PassesAfter rs → IsFreeOf rs Rootless
-none_rootless rs watchable passes i (rootless (unmade task name none)) =
+none_rootless : (rs : List Record) → IsWatchable rs → EachRecord PassesAfter rs → AreForked rs
+    → IsFreeOf rs Rootless
+none_rootless rs watchable passes forks i (rootless (unmade task name none)) =
     let found = watchable.named i task name in none (found.0, found.2)
-none_rootless rs watchable passes i (rootless (unrooted task creates none)) =
+none_rootless rs watchable passes forks i (rootless (unrooted task creates none)) =
     let once = none_twice rs passes in
     let alone =
     none_of_itself rs watchable once (λ k h. none_told rs watchable passes k NotCurrent refl h) in
     none (made_rooted rs watchable alone (i + 1) i task (omega arith) (created_at_made task rs i creates))
-none_rootless rs watchable passes i (rootless (no_region parallel names none)) =
-    let (r, here, is) = get_at region_named rs i parallel names in
-    let (k, task, forks) = (passes i r here).begun parallel is in
-    let within = slice_get_within rs i r here in
-    none (k, task, (first_says forked i rs k (task, parallel) (omega (arith, within)) forks).1)
+none_rootless rs watchable passes forks i (rootless (no_region parallel names none)) =
+    none (forks i parallel names)
 
 -- no record names more entries than are before it
 none_ahead : (rs : List Record) → IsWatchable rs → IsFreeOf rs LengthAhead
@@ -90,10 +88,11 @@ none_unordered rs watchable i (no_order h) =
 
 -- ---- all causes
 
-pub none_shown : (rs : List Record) → IsWatchable rs → EachRecord PassesAfter rs → NoneAwaited rs
-    → IsFreeOf rs StatusOrder → IsFreeOf rs TeamShort → IsFreeOf rs ShareWrong → (i : ℕ) (cause : Cause)
+pub none_shown : (rs : List Record) → IsWatchable rs → EachRecord PassesAfter rs → AreForked rs
+    → NoneAwaited rs → IsFreeOf rs StatusOrder → IsFreeOf rs TeamShort → IsFreeOf rs ShareWrong
+    → (i : ℕ) (cause : Cause)
     → HasCause rs i cause → ⊥
-none_shown rs watchable passes ends no_status no_team no_share i cause h = of h
+none_shown rs watchable passes forks ends no_status no_team no_share i cause h = of h
   where
     told : (c : Cause) → is_told_at_once c ≡ true → HasCause rs i c → ⊥
     told = none_told rs watchable passes i
@@ -102,7 +101,7 @@ none_shown rs watchable passes ends no_status no_team no_share i cause h = of h
     of (seq_gap g) = told SeqGap refl (seq_gap g)
     of (created_twice g) = told CreatedTwice refl (created_twice g)
     of (forked_twice g) = told CreatedTwice refl (forked_twice g)
-    of (rootless g) = none_rootless rs watchable passes i (rootless g)
+    of (rootless g) = none_rootless rs watchable passes forks i (rootless g)
     of (not_current g) = told NotCurrent refl (not_current g)
     of (moved g) = told Moved refl (moved g)
     of (turn_gap g) = told TurnGap refl (turn_gap g)

@@ -30,6 +30,7 @@ pub mod ReplayNames
 pub mod ReplayOrder
 pub mod ReplayEnds
 pub mod ReplayFollows
+pub mod ReplayTasks
 mod GroupLemmas
 mod GroupSteps
 mod GroupEnds
@@ -41,6 +42,7 @@ mod FamilyLemmas
 mod PushLemmas
 mod ListingLemmas
 mod ListLaw
+mod ItemStepLemmas
 mod MergeLemmas
 mod TableLemmas
 mod ScopeLemmas
@@ -65,4 +67,11 @@ mod TeamJoinLemmas
 mod TeamBarrierLemmas
 mod BarrierEndLemmas
 mod WaitTeamLemmas
+mod WaitStepLemmas
 mod LengthLemmas
+mod RegionLemmas
+pub mod WatchSteps
+pub mod WatchEnd
+mod SpanLemmas
+mod EnrollLemmas
+mod RosterLaw

@@ -53,7 +53,7 @@ deps_made rs a task =
 -- ---- a list is read
 
 -- the records before, of which one more creates nothing
-child_before : (rs : List Record) (r : Record) → creation r.body ≡ None → (parent number task : ℕ)
+pub child_before : (rs : List Record) (r : Record) → creation r.body ≡ None → (parent number task : ℕ)
     → IsChild (rs ++ r ∷ []) parent number task → IsChild rs parent number task
 child_before rs r none parent number task is = elim (child_pushed rs r parent number task is) [
   | inl there ↦ there

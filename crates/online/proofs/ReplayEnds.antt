@@ -90,7 +90,7 @@ claim_there (Cancel given own claimed) (Some t) second task p id is =
 claim_there _ first second task p id is = absurd (none-some (task, p) is)
 
 -- only an explicit task makes a move that a root may not
-moves_explicit : (t : TaskView) (m : Move) → states.may states.Root m ≡ false
+pub moves_explicit : (t : TaskView) (m : Move) → states.may states.Root m ≡ false
     → is_some (state_moved t m) ≡ true → (parent : ℕ) × (parent_of t.origin ≡ Some parent)
 moves_explicit t m barred moves = by t.origin moves
   where
@@ -163,15 +163,16 @@ finishes_explicit r _ first second task p accepted id is = absurd (none-some (ta
 
 -- ---- behind it the task is over, or waits for its event
 
-record IsOverBehind (script : ScriptView) (e task : ℕ) : Type 0 where
-  parent : ℕ
-  t : TaskView
-  was : values_at script e task ≡ Some t
-  above : parent_of t.origin ≡ Some parent
-  makes : IsMadeByStep (take e script.steps) task
-  over : IsOver (values_at script (suc e) task)
+pub record IsOverBehind (script : ScriptView) (e task : ℕ) : Type 0 where
+  pub parent : ℕ
+  pub t : TaskView
+  pub was : values_at script e task ≡ Some t
+  pub above : parent_of t.origin ≡ Some parent
+  pub makes : IsMadeByStep (take e script.steps) task
+  pub over : IsOver (values_at script (suc e) task)
 
-over_behind : (nests : Bool) (rs : List Record) (values : Values) (e : ℕ) (q : Record) (task : ℕ) (p : Part)
+pub over_behind : (nests : Bool) (rs : List Record) (values : Values) (e : ℕ) (q : Record) (task : ℕ)
+    (p : Part)
     → IsReplayed nests rs values → slice_get rs e ≡ Some q → finish q.body ≡ Some (task, p)
     → IsOverBehind (script_of nests rs) e task
 over_behind nests rs values e q task p replayed is finishes =
@@ -245,7 +246,8 @@ replayed_unfinished nests rs values i r replayed is task e p runs finishes other
     let (v, was, id) =
     first_has script i o.step whole o.stands task (running_given o.step.body task runs_step) in
     let creates =
-    created_as script e task behind.parent behind.t whole (omega (arith, less, within)) behind.was behind.above
+    created_as script e task behind.parent behind.t whole (omega (arith, less, within)) behind.was
+    behind.above
     in
     let (parent, above) =
     explicit v.origin (made_as script i task v whole (omega (arith, within)) was)

@@ -6,7 +6,8 @@ use Rattle.std.proofs.lemmas.List.{length-map, length_push, take_at}
 use Rattle.std.proofs.lemmas.Option.{none-some, same_Some}
 use Rattle.ompt_events.specs.declared.records.Record.{Record}
 use Rattle.ompt_events.specs.declared.records.Body.{Body}
-use Rattle.ompt_events.specs.declared.records.Body.TheVariants.{ImplicitTask, TaskCreate, TaskSchedule, Cancel}
+use Rattle.ompt_events.specs.declared.records.Body.TheVariants.{ImplicitTask, TaskCreate, TaskSchedule}
+use Rattle.ompt_events.specs.declared.records.Body.TheVariants.{Cancel}
 use Rattle.ompt_events.specs.declared.records.Part.{Part}
 use Rattle.ompt_events.specs.declared.records.Part.TheVariants as part
 use Rattle.ompt_events.specs.declared.names.Endpoint.TheVariants.{End}

@@ -1,5 +1,6 @@
 -- The tasks that a record names which recorders would make: each is made before or there, and is live before.
-use Rattle.std.proofs.Common.{ℕ, zero, suc, ◌≡◌, ◌≢◌, ◌∙◌, ◌<◌, ◌≤◌, List, [], ◌∷◌, length, take, Option, Some}
+use Rattle.std.proofs.Common.{ℕ, zero, suc, ◌≡◌, ◌≢◌, ◌∙◌, ◌<◌, ◌≤◌, List, [], ◌∷◌, length, take, Option}
+use Rattle.std.proofs.Common.{Some}
 use Rattle.std.proofs.Common.{None, Bool, true, false, refl, sym, ap, subst, arith, inl, inr, cond}
 use Rattle.std.specs.Prelude.{◌⊎◌, Contains, slice_get, option_map}
 use Rattle.std.specs.Option.{option_to_list}
@@ -81,7 +82,8 @@ named_split (TaskSchedule status turns prior next claimed) task has = elim
       | inr there ↦ inr (root_named claimed task there)
     ]
 named_split (Cancel given own claimed) task has = elim
-    (Contains-append_cases (own ∷ []) (option_to_list (option_map (λ (c : Claim). c.root) claimed)) task has) [
+    (Contains-append_cases (own ∷ [])
+    (option_to_list (option_map (λ (c : Claim). c.root) claimed)) task has) [
       | inl there ↦ inl (Contains-append_left (own ∷ []) [] task there)
       | inr there ↦ inr (root_named claimed task there)
     ]
@@ -117,8 +119,11 @@ claimed_by _ first second c none claims = absurd (none-some c (sym none ∙ clai
 
 made_at : (script : ScriptView) (n : ℕ) (s : Step) (task : ℕ) → slice_get script.steps n ≡ Some s
     → made s.body ≡ Some task → IsMadeByStep (take (suc n) script.steps) task
-made_at script n s task is makes =
-    (s, get_contains (take (suc n) script.steps) s n (take_get script.steps (suc n) n s (omega arith) is), makes)
+made_at script n s task is makes = (
+  s,
+  get_contains (take (suc n) script.steps) s n (take_get script.steps (suc n) n s (omega arith) is),
+  makes,
+)
 
 root_made : (script : ScriptView) (n task : ℕ) (w : TaskView) → IsWhole script → n ≤ length script.steps
     → values_at script n task ≡ Some w → IsMadeByStep (take n script.steps) w.claim.root
@@ -202,7 +207,7 @@ finish_called (TaskSchedule status turns prior next claimed) = refl
 finish_called (Cancel given task claimed) = refl
 finish_called _ = refl
 
-end_called : IsOfCall ended_root
+pub end_called : IsOfCall ended_root
 end_called (ImplicitTask End actual index given parallel task) = refl
 end_called (TaskSchedule status turns prior next claimed) = refl
 end_called (Cancel given task claimed) = refl
@@ -302,7 +307,8 @@ replayed_named nests rs values i task replayed (r, is, has) = elim (named_split 
         → (k : ℕ) × (k ≤ i) × (at made rs k ≡ Some task)
     by_call None none calls =
         earlier
-        (called_live nests rs values i r task replayed is calls (λ makes. none-some task (sym none ∙ makes))).0
+        (called_live nests rs values i r task replayed is calls
+        (λ makes. none-some task (sym none ∙ makes))).0
     by_call (Some t) makes calls = elim (cases_eq t task) [
       | inl same ↦ (i, omega arith, at_get made rs i r is ∙ makes ∙ ap Some same)
       | inr apart ↦

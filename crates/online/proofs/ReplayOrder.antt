@@ -67,7 +67,7 @@ suspended_given (TaskSchedule status.Yield turns prior next claimed) task is = i
 suspended_given (TaskSchedule status.Switch turns prior next claimed) task is = is
 suspended_given _ task is = absurd (none-some task is)
 
-with_turn : (o : Option ℕ) (n task turn : ℕ) → option_map {U = ℕ × ℕ} (λ t. (t, n)) o ≡ Some (task, turn)
+pub with_turn : (o : Option ℕ) (n task turn : ℕ) → option_map {U = ℕ × ℕ} (λ t. (t, n)) o ≡ Some (task, turn)
     → (o ≡ Some task) × (n ≡ turn)
 with_turn None n task turn is = absurd (none-some (task, turn) is)
 with_turn (Some t) n task turn is =
@@ -99,7 +99,8 @@ before_suspension nests rs values a task turn replayed suspends =
     (first_id_is script a o.step whole o.stands) stops_step (ap prior_turn (sym o.body_is) ∙ turn_x) in
     let was : values_at script a task ≡ Some t =
     ap (value (values_at script a)) (sym (suspended_given o.step.body task stops_step)) ∙ first_is in
-    let few = few_begun t (begun script.steps task a) (turn_is script a task t whole (omega (arith, within)) was)
+    let few = few_begun t (begun script.steps task a)
+    (turn_is script a task t whole (omega (arith, within)) was)
     in
     (omega (arith, within), omega (arith, few, current))
 
@@ -144,7 +145,8 @@ pub replayed_comes : (nests : Bool) (rs : List Record) (r : Record) (values : Va
 replayed_comes nests rs r values replayed length_is = record {
   enters = length_is.enters;
   names = length_is.names;
-  known = λ task has. known_by task (replayed_named nests all values (length rs) task replayed (r, last, has));
+  known = λ task has. known_by task (replayed_named nests all values (length rs) task replayed
+      (r, last, has));
   suspends = λ task turn k stops begins_it.
       let (q, q_is, says) = get_at begun_turn rs k (task, turn + 1) begins_it in
       let within = slice_get_within rs k q q_is in
@@ -291,9 +293,9 @@ late_waits : (r : RecorderView) (body : Body) (first second : Option TaskView) (
     → call_refusal r body first second ≡ None → id_of first ≡ first_given body
     → finish body ≡ Some (task, part.Event)
     → (t : TaskView) × (first ≡ Some t) × (t.state ≡ Detached) × (first_given body ≡ Some task)
-late_waits r (TaskSchedule status.LateFulfill turns prior next claimed) None second task accepted id is =
+late_waits r (TaskSchedule status.LateFulfill told prior next c) None second task accepted id is =
     absurd (none-some prior id)
-late_waits r (TaskSchedule status.LateFulfill turns prior next claimed) (Some t) second task accepted id is = (
+late_waits r (TaskSchedule status.LateFulfill told prior next c) (Some t) second task accepted id is = (
   t,
   refl,
   by (states.may (nature t) (states.Stopped status.LateFulfill)) t.state
@@ -306,19 +308,20 @@ late_waits r (TaskSchedule status.LateFulfill turns prior next claimed) (Some t)
     by false state moves = absurd (false≢true moves)
     by true Detached moves = refl
     by true _ moves = absurd (false≢true moves)
-late_waits r (TaskSchedule status.Complete turns prior next claimed) first second task accepted id is =
+late_waits r (TaskSchedule status.Complete told prior next c) first second task accepted id is =
     absurd (whole_no_event prior task is)
-late_waits r (TaskSchedule status.Cancel turns prior next claimed) first second task accepted id is =
+late_waits r (TaskSchedule status.Cancel told prior next c) first second task accepted id is =
     absurd (whole_no_event prior task is)
-late_waits r (TaskSchedule status.TaskwaitComplete turns prior next claimed) first second task accepted id is =
+late_waits r (TaskSchedule status.TaskwaitComplete told prior next c) first second task accepted id is
+    =
     absurd (whole_no_event prior task is)
-late_waits r (TaskSchedule status.Detach turns prior next claimed) first second task accepted id is =
+late_waits r (TaskSchedule status.Detach told prior next c) first second task accepted id is =
     absurd (false≢true (ap is_event_of is))
-late_waits r (TaskSchedule status.Yield turns prior next claimed) first second task accepted id is =
+late_waits r (TaskSchedule status.Yield told prior next c) first second task accepted id is =
     absurd (none-some (task, part.Event) is)
-late_waits r (TaskSchedule status.Switch turns prior next claimed) first second task accepted id is =
+late_waits r (TaskSchedule status.Switch told prior next c) first second task accepted id is =
     absurd (none-some (task, part.Event) is)
-late_waits r (TaskSchedule status.EarlyFulfill turns prior next claimed) first second task accepted id is =
+late_waits r (TaskSchedule status.EarlyFulfill told prior next c) first second task accepted id is =
     absurd (none-some (task, part.Event) is)
 late_waits r (Cancel given own claimed) first second task accepted id is =
     by (has_flag given.0 flag.discarded_task) is

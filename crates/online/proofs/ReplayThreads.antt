@@ -1,5 +1,6 @@
 -- Records that recorders would make are allowed by those of their threads.
-use Rattle.std.proofs.Common.{ℕ, ◌≡◌, ◌∙◌, List, [], ◌∷◌, length, take, map, Option, Some, None, Bool, true, false}
+use Rattle.std.proofs.Common.{ℕ, ◌≡◌, ◌∙◌, List, [], ◌∷◌, length, take, map, Option, Some, None, Bool, true}
+use Rattle.std.proofs.Common.{false}
 use Rattle.std.proofs.Common.{refl, sym, ap, cond}
 use Rattle.std.specs.Prelude.{◌&&◌, not, slice_get, option_map, fold, nat_lt, if◌then◌else◌}
 use Rattle.std.proofs.lemmas.Bool.{and_parts, eqb-true, false≢true}
@@ -12,7 +13,8 @@ use Rattle.ompt_events.specs.declared.records.Body.TheVariants.{ParallelEnd, Imp
 use Rattle.ompt_events.specs.declared.records.Body.TheVariants.{Dependences, TaskSchedule, SyncRegion, Cancel}
 use Rattle.ompt_events.specs.declared.names.Endpoint.TheVariants.{Begin, End, BeginEnd}
 use Rattle.ompt_events.specs.declared.deps.Dep.{Dep}
-use Rattle.ompt_events.specs.declared.cause.Cause.TheVariants.{Moved, NestedParallel, RegionNesting, TargetTask}
+use Rattle.ompt_events.specs.declared.cause.Cause.TheVariants.{Moved, NestedParallel, RegionNesting}
+use Rattle.ompt_events.specs.declared.cause.Cause.TheVariants.{TargetTask}
 use Rattle.ompt_events.specs.Causes.{IsFreeOf, moved, target_task}
 use Rattle.ompt_events.specs.Flags as flag
 use Rattle.ompt_events.specs.Flags.{task_flags, are_named, has_flag}
@@ -28,7 +30,8 @@ use Rattle.callbacks.specs.Schedules.{discard_body, discard_refusal, may_discard
 use Rattle.callbacks.specs.Schedules.{turns_of}
 use Rattle.callbacks.specs.Recorders.{refusal_at}
 use Rattle.callbacks.specs.Standing.{Standing, standing_of, standing_at_start, next_standing, allows, fits}
-use Rattle.callbacks.specs.Standing.{is_in_place, is_same, runs_its_task, ends_innermost, is_outside, is_on_host}
+use Rattle.callbacks.specs.Standing.{is_in_place, is_same, runs_its_task, ends_innermost, is_outside}
+use Rattle.callbacks.specs.Standing.{is_on_host}
 use Rattle.callbacks.specs.Standing.{begins_own_region}
 use Rattle.callbacks.specs.Tasks.{TaskView, may_create, is_deep, is_crowded, is_barred, is_innermost_region}
 use Rattle.callbacks.specs.Tasks.{is_root_on, end_of_root}

@@ -14,16 +14,27 @@ use Rattle.std.proofs.lemmas.Map.Views.{Contains-from_any}
 use Rattle.std.proofs.lemmas.Map.Steps.{length-le_from_distinct_below}
 use Rattle.ompt_events.specs.declared.records.Record.{Record}
 use Rattle.ompt_events.specs.declared.records.Membership.{Membership}
-use Rattle.ompt_events.specs.declared.cause.Cause.TheVariants.{TeamShort}
 use Rattle.ompt_events.specs.Records.{joined}
 use Rattle.ompt_events.specs.Places.{at}
 use Rattle.ompt_events.specs.Teams.{members, members_before, IsTeammate, alone, together}
-use Rattle.ompt_events.specs.Causes.{IsFreeOf, team_short, outside, same_index, other_size}
+use Rattle.ompt_events.specs.declared.cause.Cause.TheVariants.{TeamShort}
+use Rattle.ompt_events.specs.Causes as causes
+use Rattle.ompt_events.specs.Causes.{IsFreeOf, team_short}
 use Rattle.online.specs.Online.{HasWholeTeam}
+use Rattle.online.specs.Rosters.{AreWhole, outside, same_index, other_size, few}
 use Rattle.online.proofs.ReadLemmas.{same_append}
 use Rattle.online.proofs.NameLemmas.{IsRead, IsMadeBelow, initial_same, whole_long}
 use Rattle.online.proofs.TeamLemmas.{member_place, place_member, added, members_more, members_same}
 use Rattle.online.proofs.TeamLemmas.{members_grow, member_back}
+
+-- no team lacks a member where no record has the cause
+pub whole_of_free : (rs : List Record) → IsFreeOf rs TeamShort → AreWhole rs
+whole_of_free rs free i (outside m says high) = free i (team_short (causes.outside m says high))
+whole_of_free rs free i (same_index m e says among same) =
+    free i (team_short (causes.same_index m e says among same))
+whole_of_free rs free i (other_size m e says among differ) =
+    free i (team_short (causes.other_size m e says among differ))
+whole_of_free rs free i (few m says less) = free i (team_short (causes.few m says less))
 
 -- ---- the numbers of members
 
@@ -43,7 +54,7 @@ numbered (m ∷ ms) number (suc k, low, is) =
     (found.0, Contains-append_right (m ∷ []) ms found.0 found.1, found.2)
 
 -- where no team lacks a member, no two members of a team have one number
-numbers_apart : (rs : List Record) → IsFreeOf rs TeamShort → (parallel n : ℕ)
+numbers_apart : (rs : List Record) → AreWhole rs → (parallel n : ℕ)
     → IsDistinct eqb (numbers (members_before rs parallel n))
 unfolding numbers index_of IsDistinct
 numbers_apart rs free parallel zero = tt
@@ -62,7 +73,7 @@ numbers_apart rs free parallel (suc n) =
         numbered (members_before rs parallel n) m.index
         (Contains-from_any eqb-true m.index (numbers (members_before rs parallel n)) some) in
         let before = subst (λ p. Contains (members_before rs p n) found.0) (sym is) found.1 in
-        absurd (free n (team_short (same_index m found.0 joins before found.2)))
+        absurd (free n (same_index m found.0 joins before found.2))
 
     with : (m : Membership) → at joined rs n ≡ Some m → (b : Bool) → (m.parallel == parallel) ≡ b
         → IsDistinct eqb (numbers (members_before rs parallel n))
@@ -83,7 +94,7 @@ numbers_apart rs free parallel (suc n) =
     of (Some m) is apart = with m is (m.parallel == parallel) refl apart
 
 -- and all of them name the same size
-size_there : (rs : List Record) → IsFreeOf rs TeamShort → (parallel i j : ℕ) (m e : Membership) → i < j
+size_there : (rs : List Record) → AreWhole rs → (parallel i j : ℕ) (m e : Membership) → i < j
     → at joined rs i ≡ Some e → at joined rs j ≡ Some m → e.parallel ≡ parallel → m.parallel ≡ parallel
     → e.actual ≡ m.actual
 size_there rs free parallel i j m e earlier first second in_first in_second =
@@ -97,10 +108,10 @@ size_there rs free parallel i j m e earlier first second in_first in_second =
             joins = first;
             same = in_first ∙ sym in_second;
           }) in
-          absurd (free j (team_short (other_size m e second before apart)))
+          absurd (free j (other_size m e second before apart))
     ]
 
-size_same : (rs : List Record) → IsFreeOf rs TeamShort → (parallel : ℕ) (m e : Membership)
+size_same : (rs : List Record) → AreWhole rs → (parallel : ℕ) (m e : Membership)
     → Contains (members rs parallel) m → Contains (members rs parallel) e → e.actual ≡ m.actual
 size_same rs free parallel m e has has' =
     let first = member_place rs parallel (length rs) e has' in
@@ -122,7 +133,7 @@ size_same rs free parallel m e has has' =
     ]
 
 -- so a team has no more members than its size
-team_small : (rs : List Record) → IsFreeOf rs TeamShort → (parallel : ℕ) (m : Membership)
+team_small : (rs : List Record) → AreWhole rs → (parallel : ℕ) (m : Membership)
     → Contains (members rs parallel) m → length (members rs parallel) ≤ m.actual
 unfolding numbers index_of
 team_small rs free parallel m has =
@@ -143,12 +154,12 @@ team_small rs free parallel m has =
         let there = member_place rs parallel (length rs) e found.1 in
         elim (cases_lt e.index e.actual) [
           | inl less ↦ omega (arith, size, is, less)
-          | inr past ↦ absurd (free there.place (team_short (outside e there.joins past)))
+          | inr past ↦ absurd (free there.place (outside e there.joins past))
         ]
 
 -- ---- a team that is whole among the first records
 
-pub members_whole : (before after : List Record) → IsFreeOf (before ++ after) TeamShort → (parallel : ℕ)
+pub members_whole : (before after : List Record) → AreWhole (before ++ after) → (parallel : ℕ)
     (m : Membership)
     → Contains (members before parallel) m → m.actual ≤ length (members before parallel)
     → members (before ++ after) parallel ≡ members before parallel
@@ -171,7 +182,7 @@ members_whole before after free parallel m has many =
     all ∙ ap (λ l. members before parallel ++ l) none ∙ append-nil (members before parallel)
 
 -- the teammates of a task that one of them makes are then teammates there
-pub mates_whole : (before after : List Record) → IsFreeOf (before ++ after) TeamShort
+pub mates_whole : (before after : List Record) → AreWhole (before ++ after)
     → IsRead (length before) (before ++ after) → (own member : ℕ)
     → IsMadeBelow (length before) (before ++ after) own → HasWholeTeam before own
     → IsTeammate (before ++ after) own member → IsTeammate before own member
@@ -185,3 +196,16 @@ mates_whole before after free read own _ below whole (together parallel mine m h
     together parallel mine m here is
     (subst (λ l. Contains l m)
     (members_whole before after free parallel mine here (whole parallel mine here is)) among)
+
+-- and the team of a task that one of them makes is whole by all
+pub whole_kept : (before after : List Record) → AreWhole (before ++ after)
+    → IsRead (length before) (before ++ after) → (own : ℕ)
+    → IsMadeBelow (length before) (before ++ after) own → HasWholeTeam before own
+    → HasWholeTeam (before ++ after) own
+whole_kept before after free read own below whole parallel m has is =
+    let here =
+    member_back (length before) (before ++ after) before (same_append before after) read refl parallel m
+    (subst (IsMadeBelow (length before) (before ++ after)) (sym is) below) has in
+    let most = whole parallel m here is in
+    let all = ap length (members_whole before after free parallel m here most) in
+    omega (arith, most, all)

@@ -4,8 +4,6 @@ use Rattle.std.proofs.Common.{◌++◌}
 use Rattle.std.proofs.Common.{length, set, Vec, Global, Option, Some, None, refl, sym, ap, subst, arith, inl}
 use Rattle.std.proofs.Common.{inr}
 use Rattle.std.specs.Prelude.{is_some, slice_get, map, fold, ◌||◌}
-use Rattle.std.specs.Ordering.{nat_cmp}
-use Rattle.std.specs.BTreeSet.{contains}
 use Rattle.std.proofs.lemmas.Bool.{cases_eq, eq-eqb, ne_eqb, false≢true}
 use Rattle.std.proofs.lemmas.Option.{same_Some, slice_get_within}
 use Rattle.std.proofs.lemmas.List.{length_push, map-append, append-nil}
@@ -23,6 +21,7 @@ use Rattle.scripts.specs.RunCalls.{first_given}
 use Rattle.task_tree.proofs.LinkLemmas.{get_set_same, get_set_other}
 use Rattle.online.specs.declared.thread.Thread.{Thread}
 use Rattle.online.specs.declared.replay.Replay.{Replay}
+use Rattle.online.specs.Ids.{has}
 use Rattle.online.specs.ThreadStates.{IsThreadOf}
 use Rattle.online.specs.Tasks.{value_of}
 use Rattle.online.specs.Replays.{call_of, calls_of, and_call, own_of, Takes, IsReplayed, IsReplayOf}
@@ -94,10 +93,10 @@ pub record IsTaken (old later : Replay) (r : Record) (t next : Thread) : Type 0 
   pub next_of : (own : List Record) → IsThreadOf own t → IsThreadOf (own ++ without_seen r ∷ []) next
   pub next_kind : next.state.nests ≡ t.state.nests
   pub threads : later.threads.items ≡ set old.threads.items r.thread next
-  pub used : (task : ℕ) → contains nat_cmp later.used task
-      ≡ (is_task task (made r.body) || contains nat_cmp old.used task)
+  pub used : (task : ℕ) → has later.used task
+      ≡ (is_task task (made r.body) || has old.used task)
   pub new : (task : ℕ) → made r.body ≡ Some task
-      → (contains nat_cmp old.used task ≡ false) × (old.made < max_tasks)
+      → (has old.used task ≡ false) × (old.made < max_tasks)
   pub made_more : later.made ≡ old.made + cond (is_some (made r.body)) 1 0
   pub nests : later.nests ≡ old.nests
   pub count : later.count ≡ old.count + 1
@@ -210,11 +209,11 @@ replay_more rs old called noted later r kept kind room (t, here, is_next) calls 
       next_kind = advanced.kind ∙ ap (λ (x : Thread). x.state.nests) same;
       threads = advanced.threads ∙ ap (λ (v : List Thread). set v r.thread advanced.next) unchanged;
       used = λ task.
-          ap (λ s. contains nat_cmp s task) advanced.used ∙ notes.used task
-          ∙ ap (λ s. is_task task (made r.body) || contains nat_cmp s task) calls.used;
+          ap (λ s. has s task) advanced.used ∙ notes.used task
+          ∙ ap (λ s. is_task task (made r.body) || has s task) calls.used;
       new = λ task makes.
           let found = notes.new_one task makes in (
-            sym (ap (λ s. contains nat_cmp s task) calls.used) ∙ found.0,
+            sym (ap (λ s. has s task) calls.used) ∙ found.0,
             subst (λ n. n < max_tasks) calls.made found.1,
           );
       made_more =

@@ -16,12 +16,14 @@ use Rattle.ompt_events.specs.declared.names.SyncKind.TheVariants.{Taskgroup}
 use Rattle.ompt_events.specs.declared.names.Endpoint.{Endpoint}
 use Rattle.ompt_events.specs.declared.names.Endpoint.TheVariants.{Begin, End}
 use Rattle.ompt_events.specs.Records.{made, ended_root, finish, region}
+use Rattle.ompt_events.specs.Places.{at}
 use Rattle.ompt_events.specs.HappensBefore.{IsFinishing}
 use Rattle.ompt_events.proofs.PlaceLemmas.{at_within}
 use Rattle.ompt_events.proofs.RecordLemmas.{created_at_creation}
 use Rattle.ompt_events.proofs.FileOrderLemmas.{entries_less}
 use Rattle.online.specs.declared.scope.Scope.{Scope}
 use Rattle.online.specs.declared.kin.Kin.{Kin}
+use Rattle.online.specs.Online.{IsWatchable}
 use Rattle.online.specs.Waits.{IsLive, IsCompleteBelow, ChangesAt, ChangesAbove, CountsChild}
 use Rattle.online.specs.Waits.{CompletesChild, SettlesChild, Completes, BeginsGroup, EndsGroup, IsNew, Puts}
 use Rattle.online.specs.Waits.{Removes, IsWaitsOf, MayFollow, IsCoverComplete, KeepsWaits, Follows}
@@ -183,18 +185,19 @@ create_never old new parent child none rs r says follows is =
 -- ---- a task is complete
 
 -- by the record that finishes it whole or its event the task is complete
-complete_now : (rs : List Record) (r : Record) (task : ℕ) (part : Part) → MayFollow rs r
+pub complete_now : (rs : List Record) (r : Record) (task : ℕ) (part : Part) → IsWatchable (rs ++ r ∷ [])
+    → ((own : ℕ) → finish r.body ≡ Some (own, Event) → (k : ℕ) × (at finish rs k ≡ Some (own, PartBody)))
     → finish r.body ≡ Some (task, part) → part ≢ PartBody
     → IsCompleteBelow (rs ++ r ∷ []) (r.seen + 1) task
-complete_now rs r task Whole follows says apart =
+complete_now rs r task Whole watchable fulfils says apart =
     let seen = seen_last rs r in
     inl (length rs, at_last finish rs r ∙ says, omega (arith, seen))
-complete_now rs r task PartBody follows says apart = absurd (apart refl)
-complete_now rs r task Event follows says apart =
-    let (k, ends) = follows.fulfils task says in
+complete_now rs r task PartBody watchable fulfils says apart = absurd (apart refl)
+complete_now rs r task Event watchable fulfils says apart =
+    let (k, ends) = fulfils task says in
     let low = at_within finish rs k (task, PartBody) ends in
     let there = said_grows finish rs r k (task, PartBody) ends in
-    let order = follows.watchable.in_order in
+    let order = watchable.in_order in
     let makes : IsFinishing (rs ++ r ∷ []) k = ap is_some there in
     let makes_last : IsFinishing (rs ++ r ∷ []) (length rs) = ap is_some (at_last finish rs r ∙ says) in
     let early = order.enters k makes in
@@ -217,7 +220,7 @@ finish_case old marked done task seen parent marks parents above rs r ((part, sa
     follows is =
     let (kin, found, going) = live_kept rs old task is (follows.finishes task part says apart) in
     let P : Option ℕ → Type 0 = λ p. ChangesAbove (CompletesChild (seen + 1)) p marked done in
-    let complete = complete_now rs r task part follows says apart in (
+    let complete = complete_now rs r task part follows.watchable follows.fulfils says apart in (
       kin,
       record {
         found = found;

@@ -5,21 +5,23 @@ use Rattle.std.specs.Prelude.{slice_get, nat_eq, if◌then◌else◌}
 use Rattle.std.specs.HashMap.{get}
 use Rattle.ompt_events.specs.declared.records.Record.{Record}
 use Rattle.ompt_events.specs.declared.records.Part.{Part}
-use Rattle.ompt_events.specs.declared.records.Part.TheVariants.{Event}
+use Rattle.ompt_events.specs.declared.records.Part.TheVariants.{Body, Event}
 use Rattle.ompt_events.specs.declared.deps.Dep.{Dep}
 use Rattle.ompt_events.specs.declared.names.DepKind.{DepKind}
 use Rattle.ompt_events.specs.declared.cause.Cause.TheVariants.{CreatedTwice}
 use Rattle.ompt_events.specs.Names.{conflict}
 use Rattle.ompt_events.specs.Records.{creation, dependences, created_with_deps, finish, ended_root}
+use Rattle.ompt_events.specs.Records.{begun_turn, wait_completed}
 use Rattle.ompt_events.specs.Places.{at, seen_at}
 use Rattle.ompt_events.specs.Tree.{IsParent, IsChild, children}
-use Rattle.ompt_events.specs.Completion.{IsFinished}
+use Rattle.ompt_events.specs.Completion.{IsFinished, IsCompleteAt}
 use Rattle.ompt_events.specs.Dependences.{IsPredecessor}
 use Rattle.ompt_events.specs.Causes.{AreFollowed, IsFreeOf}
-use Rattle.online.specs.Online.{IsWatchable, EachRecord, ListsAwaited, HasLists}
+use Rattle.callbacks.specs.Logs.{known_from}
+use Rattle.online.specs.Online.{IsWatchable, EachRecord, ListsAwaited, HasLists, IsDependentAt}
 use Rattle.online.specs.declared.uses.Use.{Use}
 use Rattle.online.specs.declared.items.Items.{Items}
-use Rattle.online.specs.Uses.{Listing, IsUses}
+use Rattle.online.specs.Uses.{Listing, IsUses, numbers_of, location_of}
 
 -- a use of this kind stands for an item of that one: what clashes with the item clashes with the use
 abbrev pub Admits : Option DepKind → DepKind → Type 0
@@ -156,3 +158,90 @@ abbrev pub HasListsOf : Items → ℕ → ℕ → Type 0
 HasListsOf items parent task =
     (rs : List Record) → IsItemsOf rs items → IsFreeOf rs CreatedTwice → IsParent rs parent task
     → HasLists rs task
+
+-- ---- one step for each record
+
+-- what other tests tell of the record, and of the parent that is given with it
+pub record MayBeRead (rs : List Record) (r : Record) (parent : Option ℕ) : Type 0 where
+  pub watchable : IsWatchable (rs ++ r ∷ [])
+  pub once : IsFreeOf (rs ++ r ∷ []) CreatedTwice
+  pub in_place : EachRecord ListsAwaited (rs ++ r ∷ [])
+  -- the parent of a task whose dependences are listed there is given, and its body has not ended
+  pub lists : (task : ℕ) (list : List Dep) → dependences r.body ≡ Some (task, list)
+      → (p : ℕ) × (parent ≡ Some p) × IsParent rs p task × (HasEnded rs p → ⊥)
+  -- so is that of a task whose predecessors must be complete there, and no part of that task is finished
+  -- before
+  pub parent_of : (dependent : ℕ) → IsDependentAt (rs ++ r ∷ []) (length rs) dependent
+      → (p : ℕ) × (parent ≡ Some p) × IsParent rs p dependent
+  pub untouched : (dependent : ℕ) → IsDependentAt (rs ++ r ∷ []) (length rs) dependent
+      → IsUntouched rs dependent
+  -- the record finishes no part of a task that starts there
+  pub apart : (task : ℕ) (part : Part) → finish r.body ≡ Some (task, part)
+      → begun_turn r.body ≢ Some (task, 0)
+  -- where the event of a task is finished, its body was before
+  pub fulfils : (task : ℕ) → finish r.body ≡ Some (task, Event)
+      → (k : ℕ) × (at finish rs k ≡ Some (task, Body))
+
+-- the items are what the records leave with this one; and where a task must wait for its predecessors there,
+-- all lists that count for it are there, and they are complete
+pub record IsRead (rs : List Record) (r : Record) (items : Items) : Type 0 where
+  pub kept : IsItemsOf (rs ++ r ∷ []) items
+  pub listed : (dependent : ℕ) → IsDependentAt (rs ++ r ∷ []) (length rs) dependent
+      → HasLists (rs ++ r ∷ []) dependent
+  pub complete : (dependent predecessor : ℕ) → IsDependentAt (rs ++ r ∷ []) (length rs) dependent
+      → IsPredecessor (rs ++ r ∷ []) dependent predecessor
+      → IsCompleteAt (rs ++ r ∷ []) predecessor (length rs)
+
+-- where the old items are those of some records, the record is read
+abbrev pub Reads : Items → Items → Record → Option ℕ → Type 0
+Reads old new r parent =
+    (rs : List Record) → MayBeRead rs r parent → IsItemsOf rs old → IsRead rs r new
+
+-- the task that is complete, where this part of it is finished last
+abbrev pub completed_by : Option (ℕ × Part) → Option ℕ
+completed_by (Some (task, Body)) = None
+completed_by (Some (task, _)) = Some task
+completed_by None = None
+
+-- the task whose body ends, where this part of it is finished, or as the root that ends
+abbrev pub ended_by : Option (ℕ × Part) → Option ℕ → Option ℕ
+ended_by (Some (task, Event)) root = None
+ended_by (Some (task, _)) root = Some task
+ended_by None root = root
+
+-- a task that the record completes is taken out
+abbrev pub TakesFinish : Items → Items → Record → Type 0
+TakesFinish old new r =
+    (rs : List Record)
+    → ((task : ℕ) → completed_by (finish r.body) ≡ Some task → IsFinishedBelow rs task (r.seen + 1))
+    → IsItemsOf rs old → IsItemsOf rs new
+
+-- what the children use of a task whose body the record ends is taken out
+abbrev pub TakesEndOf : Items → Items → Record → Type 0
+TakesEndOf old new r =
+    (rs : List Record)
+    → ((task : ℕ) → ended_by (finish r.body) (ended_root r.body) ≡ Some task → HasEnded rs task)
+    → IsItemsOf rs old → IsItemsOf rs new
+
+-- nothing is kept of a task that the record completes, and no location that children use of one whose body it
+-- ends
+pub record LetsGo (r : Record) (items : Items) : Type 0 where
+  pub tasks : (task : ℕ) → completed_by (finish r.body) ≡ Some task → numbers_of items.uses task ≡ None
+  pub locations : (task location : ℕ) → ended_by (finish r.body) (ended_root r.body) ≡ Some task
+      → location_of items.uses task location ≡ None
+
+-- the lists that count for the task are there, and its predecessors are complete by the entries below the
+-- length
+abbrev pub MayGoOn : Items → ℕ → ℕ → ℕ → Type 0
+MayGoOn items parent task limit = HasListsOf items parent task × IsReadyOf items task limit
+
+-- so it is with a taskwait with dependences that is complete at the record
+abbrev pub PassesWait : Items → Record → Option ℕ → Type 0
+PassesWait items r parent =
+    (task p : ℕ) → wait_completed r.body ≡ Some task → parent ≡ Some p → MayGoOn items p task r.seen
+
+-- and with a task that starts there, for which the record's own entry counts too
+abbrev pub PassesStart : Items → Record → Option ℕ → Type 0
+PassesStart items r parent =
+    (task p : ℕ) → begun_turn r.body ≡ Some (task, 0) → parent ≡ Some p
+    → MayGoOn items p task (known_from r.seen r.body)

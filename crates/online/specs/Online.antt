@@ -143,10 +143,12 @@ pub record PassesAfter (before : List Record) (r : Record) : Type 0 where
   -- with the records before it, it has none of the causes that are told at once
   pub clear : (cause : Cause) → is_told_at_once cause ≡ true
       → HasCause (before ++ r ∷ []) (length before) cause → ⊥
-  -- one of them begins the parallel region that it names
-  pub begun : (parallel : ℕ) → region_named r.body ≡ Some parallel → IsForked before parallel
   -- and it lists what its thread awaits
   pub in_place : ListsAwaited before r
+
+-- each parallel region that a record names is begun by one of them, which may stand behind it
+abbrev pub AreForked : List Record → Type 0
+AreForked rs = (i parallel : ℕ) → at region_named rs i ≡ Some parallel → IsForked rs parallel
 
 -- no thread awaits dependences after the last record
 abbrev pub NoneAwaited : List Record → Type 0

@@ -3,8 +3,6 @@
 use Rattle.std.specs.Prelude.{ℕ, ◌≡◌, ◌≢◌, ◌<◌, ◌++◌, ◌∷◌, Bool, true, List, [], Some, None, map, fold}
 use Rattle.std.specs.Prelude.{length, set}
 use Rattle.std.specs.Prelude.{false, slice_get, is_some, Option, ◌||◌, ◌+◌, if◌then◌else◌}
-use Rattle.std.specs.Ordering.{nat_cmp}
-use Rattle.std.specs.BTreeSet.{contains}
 use Rattle.ompt_events.specs.declared.records.Record.{Record}
 use Rattle.ompt_events.specs.declared.records.Body.{Body}
 use Rattle.ompt_events.specs.declared.records.Body.TheVariants.{TaskSchedule, Cancel}
@@ -13,6 +11,7 @@ use Rattle.ompt_events.specs.States.{is_task}
 use Rattle.packed_trace.specs.Named.{subject, object}
 use Rattle.callbacks.specs.Standing.{allows}
 use Rattle.callbacks.specs.Logs.{IsLeft}
+use Rattle.online.specs.Ids.{has}
 use Rattle.online.specs.ThreadStates.{IsThreadOf}
 use Rattle.online.specs.declared.thread.Thread.{Thread}
 use Rattle.online.specs.declared.calls.Place.{Place}
@@ -91,16 +90,16 @@ pub record IsReplayOf (rs : List Record) (kept : Replay) : Type 0 where
   pub all_nest : (thread : ℕ) (t : Thread) → slice_get kept.threads.items thread ≡ Some t
       → t.state.nests ≡ kept.nests
   pub live : (task : ℕ) → is_some (value_of kept.tasks task) ≡ true → life (calls_of rs) task ≡ Some Live
-  pub used : (task : ℕ) → contains nat_cmp kept.used task ≡ is_some (life (calls_of rs) task)
+  pub used : (task : ℕ) → has kept.used task ≡ is_some (life (calls_of rs) task)
   pub count : kept.count ≡ length rs
   pub tasks_made : kept.made ≡ task_count (calls_of rs)
 
 -- the id of the task that is made, if one is, is new and is noted, and nothing else
 pub record IsNoted (old new : Replay) (made : Option ℕ) : Type 0 where
-  pub used : (task : ℕ) → contains nat_cmp new.used task
-      ≡ (is_task task made || contains nat_cmp old.used task)
+  pub used : (task : ℕ) → has new.used task
+      ≡ (is_task task made || has old.used task)
   pub new_one : (task : ℕ) → made ≡ Some task
-      → (contains nat_cmp old.used task ≡ false) × (old.made < max_tasks)
+      → (has old.used task ≡ false) × (old.made < max_tasks)
   pub made_more : new.made ≡ old.made + (if is_some made then 1 else 0)
   pub nests : new.nests ≡ old.nests
   pub threads : new.threads ≡ old.threads

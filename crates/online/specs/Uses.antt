@@ -184,6 +184,12 @@ KeepsUses old new =
     (history : List Listing) (ends : List (ℕ × ℕ)) (gone : List ℕ) → IsUses history ends gone old
     → IsUses history ends gone new
 
+-- the tasks that are kept and the locations stay
+abbrev pub KeepsTables : UseTable → UseTable → Type 0
+KeepsTables old new =
+    ((task : ℕ) → numbers_of new task ≡ numbers_of old task)
+    × ((parent location : ℕ) → location_of new parent location ≡ location_of old parent location)
+
 -- each task that must be complete before the task is so by the length, unless the task is complete
 abbrev pub IsReadyBy : UseTable → ℕ → ℕ → Type 0
 IsReadyBy table task limit =

@@ -2,7 +2,7 @@
 ghost use Rattle.std.specs.Prelude.{ℕ, ◌≡◌, ◌↔◌, ◌⊎◌, [], None, Some, IfOk, IfSome, OnOk, IsTrue};
 ghost use Rattle.online.specs.Items.{IsItemsOf, AreUses, TakesCreation, TakesList, TakesOther, TakesCompletion};
 ghost use Rattle.online.specs.Items.{TakesEnd, KeepsItems, IsReadyOf, HasListsOf, awaited_of};
-ghost use Rattle.online.specs.Uses.{numbers_of, location_of};
+ghost use Rattle.online.specs.Uses.{KeepsTables, numbers_of, location_of};
 ghost use Rattle.online.specs.Items.{Admits, IsUseAt, IsWider, AddsItem};
 
 use crate::uses::{Use, UseTable};
@@ -12,7 +12,7 @@ use std::collections::HashMap;
 
 /// The items of the tasks that are not complete, and the locations that children of tasks use.
 ///
-/// The items are of no use once a call has failed when out of memory, or once `list` has returned false.
+/// The items are of no use once `take` has failed when out of memory, or has returned false.
 #[derive(Debug, Drop)]
 pub struct Items {
     uses: UseTable,
@@ -34,7 +34,12 @@ impl Items {
     }
 
     /// Reads a record that creates a child. Returns false where a list of another child of the parent is missing.
-    pub fn create(&mut self, parent: u64, child: u64, has_list: bool) -> Result<bool, AllocError>
+    pub(crate) fn create(
+        &mut self,
+        parent: u64,
+        child: u64,
+        has_list: bool,
+    ) -> Result<bool, AllocError>
         ensures taken { IfOk result (λ taken. IsTrue taken → TakesCreation self.old self.new parent child has_list) }
         ensures refused { awaited_of self.old parent ≡ None → IfOk result IsTrue }
     {
@@ -50,7 +55,7 @@ impl Items {
 
     /// Reads a record that lists the dependences of a child. Returns false where that is not the child whose list
     /// is missing, or where the numbers of groups are used up.
-    pub fn list(&mut self, parent: u64, task: u64, list: &[Dep]) -> Result<bool, AllocError>
+    pub(crate) fn list(&mut self, parent: u64, task: u64, list: &[Dep]) -> Result<bool, AllocError>
         ensures { IfOk result (λ taken. IsTrue taken → TakesList self.old self.new parent task list.now) }
     {
         if !self.is_awaited(parent, task) {
@@ -66,12 +71,12 @@ impl Items {
 
     /// Reads a record that creates no task and lists no dependences. A completion or an end of a body that the
     /// record tells is read by `complete` and `end`.
-    pub fn other(&self)
+    pub(crate) fn other(&self)
         ensures { TakesOther self.now }
     {}
 
     /// Takes out a task that is complete by the entries below the length.
-    pub fn complete(&mut self, task: u64, length: u64) -> Result<(), AllocError>
+    pub(crate) fn complete(&mut self, task: u64, length: u64) -> Result<(), AllocError>
         ensures completed { OnOk result (TakesCompletion self.old self.new task length) }
         ensures taken { OnOk result (numbers_of self.new.uses task ≡ None) }
     {
@@ -80,9 +85,10 @@ impl Items {
     }
 
     /// Takes out the locations that children of the task use. Its body has ended.
-    pub fn end(&mut self, parent: u64) -> Result<(), AllocError>
+    pub(crate) fn end(&mut self, parent: u64) -> Result<(), AllocError>
         ensures ended { OnOk result (TakesEnd self.old self.new parent) }
         ensures taken { OnOk result ((w : ℕ) → location_of self.new.uses parent w ≡ None) }
+        ensures tasks { OnOk result ((task : ℕ) → numbers_of self.new.uses task ≡ numbers_of self.old.uses task) }
     {
         self.uses.end(parent)?;
         Ok(())
@@ -90,21 +96,29 @@ impl Items {
 
     /// Returns whether all predecessors of the task are complete by the entries below the length. No part of the
     /// task may be finished.
-    pub fn is_ready(&mut self, task: u64, length: u64) -> Result<bool, AllocError>
+    pub(crate) fn is_ready(&mut self, task: u64, length: u64) -> Result<bool, AllocError>
         ensures ready { IfOk result (λ ready. IsTrue ready → IsReadyOf self.old task length) }
         ensures other { numbers_of self.old.uses task ≡ None → IfOk result IsTrue }
         ensures kept { IfOk result (λ _. KeepsItems self.old self.new) }
+        ensures tables { IfOk result (λ _. KeepsTables self.old.uses self.new.uses) }
     {
         let ready = self.uses.is_ready(task, length)?;
         Ok(ready)
     }
 
     /// Returns whether the lists of dependences that count for the child are there.
-    pub fn has_lists(&self, parent: u64, task: u64) -> bool
+    pub(crate) fn has_lists(&self, parent: u64, task: u64) -> bool
         ensures listed { IsTrue result → HasListsOf self.now parent task }
         ensures missing { IsTrue result ⊎ (awaited_of self.now parent ≡ Some task) }
     {
         !self.is_awaited(parent, task)
+    }
+
+    /// Returns true only if no list of dependences is missing.
+    pub(crate) fn are_listed(&self) -> bool
+        ensures { IsTrue result → (parent : ℕ) → awaited_of self.now parent ≡ None }
+    {
+        self.awaited.is_empty()
     }
 
     /// Returns whether no list of a child of the task is missing.

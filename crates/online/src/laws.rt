@@ -1,6 +1,6 @@
 //! When the order of a file is an order of its records, and what the records up to a place tell of it. These are
 //! laws about the definitions alone, proved for all records. The functions do nothing.
-ghost use Rattle.std.specs.Prelude.{Bool, ◌≡◌, ◌<◌, ◌≤◌, ◌+◌, ◌↔◌, ◌∷◌, ◌++◌, ℕ, true, List, [], length, Option};
+ghost use Rattle.std.specs.Prelude.{Bool, ◌≡◌, ◌<◌, ◌≤◌, ◌+◌, ◌↔◌, ◌⊎◌, ◌∷◌, ◌++◌, ℕ, true, List, [], length, Option};
 ghost use Rattle.ompt_events.specs.declared.records.Record.{Record};
 ghost use Rattle.ompt_events.specs.declared.names.SyncKind.{SyncKind};
 ghost use Rattle.ompt_events.specs.declared.cause.Cause.{Cause};
@@ -19,7 +19,8 @@ ghost use Rattle.ompt_events.specs.Causes.{HasCause, IsFreeOf};
 ghost use Rattle.ompt_events.specs.Linearization.{IsLinearization, IsGreedy};
 ghost use Rattle.ompt_events.specs.declared.cause.Cause.TheVariants.{NotCurrent, TurnGap, RegionOrder};
 ghost use Rattle.ompt_events.specs.declared.cause.Cause.TheVariants.{SeqGap, Moved, NestedParallel, RegionNesting, TargetTask};
-ghost use Rattle.ompt_events.specs.Causes.{ShowsNowhere, IsMadeAgain};
+ghost use Rattle.ompt_events.specs.Causes.{ShowsNowhere, IsMadeAgain, IsShort};
+ghost use Rattle.online.specs.Rosters.{IsShortRoster, AreWhole, MissesBegin, IsBegunAfter};
 ghost use Rattle.scripts.specs.Progress.{Values};
 ghost use Rattle.online.specs.Replays.{IsReplayed};
 ghost use Rattle.online.specs.Lengths.{MayFollow, NamesLength};
@@ -30,7 +31,7 @@ ghost use Rattle.online.specs.declared.team.Team.{Team};
 ghost use Rattle.online.specs.Teams.{TeamsFollow, SaysNothing};
 ghost use Rattle.online.specs.Waits.{Follows, ChangesNothing, IsCoverComplete};
 ghost use Rattle.online.specs.Online.{EndsLast, AreBegun, HasTeamBegun, AreListed, HasLists, IsDependentAt};
-ghost use Rattle.online.specs.Online.{EachRecord, ComesAfter, ListsAwaited, NoneAwaited, PassesAfter};
+ghost use Rattle.online.specs.Online.{EachRecord, ComesAfter, ListsAwaited, AreForked, NoneAwaited, PassesAfter};
 ghost use Rattle.online.specs.Online.{IsUnfinishedAfter, IsCompleteAfter, IsSettledAfter};
 
 /// File order is an order of the records, and the greedy one, where each record stands behind what it has seen
@@ -142,15 +143,16 @@ pub fn what_must_be_complete_is_known_when_its_record_is_read()
 ///   `ComesAfter`.
 /// - `placed`: no list of dependences is misplaced exactly where each record lists what its thread awaits, and no
 ///   thread awaits dependences after the last record (`ListsAwaited`, `NoneAwaited`).
-/// - `clear`: let the records be watchable, each pass the tests of causes (`PassesAfter`), and no thread await
-///   dependences. Then no record has a cause, by file order. That none has StatusOrder, TeamShort or ShareWrong is
+/// - `clear`: let the records be watchable, each pass the tests of causes (`PassesAfter`), each parallel region that
+///   they name be begun by one of them, and no thread await dependences. Then no record has a cause, by file order. That none has StatusOrder, TeamShort or ShareWrong is
 ///   a premise.
 pub fn tests_at_each_record_exclude_all_causes()
     ensures watchable { (rs : List Record) → IsFreeOf rs CreatedTwice
         → EachRecord ComesAfter rs ↔ IsWatchable rs }
     ensures placed { (rs : List Record) → IsFreeOf rs DepsPlace
         ↔ (EachRecord ListsAwaited rs × NoneAwaited rs) }
-    ensures clear { (rs : List Record) → IsWatchable rs → EachRecord PassesAfter rs → NoneAwaited rs
+    ensures clear { (rs : List Record) → IsWatchable rs → EachRecord PassesAfter rs → AreForked rs
+        → NoneAwaited rs
         → IsFreeOf rs StatusOrder → IsFreeOf rs TeamShort → IsFreeOf rs ShareWrong
         → (i : ℕ) (cause : Cause) → HasCause rs i cause → ⊥ }
 {}
@@ -261,4 +263,18 @@ pub fn some_records_need_no_step()
 pub fn lengths_may_be_taken()
     ensures { (rs : List Record) (r : Record) → IsWatchable rs → IsFreeOf (rs ++ r ∷ []) CreatedTwice
         → MayFollow rs r }
+{}
+
+/// No record has the cause TeamShort, where each team has all its members, each with an index of its own, as
+/// `Rosters` tells, and the whole team has begun each barrier that ends.
+///
+/// - `cases`: the cause is one that `Rosters` excludes (`IsShortRoster`), or a barrier ends that a member does not
+///   begin.
+/// - `free`: so it does not occur where neither does.
+/// - `each`: the same, where each record shows the barrier's begins with those before it.
+pub fn whole_teams_lack_no_member()
+    ensures cases { (rs : List Record) (i : ℕ) → IsShort rs i → IsShortRoster rs i ⊎ MissesBegin rs i }
+    ensures free { (rs : List Record) → AreWhole rs → ((i : ℕ) → HasTeamBegun rs i) → IsFreeOf rs TeamShort }
+    ensures each { (rs : List Record) → IsWatchable rs → IsFreeOf rs CreatedTwice → AreWhole rs
+        → EachRecord IsBegunAfter rs → IsFreeOf rs TeamShort }
 {}

@@ -1,18 +1,20 @@
 //! Records taken one after another, as if recorders were given their calls.
-ghost use Rattle.std.specs.Prelude.{ℕ, List, Bool, true, false, Some, None, ◌≡◌, ◌<◌, ◌^◌, ◌++◌, ◌∷◌, [], IsTrue, IfOk, IfSome, OnOk, length, nat_eq};
+ghost use Rattle.std.specs.Prelude.{ℕ, List, Bool, true, false, Some, None, ◌≡◌, ◌<◌, ◌^◌, ◌++◌, ◌∷◌, [], IsTrue, IfOk, IfSome, OnOk, length, nat_eq, option_and_then};
 ghost use Rattle.ompt_events.specs.declared.records.Record.{Record};
 ghost use Rattle.ompt_events.specs.Records.{made};
 ghost use Rattle.ompt_events.specs.Limits.{max_records};
 ghost use Rattle.callbacks.specs.Standing.{allows};
 ghost use Rattle.callbacks.specs.Logs.{IsLeft};
+ghost use Rattle.callbacks.specs.Tasks.{TaskView, parent_of, is_running};
+ghost use Rattle.online.specs.Tasks.{value_of};
 ghost use Rattle.online.specs.Replays.{IsReplayOf, IsNoted, IsNextOf, IsNextThere, IsCalled, IsAdvanced};
 
 use crate::calls::{Place, take};
+use crate::ids::Ids;
 use crate::tasks::Tasks;
 use crate::thread::Thread;
 use ompt_events::{Body, MAX_RECORDS, MAX_TASKS, Record};
 use std::alloc::{AllocError, Global};
-use std::collections::BTreeSet;
 
 /// Thread numbers are below this.
 const THREADS: usize = 256;
@@ -24,7 +26,7 @@ pub struct Replay {
     nests: bool,
     threads: Vec<Thread>,
     tasks: Tasks,
-    used: BTreeSet<u64>,
+    used: Ids,
     /// How many records there are, and how many tasks they make.
     count: usize,
     made: usize,
@@ -44,7 +46,7 @@ impl Replay {
             nests,
             threads,
             tasks: Tasks::new(alloc),
-            used: BTreeSet::new(alloc),
+            used: Ids::new(alloc),
             count: 0,
             made: 0,
         })
@@ -53,8 +55,9 @@ impl Replay {
     /// Takes one more record, and returns true, only if recorders that were given the calls of the records so far
     /// and then this one make these records, but for the ledger lengths.
     pub fn take(&mut self, record: &Record) -> Result<bool, AllocError>
-        ensures { IfOk result (λ taken. IsTrue taken → (rs : List Record) → IsReplayOf rs self.old
+        ensures made { IfOk result (λ taken. IsTrue taken → (rs : List Record) → IsReplayOf rs self.old
             → IsReplayOf (rs ++ «record».now ∷ []) self.new) }
+        ensures kind { IfOk result (λ taken. IsTrue taken → self.new.nests ≡ self.old.nests) }
     {
         if record.nests != self.nests || self.count >= MAX_RECORDS || !self.fits(record) {
             return Ok(false);
@@ -66,6 +69,23 @@ impl Replay {
             return Ok(false);
         }
         self.advance(record)
+    }
+
+    /// Returns the parent of the task, if the task is live and has one.
+    pub(crate) fn parent(&self, task: u64) -> Option<u64>
+        ensures { result ≡ option_and_then (λ t. parent_of t.origin) (value_of self.now.tasks task) }
+    {
+        self.tasks.get(task)?.parent()
+    }
+
+    /// Returns whether the task is live and runs.
+    pub(crate) fn runs(&self, task: u64) -> bool
+        ensures { IsTrue result → (t : TaskView) × (value_of self.now.tasks task ≡ Some t) × (is_running t.state ≡ true) }
+    {
+        match self.tasks.get(task) {
+            Some(value) => value.is_running(),
+            None => false,
+        }
     }
 
     /// Returns whether the record is the next one of its thread, by its number there and by what the thread's
@@ -119,10 +139,9 @@ impl Replay {
         let Some(task) = body.made() else {
             return Ok(true);
         };
-        if self.used.contains(&task) || self.made >= MAX_TASKS {
+        if self.made >= MAX_TASKS || !self.used.insert(task)? {
             return Ok(false);
         }
-        self.used.insert(task)?;
         self.made += 1;
         Ok(true)
     }

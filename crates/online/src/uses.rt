@@ -3,7 +3,8 @@
 ghost use Rattle.std.specs.Prelude.{ℕ, ◌≡◌, None, IfOk, OnOk, IfSome, IsTrue, true, Some, [], ◌∷◌, option_map};
 ghost use Rattle.online.specs.Groups.{group_at, put, KeepsCounts};
 ghost use Rattle.online.specs.Uses.{can_share, IsUses, HasFound, HasPlaced, HasListed, HasCompleted, HasEnded};
-ghost use Rattle.online.specs.Uses.{KeepsUses, IsReadyBy, last_in, location_in, family_at, numbers_of, location_of};
+ghost use Rattle.online.specs.Uses.{KeepsUses, KeepsTables, IsReadyBy, last_in, location_in, family_at};
+ghost use Rattle.online.specs.Uses.{numbers_of, location_of};
 
 use crate::groups::Groups;
 use ompt_events::{DepKind, conflicts};
@@ -94,6 +95,7 @@ impl UseTable {
     pub(crate) fn end(&mut self, parent: u64) -> Result<(), AllocError>
         ensures ended { OnOk result (HasEnded self.old self.new parent) }
         ensures taken { OnOk result ((w : ℕ) → location_of self.new parent w ≡ None) }
+        ensures tasks { OnOk result ((task : ℕ) → numbers_of self.new task ≡ numbers_of self.old task) }
     {
         let family = take_family(self.alloc, &mut self.families, parent);
         release_all(&mut self.groups, &family)?;
@@ -106,6 +108,7 @@ impl UseTable {
         ensures ready { IfOk result (λ ready. IsTrue ready → IsReadyBy self.old task length) }
         ensures other { numbers_of self.old task ≡ None → IfOk result IsTrue }
         ensures kept { IfOk result (λ _. KeepsUses self.old self.new) }
+        ensures tables { IfOk result (λ _. KeepsTables self.old self.new) }
     {
         let Some(numbers) = self.tasks.get(&task) else {
             return Ok(true);

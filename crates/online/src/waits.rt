@@ -50,6 +50,7 @@ fn settle(table: &mut Table, teams: &mut Teams, task: u64)
 pub struct Waits {
     table: Table,
     teams: Teams,
+    alloc: Global,
 }
 
 impl Waits {
@@ -61,34 +62,33 @@ impl Waits {
         Waits {
             table: HashMap::new(alloc),
             teams: HashMap::new(alloc),
+            alloc,
         }
     }
 
     /// Notes the begin of an initial task.
-    pub fn begin_initial(&mut self, alloc: Global, root: u64) -> Result<(), AllocError>
+    pub(crate) fn begin_initial(&mut self, root: u64) -> Result<(), AllocError>
         ensures tasks { OnOk result (Follows (BeginsInitial root) (kept_by self.old) (kept_by self.new)) }
         ensures teams { OnOk result (TeamsFollow (BeginsInitial root) (kept_by self.old) (teams_by self.old) (kept_by self.new) (teams_by self.new)) }
     {
-        put(&mut self.table, root, Kin::of_root(alloc, None))
+        put(&mut self.table, root, Kin::of_root(self.alloc, None))
     }
 
     /// Notes the begin of an implicit task: a member of the team of the parallel region, which has this size.
-    pub fn join(
-        &mut self,
-        alloc: Global,
-        root: u64,
-        parallel: u64,
-        size: u32,
-    ) -> Result<(), AllocError>
+    pub(crate) fn join(&mut self, root: u64, parallel: u64, size: u32) -> Result<(), AllocError>
         ensures tasks { OnOk result (Follows (Joins root parallel size) (kept_by self.old) (kept_by self.new)) }
         ensures teams { OnOk result (TeamsFollow (Joins root parallel size) (kept_by self.old) (teams_by self.old) (kept_by self.new) (teams_by self.new)) }
     {
-        put(&mut self.table, root, Kin::of_root(alloc, Some(parallel)))?;
+        put(
+            &mut self.table,
+            root,
+            Kin::of_root(self.alloc, Some(parallel)),
+        )?;
         join(&mut self.teams, parallel, size)
     }
 
     /// Notes the end of an initial or implicit task.
-    pub fn end_root(&mut self, root: u64)
+    pub(crate) fn end_root(&mut self, root: u64)
         ensures tasks { Follows (EndsRoot root) (kept_by self.old) (kept_by self.new) }
         ensures teams { TeamsFollow (EndsRoot root) (kept_by self.old) (teams_by self.old) (kept_by self.new) (teams_by self.new) }
     {
@@ -99,21 +99,25 @@ impl Waits {
     }
 
     /// Notes that the parent creates the child.
-    pub fn create(&mut self, alloc: Global, parent: u64, child: u64) -> Result<(), AllocError>
+    pub(crate) fn create(&mut self, parent: u64, child: u64) -> Result<(), AllocError>
         ensures tasks { OnOk result (Follows (CreatesTask parent child) (kept_by self.old) (kept_by self.new)) }
         ensures teams { OnOk result (TeamsFollow (CreatesTask parent child) (kept_by self.old) (teams_by self.old) (kept_by self.new) (teams_by self.new)) }
     {
         let Some(place) = place_in(&self.table, parent) else {
             return Ok(());
         };
-        put(&mut self.table, child, Kin::of_child(alloc, parent, place))?;
+        put(
+            &mut self.table,
+            child,
+            Kin::of_child(self.alloc, parent, place),
+        )?;
         count_child(&mut self.table, parent);
         create_in(&mut self.teams, place.team, place.barriers);
         Ok(())
     }
 
     /// Notes that the task is complete by the entry with the index `seen`.
-    pub fn complete(&mut self, task: u64, seen: u32)
+    pub(crate) fn complete(&mut self, task: u64, seen: u32)
         ensures tasks { Follows (CompletesTask task seen) (kept_by self.old) (kept_by self.new) }
         ensures teams { TeamsFollow (CompletesTask task seen) (kept_by self.old) (teams_by self.old) (kept_by self.new) (teams_by self.new) }
     {
@@ -124,7 +128,7 @@ impl Waits {
     }
 
     /// Notes the begin of a taskgroup of the task.
-    pub fn begin_taskgroup(&mut self, task: u64) -> Result<(), AllocError>
+    pub(crate) fn begin_taskgroup(&mut self, task: u64) -> Result<(), AllocError>
         ensures tasks { OnOk result (Follows (BeginsTaskgroup task) (kept_by self.old) (kept_by self.new)) }
         ensures teams { OnOk result (TeamsFollow (BeginsTaskgroup task) (kept_by self.old) (teams_by self.old) (kept_by self.new) (teams_by self.new)) }
     {
@@ -133,7 +137,7 @@ impl Waits {
 
     /// Notes the end of a taskgroup of the task, and returns whether all that it covers is complete by the entries
     /// below the length `seen`. If not, what is kept is of no use for later records.
-    pub fn end_taskgroup(&mut self, task: u64, seen: u32) -> bool
+    pub(crate) fn end_taskgroup(&mut self, task: u64, seen: u32) -> bool
         ensures tasks { IsTrue result → Follows (EndsTaskgroup task seen) (kept_by self.old) (kept_by self.new) }
         ensures teams { IsTrue result → TeamsFollow (EndsTaskgroup task seen) (kept_by self.old) (teams_by self.old) (kept_by self.new) (teams_by self.new) }
         ensures complete { IsTrue result → (rs : List Record) (r : Record) → EndsTaskgroup task seen r
@@ -143,7 +147,7 @@ impl Waits {
     }
 
     /// Notes the begin of a barrier of the task.
-    pub fn begin_barrier(&mut self, task: u64)
+    pub(crate) fn begin_barrier(&mut self, task: u64)
         ensures tasks { Follows (BeginsBarrier task) (kept_by self.old) (kept_by self.new) }
         ensures teams { TeamsFollow (BeginsBarrier task) (kept_by self.old) (teams_by self.old) (kept_by self.new) (teams_by self.new) }
     {
@@ -156,7 +160,7 @@ impl Waits {
 
     /// Returns whether all that a taskwait of the task covers is complete by the entries below the length `seen`,
     /// where the taskwait ends. Children that the task creates inside the taskwait count too.
-    pub fn is_taskwait_over(&self, task: u64, seen: u32) -> bool
+    pub(crate) fn is_taskwait_over(&self, task: u64, seen: u32) -> bool
         ensures { IsTrue result → (rs : List Record) (r : Record) → EndsTaskwait task seen r
             → IsWaitsOf rs (kept_by self.now) → IsCoverComplete rs r }
     {
@@ -165,7 +169,7 @@ impl Waits {
 
     /// Returns whether all that a barrier of the task covers is complete by the entries below the length `seen`, and
     /// the whole team has begun the barrier. It is asked behind the step of the record at which the barrier ends.
-    pub fn is_barrier_over(&self, task: u64, seen: u32) -> bool
+    pub(crate) fn is_barrier_over(&self, task: u64, seen: u32) -> bool
         ensures { IsTrue result → (rs : List Record) (r : Record) → EndsBarrier task seen r → MayFollow rs r
             → IsWaitsOf (rs ++ r ∷ []) (kept_by self.now)
             → AreTeamsOf (rs ++ r ∷ []) (kept_by self.now) (teams_by self.now)

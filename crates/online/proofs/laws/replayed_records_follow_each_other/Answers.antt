@@ -11,7 +11,8 @@ pub returns-clause-placed : goal.returns-clause-placed
 returns-clause-placed c = replayed_placed
 
 pub returns-clause-unfinished : goal.returns-clause-unfinished
-returns-clause-unfinished c nests rs values replayed i r is = replayed_unfinished nests rs values i r replayed is
+returns-clause-unfinished c nests rs values replayed i r is = replayed_unfinished nests rs values i r
+    replayed is
 
 pub returns-clause-follows : goal.returns-clause-follows
 returns-clause-follows c = replayed_follows

@@ -1,0 +1,16 @@
+use Rattle.std.proofs.Common.{◌∙◌, ap, sym}
+use Rattle.ompt_events.specs.declared.names.WaitKind.TheVariants.{Barrier}
+use Rattle.std.proofs.Common.{Some, None}
+use Rattle.online.proofs.WaitStepLemmas.{kind_of, other_region}
+use Rattle.online.proofs.waits.Waits.take_region.Goals as goal
+
+pub returns-in-Some-Barrier : goal.returns-in-Some-Barrier
+returns-in-Some-Barrier c = λ yes r is.
+    c.take_barrier.ensures yes r c.args.kind
+    (kind_of c.args.kind (Some Barrier)
+    (ap Some (sym c.in-Some-Barrier.field-0-is) ∙ sym c.in-Some-Barrier.is ∙ c.wait_kind.ensures)) is
+
+pub returns-in-None : goal.returns-in-None
+returns-in-None c = λ yes r is.
+    other_region c.args.task c.args.seen c.args.kind c.args.endpoint r c.args.self.now
+    (kind_of c.args.kind None (sym c.in-None.is ∙ c.wait_kind.ensures)) is

@@ -1,0 +1,89 @@
+-- The audit of records one after another: what is kept of those so far.
+use Rattle.std.specs.Prelude.{ℕ, ◌≡◌, ◌≢◌, ◌⊎◌, ◌==◌, ◌||◌, true, false, List, Option, Some}
+use Rattle.std.specs.Prelude.{None, option_and_then, if◌then◌else◌}
+use Rattle.std.specs.Ordering.{nat_cmp}
+use Rattle.std.specs.BTreeSet.{contains}
+use Rattle.ompt_events.specs.declared.records.Record.{Record}
+use Rattle.ompt_events.specs.declared.records.Body.{Body}
+use Rattle.ompt_events.specs.declared.records.Body.TheVariants.{Dependences, TaskSchedule}
+use Rattle.ompt_events.specs.declared.names.Status.TheVariants.{TaskwaitComplete}
+use Rattle.ompt_events.specs.declared.deps.Dep.{Dep}
+use Rattle.ompt_events.specs.Records.{forked, region_named, dependences, started, next_turn}
+use Rattle.ompt_events.specs.Causes.{IsForked}
+use Rattle.ompt_events.specs.Places.{at}
+use Rattle.callbacks.specs.Tasks.{TaskView, parent_of, is_running}
+use Rattle.online.specs.declared.regions.Regions.{Regions}
+use Rattle.online.specs.declared.replay.Replay.{Replay}
+use Rattle.online.specs.declared.watch.Watch.{Watch}
+use Rattle.online.specs.Ids.{has}
+use Rattle.online.specs.Items.{IsItemsOf}
+use Rattle.online.specs.Kept.{kept_by, teams_by}
+use Rattle.online.specs.Lengths.{IsLengthsOf}
+use Rattle.online.specs.Online.{EachRecord, ComesAfter, PassesAfter, IsSettledAfter}
+use Rattle.online.specs.Replays.{IsReplayOf}
+use Rattle.online.specs.Rosters.{AreRostersOf}
+use Rattle.online.specs.Tasks.{value_of}
+use Rattle.online.specs.Teams.{AreTeamsOf}
+use Rattle.online.specs.Waits.{IsWaitsOf}
+
+-- ---- parallel regions
+
+-- the ids of the parallel regions that these records begin, and of those that they name and do not begin
+pub record AreRegionsOf (rs : List Record) (kept : Regions) : Type 0 where
+  pub begun : (parallel : ℕ) → has kept.begun parallel ≡ true → IsForked rs parallel
+  pub all : (parallel : ℕ) → IsForked rs parallel → has kept.begun parallel ≡ true
+  pub named : (i parallel : ℕ) → at region_named rs i ≡ Some parallel
+      → IsForked rs parallel ⊎ (contains nat_cmp kept.awaited parallel ≡ true)
+
+-- a region that the record begins is new
+abbrev pub BeginsNewRegion : List Record → Record → Type 0
+BeginsNewRegion before r =
+    (task parallel : ℕ) → forked r.body ≡ Some (task, parallel) → IsForked before parallel → ⊥
+
+-- a region is named: it is begun, or is awaited now
+pub record NamesOne (old new : Regions) (parallel : ℕ) : Type 0 where
+  pub begun : new.begun ≡ old.begun
+  pub here : has old.begun parallel ≡ true ⊎ (contains nat_cmp new.awaited parallel ≡ true)
+  pub others : (other : ℕ) → contains nat_cmp old.awaited other ≡ true → contains nat_cmp new.awaited other
+      ≡ true
+
+-- a new region is begun, and awaited no more
+pub record BeginsOne (old new : Regions) (parallel : ℕ) : Type 0 where
+  pub fresh : has old.begun parallel ≡ false
+  pub begun : (other : ℕ) → has new.begun other ≡ ((other == parallel) || has old.begun other)
+  pub others : (other : ℕ) → other ≢ parallel → contains nat_cmp old.awaited other ≡ true
+      → contains nat_cmp new.awaited other ≡ true
+
+-- ---- the task that has predecessors
+
+-- the task whose predecessors may have to be complete at the record, or whose dependences it lists
+abbrev pub dependent_of : Body → Option ℕ
+dependent_of (Dependences task list) = Some task
+dependent_of (TaskSchedule TaskwaitComplete turns prior next claimed) = Some prior
+dependent_of body = if next_turn body == 0 then started body else None
+
+-- the parent of the task, where the task is live and has one
+abbrev pub parent_in : Replay → ℕ → Option ℕ
+parent_in kept task = option_and_then (λ (t : TaskView). parent_of t.origin) (value_of kept.tasks task)
+
+-- where the record lists dependences, a parent is given, which is live and runs
+abbrev pub MayList : Replay → Body → Option ℕ → Type 0
+MayList kept body parent =
+    (task : ℕ) (list : List Dep) → dependences body ≡ Some (task, list)
+    → (p : ℕ) × (parent ≡ Some p) × (t : TaskView) × (value_of kept.tasks p ≡ Some t)
+    × (is_running t.state ≡ true)
+
+-- ---- all that is kept
+
+-- it is what these records leave, each of which passed its tests with those before it
+pub record IsWatchOf (rs : List Record) (w : Watch) : Type 0 where
+  pub replay : IsReplayOf rs w.replay
+  pub regions : AreRegionsOf rs w.regions
+  pub rosters : AreRostersOf rs w.rosters
+  pub lengths : IsLengthsOf rs w.lengths
+  pub waits : IsWaitsOf rs (kept_by w.waits)
+  pub teams : AreTeamsOf rs (kept_by w.waits) (teams_by w.waits)
+  pub items : IsItemsOf rs w.items
+  pub comes : EachRecord ComesAfter rs
+  pub passes : EachRecord PassesAfter rs
+  pub settled : EachRecord IsSettledAfter rs

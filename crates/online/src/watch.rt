@@ -1,0 +1,173 @@
+//! The audit of records that come one after another.
+ghost use Rattle.std.specs.Prelude.{ℕ, List, Some, None, ◌≡◌, ◌++◌, ◌∷◌, [], IsTrue, IfOk};
+ghost use Rattle.ompt_events.specs.declared.records.Record.{Record};
+ghost use Rattle.ompt_events.specs.declared.cause.Cause.{Cause};
+ghost use Rattle.ompt_events.specs.Causes.{HasCause};
+ghost use Rattle.ompt_events.specs.Completion.{IsCompleteAt};
+ghost use Rattle.ompt_events.specs.Linearization.{IsLinearization, IsGreedy};
+ghost use Rattle.ompt_events.specs.Places.{places};
+ghost use Rattle.ompt_events.specs.Violations.{IsRequired};
+ghost use Rattle.scripts.specs.Scripts.{ended};
+ghost use Rattle.online.specs.Watches.{IsWatchOf, dependent_of, parent_in, MayList};
+
+use crate::items::Items;
+use crate::lengths::Lengths;
+use crate::regions::Regions;
+use crate::replay::Replay;
+use crate::rosters::Rosters;
+use crate::waits::Waits;
+use ompt_events::{Body, Part, Record, Status, finish};
+use std::alloc::{AllocError, Global};
+
+/// A test that records may fail.
+#[derive(Clone, Copy, Debug, PartialEq, Eq)]
+pub enum Test {
+    /// Recorders that are given the calls of the records make them.
+    Calls,
+    /// A parallel region begins once.
+    Regions,
+    /// The members of a team have numbers of their own below its size, and all name this size.
+    Teams,
+    /// A record names a ledger length that its thread and its task allow.
+    Lengths,
+    /// Where a taskwait, taskgroup or barrier ends, all that it covers is complete.
+    Waits,
+    /// Where a task starts, or a taskwait with dependences is complete, all its predecessors are complete.
+    Predecessors,
+}
+
+/// What is kept of the records so far.
+#[derive(Drop)]
+pub struct Watch {
+    replay: Replay,
+    regions: Regions,
+    rosters: Rosters,
+    lengths: Lengths,
+    waits: Waits,
+    items: Items,
+}
+
+impl Watch {
+    /// Returns what no records leave, in a trace where regions may lie inside others or not. Fails only when out
+    /// of memory.
+    pub fn new(alloc: Global, nests: bool) -> Result<Watch, AllocError>
+        ensures { IfOk result (IsWatchOf []) }
+    {
+        Ok(Watch {
+            replay: Replay::new(alloc, nests)?,
+            regions: Regions::new(alloc),
+            rosters: Rosters::new(alloc),
+            lengths: Lengths::new(alloc)?,
+            waits: Waits::new(alloc),
+            items: Items::new(alloc),
+        })
+    }
+
+    /// Takes one more record, and returns none, only if it passes the tests by those before it: with them it shows no
+    /// cause, and all is complete there that must be. Else returns the test that it fails; then what is kept is of no
+    /// use for later records. Fails only when out of memory.
+    pub fn take(&mut self, record: &Record) -> Result<Option<Test>, AllocError>
+        ensures { IfOk result (λ failed. failed ≡ None → (rs : List Record) → IsWatchOf rs self.old
+            → IsWatchOf (rs ++ «record».now ∷ []) self.new) }
+    {
+        let parent = self.parent(&record.body);
+        if !self.may_list(&record.body, parent) || !self.replay.take(record)? {
+            return Ok(Some(Test::Calls));
+        }
+        if !self.regions.take(&record.body)? {
+            return Ok(Some(Test::Regions));
+        }
+        if !self.rosters.take(record)? {
+            return Ok(Some(Test::Teams));
+        }
+        if !self.lengths.take(record)? {
+            return Ok(Some(Test::Lengths));
+        }
+        if !self.waits.take(record)? {
+            return Ok(Some(Test::Waits));
+        }
+        if !self.items.take(record, parent)? {
+            return Ok(Some(Test::Predecessors));
+        }
+        self.forget(record);
+        Ok(None)
+    }
+
+    /// Forgets the lengths of a task that the record completes, or of a root that it ends: no record names it again.
+    fn forget(&mut self, record: &Record)
+        ensures { (rs : List Record) → IsWatchOf rs self.old → IsWatchOf rs self.new }
+    {
+        if let Some(task) = ended(record) {
+            self.lengths.forget(task);
+        }
+    }
+
+    /// Returns true only if the records so far may be all: each parallel region that they name is begun, each team has
+    /// as many members as its size, and no list of dependences is missing. Then, by file order, no record has a cause (`clear`), all is complete that must be
+    /// complete (`complete`), and file order is an order of the records, the one that a yes tells (`order`).
+    pub fn may_end(&self) -> bool
+        ensures clear { IsTrue result → (rs : List Record) → IsWatchOf rs self.now → (i : ℕ) (cause : Cause)
+            → HasCause rs i cause → ⊥ }
+        ensures complete { IsTrue result → (rs : List Record) → IsWatchOf rs self.now → (i task : ℕ)
+            → IsRequired rs i task → IsCompleteAt rs task i }
+        ensures order { IsTrue result → (rs : List Record) → IsWatchOf rs self.now
+            → IsLinearization rs (places rs) × IsGreedy rs (places rs) }
+    {
+        if !self.regions.are_begun() {
+            return false;
+        }
+        if !self.rosters.are_whole() {
+            return false;
+        }
+        self.items.are_listed()
+    }
+
+    /// Returns the parent of the task whose predecessors may have to be complete at a record with this body, or whose
+    /// dependences it lists, where the task is live and has a parent.
+    fn parent(&self, body: &Body) -> Option<u64>
+        ensures { (task : ℕ) → dependent_of body.now ≡ Some task → result ≡ parent_in self.now.replay task }
+    {
+        self.replay.parent(dependent(body)?)
+    }
+
+    /// Returns true only if, where a record with this body lists dependences, this parent is given, and runs.
+    fn may_list(&self, body: &Body, parent: Option<u64>) -> bool
+        ensures { IsTrue result → MayList self.now.replay body.now parent }
+    {
+        match (body, parent) {
+            (Body::Dependences { .. }, Some(parent)) => self.replay.runs(parent),
+            (Body::Dependences { .. }, None) => false,
+            _ => true,
+        }
+    }
+}
+
+/// Returns the task that the record ends: it finishes the task, and not the body alone, or ends it as a root.
+fn ended(record: &Record) -> Option<u64>
+    ensures { result ≡ ended «record».now.body }
+{
+    match finish(record) {
+        Some((task, Part::Whole | Part::Event)) => Some(task),
+        Some((_, Part::Body)) => None,
+        None => record.body.ended_root(),
+    }
+}
+
+/// Returns the task whose predecessors may have to be complete at a record with this body, or whose dependences it
+/// lists.
+fn dependent(body: &Body) -> Option<u64>
+    ensures { result ≡ dependent_of body.now }
+{
+    match body {
+        Body::Dependences { task, .. } => Some(*task),
+        Body::TaskSchedule {
+            status: Status::TaskwaitComplete,
+            prior,
+            ..
+        } => Some(*prior),
+        _ => match body.begun_turn() {
+            Some((task, 0)) => Some(task),
+            _ => None,
+        },
+    }
+}
