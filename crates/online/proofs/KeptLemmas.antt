@@ -12,14 +12,13 @@ use Rattle.ompt_events.specs.Regions.{open_regions, IsRegion, IsBarrierBegin, is
 use Rattle.ompt_events.specs.Causes.{IsFreeOf}
 use Rattle.ompt_events.proofs.PlaceLemmas.{at_within}
 use Rattle.online.specs.Online.{IsWatchable, HasTeamBegun, AreBegun, HasWholeTeam}
-use Rattle.online.specs.Rosters.{AreWhole}
 use Rattle.online.proofs.ReadLemmas.{same_append, same_whole}
 use Rattle.online.proofs.NameLemmas.{IsRead, IsMadeBelow, running_named, read_whole, whole_long}
 use Rattle.online.proofs.CurrentLemmas.{named_by, open_same}
 use Rattle.online.proofs.ChildLemmas.{children_read}
 use Rattle.online.proofs.BarrierLemmas.{region_same, region_begin, barrier_begin_back, barrier_begin_stays}
 use Rattle.online.proofs.BarrierLemmas.{barrier_runs}
-use Rattle.online.proofs.SizeLemmas.{mates_whole, whole_kept, whole_of_free}
+use Rattle.online.proofs.SizeLemmas.{mates_whole, whole_of_free}
 
 pub children_kept : (before after : List Record) (parent i : ℕ) → i ≤ length before
     → children_before (before ++ after) parent i ≡ children_before before parent i
@@ -96,19 +95,3 @@ begun_there before after i watchable once free below begun own begin member numb
     same_Some found.0 start
     (sym ((barrier_kept before after member number found.0 low).0 found.1) ∙ starts) in
     subst (λ k. k < length before) same low
-
--- so the whole team has begun it by all records, where no team lacks a member
-pub team_begun_kept : (before after : List Record) (i : ℕ) → IsWatchable (before ++ after)
-    → IsFreeOf (before ++ after) CreatedTwice → AreWhole (before ++ after) → i < length before
-    → HasTeamBegun before i → HasTeamBegun (before ++ after) i
-team_begun_kept before after i watchable once full below begun own begin number kind is barrier begins =
-    let team =
-    ends_there before after i own begin number kind watchable once below begun is barrier begins in (
-      whole_kept before after full team.read own team.made team.whole,
-      λ member mate.
-          let found =
-          team.begun member
-          (mates_whole before after full team.read own member team.made team.whole mate) in
-          let low = begin_low before member number found.0 found.1 in
-          (found.0, (barrier_kept before after member number found.0 low).0 found.1),
-    )

@@ -58,7 +58,9 @@ mod TaskgroupLemmas
 mod EndLemmas
 mod WaitLemmas
 mod PhaseLemmas
+mod EndedLemmas
 mod RosterLemmas
+mod PhaseSteps
 mod TeamStepLemmas
 mod UnmadeLemmas
 mod TeamCreateLemmas

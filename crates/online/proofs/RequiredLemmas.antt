@@ -9,13 +9,13 @@ use Rattle.ompt_events.specs.Dependences.{IsPredecessor}
 use Rattle.ompt_events.specs.Violations.{IsRequired, covered, preceding, awaited}
 use Rattle.ompt_events.specs.Causes.{IsFreeOf}
 use Rattle.ompt_events.proofs.TurnLemmas.{start_starts}
-use Rattle.online.specs.Online.{IsWatchable, EndsLast, AreBegun, AreListed, IsDependentAt}
+use Rattle.online.specs.Online.{IsWatchable, EndsLast, AreBegun, IsBarrierSettled, AreListed, IsDependentAt}
 use Rattle.online.proofs.ReadLemmas.{IsSameTo, same_append, same_whole, at_same}
 use Rattle.online.proofs.NameLemmas.{explicit_same, started_named, read_whole}
 use Rattle.online.proofs.CurrentLemmas.{named_by}
 use Rattle.online.proofs.NestingLemmas.{start_same}
 use Rattle.online.proofs.CompleteLemmas.{explicit_stays, complete_stays, complete_back}
-use Rattle.online.proofs.CoverLemmas.{cover_stays, cover_back}
+use Rattle.online.proofs.CoverLemmas.{cover_stays, cover_back, covered_settled}
 use Rattle.online.proofs.PrecededLemmas.{preceded_stays, preceded_back}
 
 dependent_stays : (before after : List Record) (i dependent : ℕ) → i < length before
@@ -103,6 +103,33 @@ required_back before after i watchable once last below begun listed complete tas
         covered
         (cover_back before after i watchable once last below begun (λ t is. complete t (covered is)) task
         covers)
+    of (preceding {dependent = dependent} explicit start is) = from dependent (inl (explicit, start)) is
+    of (awaited {dependent = dependent} waits is) = from dependent (inr waits) is
+
+-- all is complete that must be, where it is by the first records, and of a barrier the begins that count
+-- stand at i or before, or what they add is complete there
+pub required_settled : (before after : List Record) (i : ℕ) → IsWatchable (before ++ after)
+    → IsFreeOf (before ++ after) CreatedTwice → EndsLast (before ++ after) → i < length before
+    → IsBarrierSettled (before ++ after) i
+    → ((dependent : ℕ) → IsDependentAt (before ++ after) i dependent
+    → AreListed (before ++ after) (length before) dependent)
+    → ((task : ℕ) → IsRequired before i task → IsCompleteAt before task i) → (task : ℕ)
+    → IsRequired (before ++ after) i task → IsCompleteAt (before ++ after) task i
+required_settled before after i watchable once last below settled listed complete task required = of required
+  where
+    from : (dependent : ℕ) → IsDependentAt (before ++ after) i dependent
+        → IsPredecessor (before ++ after) dependent task → IsCompleteAt (before ++ after) task i
+    from dependent there is =
+        complete_stays before after i task below
+        (complete task
+        (owed before i dependent task (dependent_back before after i dependent watchable once below there)
+        (preceded_back before after i dependent task watchable once below there (listed dependent there) is)))
+
+    of : IsRequired (before ++ after) i task → IsCompleteAt (before ++ after) task i
+    of (covered covers) =
+        covered_settled before after i watchable once last below settled (λ t is. complete t (covered is))
+        task
+        covers
     of (preceding {dependent = dependent} explicit start is) = from dependent (inl (explicit, start)) is
     of (awaited {dependent = dependent} waits is) = from dependent (inr waits) is
 

@@ -16,15 +16,14 @@ use Rattle.online.specs.declared.team.Team.{Team}
 use Rattle.online.specs.Waits.{IsNew, Puts, is_kept, IsWaitsOf}
 use Rattle.online.specs.Waits.{MayFollow}
 use Rattle.online.specs.Teams.{IsTold, phase_at}
-use Rattle.online.specs.Teams.{IsMemberOf, IsInTeams, IsCountOf, AreTeamsOf}
+use Rattle.online.specs.Teams.{IsMemberOf, IsInTeams, IsTeamOf, AreTeamsBefore, AreTeamsOf}
 use Rattle.online.proofs.OpenGroupLemmas.{at_last}
 use Rattle.online.proofs.GrowLemmas.{said_before, created_fresh}
 use Rattle.online.proofs.StayLemmas.{root_creation, root_region, creator_made, child_made, by_none}
 use Rattle.online.proofs.PhaseLemmas.{phase_stays, members_stay}
 use Rattle.online.proofs.PhaseLemmas.{member_is_made}
-use Rattle.online.proofs.RosterLemmas.{Grows, grows_one, roster_moves}
-use Rattle.online.proofs.RosterLemmas.{count_moves, scopes_same, members_same_kept, tells_moves}
-use Rattle.online.proofs.RosterLemmas.{told_same}
+use Rattle.online.proofs.EndedLemmas.{ends_grow, over_same}
+use Rattle.online.proofs.RosterLemmas.{Grows, grows_one, team_same, team_moves, tells_moves, told_same}
 use Rattle.online.proofs.UnmadeLemmas.{unmade_phase}
 
 -- ---- a root begins
@@ -115,22 +114,22 @@ module _ (rs : List Record) (r : Record) (root : ℕ) (team : Option ℕ) (old n
   ]
 
   -- of a team that keeps its members
-  pub same_count : (parallel : ℕ) (it : Team) → members (rs ++ r ∷ []) parallel ≡ members rs parallel
-      → IsCountOf rs (is_kept old) parallel it → IsCountOf (rs ++ r ∷ []) (is_kept new) parallel it
-  same_count parallel it same is =
-      count_moves rs (rs ++ r ∷ []) parallel (is_kept old) (is_kept new) it it grows
+  pub same_team : (parallel : ℕ) (it : Team) → members (rs ++ r ∷ []) parallel ≡ members rs parallel
+      → IsTeamOf rs (is_kept old) parallel it → IsTeamOf (rs ++ r ∷ []) (is_kept new) parallel it
+  same_team parallel it same is =
+      team_moves rs (rs ++ r ∷ []) parallel (is_kept old) (is_kept new) it it grows same
       (λ i parent child member creates.
       let (m, has, e) = member in
       record {
         member = (m, subst (λ ms. Contains ms m) same has, e);
         creates = said_before creation rs r none i (parent, child) creates;
       })
-      (λ i parent child member creates. kept_child i parent child creates) refl (scopes_same it) is
+      (λ i parent child member creates. kept_child i parent child creates) (team_same it) is
 
 -- an initial task begins
 pub initial_teams : (rs : List Record) (r : Record) (root : ℕ) (old new : ℕ → Option Kin) (kin : Kin)
     (teams : ℕ → Option Team) → Roots rs r root None old new kin → begun_initial r.body ≡ Some root
-    → joined r.body ≡ None → AreTeamsOf rs old teams → AreTeamsOf (rs ++ r ∷ []) new teams
+    → joined r.body ≡ None → AreTeamsOf rs old teams → AreTeamsBefore (rs ++ r ∷ []) (length rs) new teams
 initial_teams rs r root old new kin teams o begins alone is = record {
   places =
       places rs r root None old new kin o (λ parallel task found member. back parallel task member)
@@ -139,12 +138,14 @@ initial_teams rs r root old new kin teams o begins alone is = record {
       (λ parallel member. absurd (outside parallel (back parallel root member)))
       (λ parallel e. absurd (none-some parallel e))
       (λ e. (length rs, at_last begun_initial rs r ∙ begins)));
-  rosters = λ parallel team there.
-      roster_moves rs (rs ++ r ∷ []) parallel team team (grows rs r root None old new kin o) (same parallel)
-      (members_same_kept team) (is.rosters parallel team there);
-  counts = λ parallel team there.
-      same_count rs r root None old new kin o parallel team (same parallel) (is.counts parallel team there);
+  each = λ parallel team there.
+      same_team rs r root None old new kin o parallel team (same parallel) (is.each parallel team there);
   absent = λ parallel none'. same parallel ∙ is.absent parallel none';
+  ends =
+      ends_grow rs r old teams teams o.follows
+      (λ parent child parallel team creates member found.
+      absurd (none-some (parent, child) (sym (none rs r root None old new kin o) ∙ creates)))
+      (λ parallel team was kept found. over_same teams parallel team was kept found) is;
 }
   where
     same : (parallel : ℕ) → members (rs ++ r ∷ []) parallel ≡ members rs parallel

@@ -1,8 +1,8 @@
 -- Where no team lacks a member, and the whole team has begun each barrier that ends, no record has the cause
 -- TeamShort.
-use Rattle.std.proofs.Common.{◌≡◌, ℕ, ◌<◌, ◌+◌, ◌⊎◌, List, length, take, drop, arith, inl, inr}
+use Rattle.std.proofs.Common.{ℕ, ◌<◌, ◌⊎◌, List, length, inl, inr}
 use Rattle.ompt_events.specs.declared.records.Record.{Record}
-use Rattle.ompt_events.specs.declared.cause.Cause.TheVariants.{TeamShort, CreatedTwice}
+use Rattle.ompt_events.specs.declared.cause.Cause.TheVariants.{TeamShort}
 use Rattle.ompt_events.specs.declared.names.SyncKind.{SyncKind}
 use Rattle.ompt_events.specs.declared.names.Endpoint.TheVariants.{End, BeginEnd}
 use Rattle.ompt_events.specs.Records.{region}
@@ -10,12 +10,9 @@ use Rattle.ompt_events.specs.Regions.{IsRegion, ended, at_once}
 use Rattle.ompt_events.proofs.PlaceLemmas.{at_within}
 use Rattle.ompt_events.specs.Causes.{HasCause, team_short, IsFreeOf, IsShort, outside, same_index, other_size}
 use Rattle.ompt_events.specs.Causes.{few, missed}
-use Rattle.ompt_events.proofs.ListLemmas.{get_within}
-use Rattle.online.specs.Online.{HasTeamBegun, IsWatchable, EachRecord}
+use Rattle.online.specs.Online.{HasTeamBegun}
 use Rattle.online.specs.Rosters as rosters
-use Rattle.online.specs.Rosters.{IsShortRoster, AreWhole, MissesBegin, IsBegunAfter}
-use Rattle.online.proofs.KeptLemmas.{team_begun_kept}
-use Rattle.online.proofs.PassLemmas.{first_long, of_last, of_whole, to_whole}
+use Rattle.online.specs.Rosters.{IsShortRoster, AreWhole, MissesBegin}
 
 -- the cause is one of rosters, or of a barrier
 pub short_cases : (rs : List Record) (i : ℕ) → IsShort rs i → IsShortRoster rs i ⊎ MissesBegin rs i
@@ -54,20 +51,7 @@ none_lacks rs whole begun i cause = of cause
     ]
 
 -- a region ends only at a record
-end_within : (rs : List Record) (i own begin : ℕ) (kind : SyncKind) → IsRegion rs i own kind begin
+pub end_within : (rs : List Record) (i own begin : ℕ) (kind : SyncKind) → IsRegion rs i own kind begin
     → i < length rs
 end_within rs i own _ kind (ended is) = at_within region rs i (own, kind, End) is.ends
 end_within rs i own _ kind (at_once says) = at_within region rs i (own, kind, BeginEnd) says
-
--- what each record tells of barriers with those before it, all tell
-pub begun_of_each : (rs : List Record) → IsWatchable rs → IsFreeOf rs CreatedTwice → AreWhole rs
-    → EachRecord IsBegunAfter rs → (i : ℕ) → HasTeamBegun rs i
-begun_of_each rs watchable once whole each i own begin number kind is barrier begins =
-    let below = end_within rs i own begin kind is in
-    let (r, here) = get_within rs i below in
-    let len : length (take (i + 1) rs) ≡ i + 1 = first_long (i + 1) rs (omega (arith, below)) in
-    of_whole (λ l. HasTeamBegun l i) (i + 1) rs
-    (team_begun_kept (take (i + 1) rs) (drop (i + 1) rs) i (to_whole IsWatchable (i + 1) rs watchable)
-    (to_whole (λ l. IsFreeOf l CreatedTwice) (i + 1) rs once) (to_whole AreWhole (i + 1) rs whole)
-    (omega (arith, len)) (of_last (λ l k. HasTeamBegun l k) rs i r here (each i r here)))
-    own begin number kind is barrier begins

@@ -2,6 +2,7 @@
 use Rattle.std.proofs.Common.{◌≡◌, ◌∙◌, ℕ, zero, suc, ◌<◌, ◌≤◌, ◌+◌, Bool, true, false, List, []}
 use Rattle.std.proofs.Common.{◌∷◌, ◌++◌, length, Option, Some, None, refl, sym, ap, subst, arith, inl, inr}
 use Rattle.std.specs.Prelude.{slice_get, Contains, nat_lt, if◌then◌else◌}
+use Rattle.std.specs.Option.{option_map_or}
 use Rattle.std.proofs.lemmas.Bool.{cases_lt, lt-ltb, le-ltb}
 use Rattle.std.proofs.lemmas.Bool.{ltb-true}
 use Rattle.std.proofs.lemmas.Option.{none-some, same_Some}
@@ -15,15 +16,18 @@ use Rattle.ompt_events.specs.Regions.{barrier_begun}
 use Rattle.ompt_events.proofs.PlaceLemmas.{at_within}
 use Rattle.online.specs.declared.scope.Scope.{Scope}
 use Rattle.online.specs.declared.kin.Kin.{Kin}
+use Rattle.online.specs.declared.phase.Phase.{Phase}
 use Rattle.online.specs.declared.team.Team.{Team}
-use Rattle.online.specs.Waits.{IsScopeOf, IsSettled, KeepsTold, is_kept}
-use Rattle.online.specs.Teams.{KeepsMembers, KeepsScopes, phase_at, ahead, IsMemberOf, IsInTeams, IsInPhase}
-use Rattle.online.specs.Teams.{IsRosterOf, IsCountOf, AreTeamsOf}
+use Rattle.online.specs.Waits.{IsScopeOf, IsSettled, KeepsTold, is_kept, MayFollow}
+use Rattle.online.specs.Teams.{no_phase, phase_in, IsSameTeam, phase_at, ahead, IsMemberOf}
+use Rattle.online.specs.Teams.{IsInTeams, IsInPhase, AreSettledUpTo, IsTeamOf, AreEndsOver, AreTeamsBefore}
+use Rattle.online.specs.Teams.{AreTeamsOf}
 use Rattle.online.proofs.ScopeLemmas.{scope_same}
 use Rattle.online.proofs.GrowLemmas.{IsByLive, said_grows, said_before}
 use Rattle.online.proofs.KinLemmas.{Moves, moves_same, moves_grows}
 use Rattle.online.proofs.StayLemmas.{by_none}
 use Rattle.online.proofs.PhaseLemmas.{phase_rises, phase_same, phase_stays, members_stay}
+use Rattle.online.proofs.EndedLemmas.{ends_grow, over_same}
 
 -- ---- records that grow
 
@@ -169,28 +173,10 @@ ahead_all rs (e ∷ ms) number all m k at_k = elim (cases_lt number (phase_at rs
 
 -- ---- what stays of a team
 
-pub roster_moves : (rs more : List Record) (parallel : ℕ) (was after : Team) → Grows rs more
-    → members more parallel ≡ members rs parallel → KeepsMembers was after → IsRosterOf rs parallel was
-    → IsRosterOf more parallel after
-roster_moves rs more parallel was after grows same keeps is = record {
-  joined = keeps.joined ∙ is.joined ∙ ap length (sym same);
-  sizes = λ m has.
-      let e = keeps.actual in
-      let h = is.sizes m (subst (λ ms. Contains ms m) same has) in
-      omega (arith, e, h);
-  begun =
-      let e = keeps.begun in
-      let f = ap (λ ms. ahead more ms after.round) same in
-      let g = ap (ahead more (members rs parallel)) keeps.round in
-      let h = is.begun in
-      let k = ahead_rises rs more grows (members rs parallel) was.round in
-      omega (arith, e, f, g, h, k);
-  reached = λ small m has.
-      let e = keeps.round in
-      let f = keeps.actual in
-      let h = is.reached (omega (arith, small, f)) m (subst (λ ms. Contains ms m) same has) in
-      let k = grows.now m.member in
-      omega (arith, e, h, k);
+pub team_same : (t : Team) → IsSameTeam t t
+team_same t = record {
+  keeps = record { joined = refl; over = refl; greatest = refl };
+  phases = λ number. refl;
 }
 
 -- who is a child of a member by the longer list, in a phase
@@ -243,44 +229,44 @@ scope_moves rs more parallel old new is_phase s grows back kept is =
     of : (child : ℕ) → IsInPhase rs parallel is_phase child → new child ≡ old child
     of child (i, parent, member, creates, phase) = kept i parent child member creates
 
-pub count_moves : (rs more : List Record) (parallel : ℕ) (old new : ℕ → Bool) (was after : Team)
-    → Grows rs more → AreBack rs more parallel → AreKept rs parallel old new → after.round ≡ was.round
-    → KeepsScopes was after → IsCountOf rs old parallel was → IsCountOf more new parallel after
-count_moves rs more parallel old new was after grows back kept same keeps is = record {
-  steady = λ still i parent child member creates.
-      let there = back i parent child member creates in
-      let e = phase_back rs more grows i parent child there.creates in
-      let h = is.steady (sym keeps.steady ∙ still) i parent child there.member there.creates in
-      omega (arith, e, h, same);
-  few =
-      let e = ap (λ (s : Scope). s.left) keeps.past in
-      let f = ap (λ (s : Scope). s.left) keeps.later in
-      let g = is.few in
-      let h = grows.moves.longer in
-      omega (arith, e, f, g, h);
-  past =
-      let P : Scope → Type 0 =
-      λ s. IsScopeOf (length more) (IsInPhase more parallel (λ n. n < after.round)) new (IsSettled more) s in
-      let Q : ℕ → Type 0 =
-      λ k. IsScopeOf (length more) (IsInPhase more parallel (λ n. n < k)) new (IsSettled more) was.past in
-      subst P (sym keeps.past)
-      (subst Q (sym same)
-      (scope_moves rs more parallel old new (λ n. n < was.round) was.past grows back kept is.past));
-  later =
-      let P : Scope → Type 0 =
-      λ s. IsScopeOf (length more) (IsInPhase more parallel (λ n. after.round ≤ n)) new (IsSettled more) s in
-      let Q : ℕ → Type 0 =
-      λ k. IsScopeOf (length more) (IsInPhase more parallel (λ n. k ≤ n)) new (IsSettled more) was.later in
-      subst P (sym keeps.later)
-      (subst Q (sym same)
-      (scope_moves rs more parallel old new (λ n. was.round ≤ n) was.later grows back kept is.later));
+pub settled_moves : (rs more : List Record) (parallel number n : ℕ) → Grows rs more → AreBack rs more parallel
+    → AreSettledUpTo rs parallel number n → AreSettledUpTo more parallel number n
+settled_moves rs more parallel number n grows back is child has =
+    grows.moves.settled child n
+    (is child (in_phase_back rs more parallel grows back (λ k. k ≤ number) child has))
+
+pub team_moves : (rs more : List Record) (parallel : ℕ) (old new : ℕ → Bool) (was after : Team)
+    → Grows rs more → members more parallel ≡ members rs parallel → AreBack rs more parallel
+    → AreKept rs parallel old new → IsSameTeam was after → IsTeamOf rs old parallel was
+    → IsTeamOf more new parallel after
+team_moves rs more parallel old new was after grows same back kept stays is = record {
+  joined = stays.keeps.joined ∙ is.joined ∙ ap length (sym same);
+  begun = λ number p kept'.
+      let h = is.begun number p (sym (stays.phases number) ∙ kept') in
+      let f = ap (λ ms. ahead more ms number) same in
+      let k = ahead_rises rs more grows (members rs parallel) number in
+      omega (arith, f, h, k);
+  going = λ number late.
+      let e = stays.keeps.over in
+      let P : Option Phase → Type 0 =
+      λ o.
+      IsScopeOf (length more) (IsInPhase more parallel (λ k. k ≡ number)) new (IsSettled more)
+      (option_map_or (λ (p : Phase). p) o no_phase).scope in
+      subst P (sym (stays.phases number))
+      (scope_moves rs more parallel old new (λ k. k ≡ number) (phase_in was number).scope grows back kept
+      (is.going number (omega (arith, late, e))));
+  over = λ child has.
+      let P : ℕ → Type 0 = λ n. IsSettled more n child in
+      let Q : ℕ → Type 0 = λ n. IsInPhase more parallel (λ k. k < n) child in
+      subst P (sym stays.keeps.greatest)
+      (grows.moves.settled child was.greatest
+      (is.over child
+      (in_phase_back rs more parallel grows back (λ k. k < was.over) child (subst Q stays.keeps.over has))));
+  each = λ number p low kept' child has.
+      let e = stays.keeps.over in
+      settled_moves rs more parallel number p.scope.greatest grows back
+      (is.each number p (omega (arith, low, e)) (sym (stays.phases number) ∙ kept')) child has;
 }
-
-pub scopes_same : (t : Team) → KeepsScopes t t
-scopes_same t = record { steady = refl; past = refl; later = refl }
-
-pub members_same_kept : (t : Team) → KeepsMembers t t
-members_same_kept t = record { actual = refl; joined = refl; begun = refl; round = refl }
 
 -- ---- what stays of a task
 
@@ -321,27 +307,26 @@ abbrev pub IsToldBefore : (ℕ → Option Kin) → ℕ → Kin → Type 0
 IsToldBefore old task after =
     (was : Kin) × (old task ≡ Some was) × (was.parent ≡ after.parent) × KeepsTold was after
 
-pub teams_move : (rs more : List Record) (old new : ℕ → Option Kin) (teams : ℕ → Option Team)
+pub teams_move : (rs more : List Record) (m n : ℕ) (old new : ℕ → Option Kin) (teams : ℕ → Option Team)
     → Grows rs more → ((parallel : ℕ) → members more parallel ≡ members rs parallel)
     → ((i parent child : ℕ) → IsCreatedAt more i parent child → IsCreatedAt rs i parent child)
     → ((task : ℕ) (after : Kin) → new task ≡ Some after
     → phase_at more task (length more) ≡ phase_at rs task (length rs))
     → ((task : ℕ) (after : Kin) → new task ≡ Some after → IsToldBefore old task after)
-    → ((task : ℕ) → is_kept new task ≡ is_kept old task) → AreTeamsOf rs old teams → AreTeamsOf more new teams
-teams_move rs more old new teams grows same back barriers told kept is = record {
+    → ((task : ℕ) → is_kept new task ≡ is_kept old task) → AreEndsOver more n teams
+    → AreTeamsBefore rs m old teams → AreTeamsBefore more n new teams
+teams_move rs more m n old new teams grows same back barriers told kept ends is = record {
   places = λ task after there.
       let (was, found, parents, keeps) = told task after there in
       tells_moves rs more task was after grows (tells task (barriers task after there)) parents keeps
       (is.places task was found);
-  rosters = λ parallel team there.
-      roster_moves rs more parallel team team grows (same parallel) (members_same_kept team)
-      (is.rosters parallel team there);
-  counts = λ parallel team there.
-      count_moves rs more parallel (is_kept old) (is_kept new) team team grows
+  each = λ parallel team there.
+      team_moves rs more parallel (is_kept old) (is_kept new) team team grows (same parallel)
       (λ i parent child member creates.
       record { member = member_back parallel parent member; creates = back i parent child creates })
-      (λ i parent child member creates. kept child) refl (scopes_same team) (is.counts parallel team there);
+      (λ i parent child member creates. kept child) (team_same team) (is.each parallel team there);
   absent = λ parallel none. same parallel ∙ is.absent parallel none;
+  ends = ends;
 }
   where
     member_back : (parallel task : ℕ) → IsMemberOf more parallel task → IsMemberOf rs parallel task
@@ -367,18 +352,26 @@ pub record IsSilent (r : Record) : Type 0 where
   pub begins : barrier_begun (region r.body) ≡ None
 
 pub teams_grow : (rs : List Record) (r : Record) (old new : ℕ → Option Kin) (teams : ℕ → Option Team)
-    → IsSilent r → ((task : ℕ) (after : Kin) → new task ≡ Some after → IsToldBefore old task after)
+    → MayFollow rs r → IsSilent r
+    → ((task : ℕ) (after : Kin) → new task ≡ Some after → IsToldBefore old task after)
     → ((task : ℕ) → is_kept new task ≡ is_kept old task) → AreTeamsOf rs old teams
-    → AreTeamsOf (rs ++ r ∷ []) new teams
-teams_grow rs r old new teams silent told kept is =
-    teams_move rs (rs ++ r ∷ []) old new teams (grows_one rs r (by_none rs r silent.creates))
+    → AreTeamsBefore (rs ++ r ∷ []) (length rs) new teams
+teams_grow rs r old new teams follows silent told kept is =
+    teams_move rs (rs ++ r ∷ []) (length rs) (length rs) old new teams
+    (grows_one rs r (by_none rs r silent.creates))
     (λ parallel. members_stay rs r parallel (λ m joins. absurd (none-some m (sym silent.joins ∙ joins))))
     (λ i parent child. said_before creation rs r silent.creates i (parent, child))
-    (λ task after there. phase_stays rs r task (λ e. none-some task (sym silent.begins ∙ e))) told kept is
+    (λ task after there. phase_stays rs r task (λ e. none-some task (sym silent.begins ∙ e))) told kept
+    (ends_grow rs r old teams teams follows
+    (λ parent child parallel team creates member found.
+    absurd (none-some (parent, child) (sym silent.creates ∙ creates)))
+    (λ parallel team was kept' found. over_same teams parallel team was kept' found) is)
+    is
 
-pub teams_same : (rs : List Record) (old new : ℕ → Option Kin) (teams : ℕ → Option Team)
+pub teams_same : (rs : List Record) (n : ℕ) (old new : ℕ → Option Kin) (teams : ℕ → Option Team)
     → ((task : ℕ) (after : Kin) → new task ≡ Some after → IsToldBefore old task after)
-    → ((task : ℕ) → is_kept new task ≡ is_kept old task) → AreTeamsOf rs old teams → AreTeamsOf rs new teams
-teams_same rs old new teams told kept is =
-    teams_move rs rs old new teams (grows_same rs) (λ parallel. refl) (λ i parent child creates. creates)
-    (λ task after there. refl) told kept is
+    → ((task : ℕ) → is_kept new task ≡ is_kept old task) → AreTeamsBefore rs n old teams
+    → AreTeamsBefore rs n new teams
+teams_same rs n old new teams told kept is =
+    teams_move rs rs n n old new teams (grows_same rs) (λ parallel. refl) (λ i parent child creates. creates)
+    (λ task after there. refl) told kept is.ends is

@@ -4,11 +4,11 @@ use Rattle.std.proofs.Common.{[], ◌∷◌, ◌++◌, length, Some, refl, sym, 
 use Rattle.std.specs.Prelude.{slice_get, Contains, max}
 use Rattle.std.proofs.lemmas.Bool.{cases_eq, false≢true}
 use Rattle.std.proofs.lemmas.Option.{none-some, same_Some}
-use Rattle.std.proofs.lemmas.List.{length_push, length-append}
-use Rattle.std.proofs.lemmas.List.Elements.{Contains-push, Contains-append_left, Contains-append_right}
+use Rattle.std.proofs.lemmas.List.{length_push}
+use Rattle.std.proofs.lemmas.List.Elements.{Contains-push, Contains-append_left}
 use Rattle.ompt_events.proofs.ListLemmas.{get_contains, contains_get}
 use Rattle.online.specs.declared.scope.Scope.{Scope}
-use Rattle.online.specs.Waits.{IsScopeOf, no_tasks, with_task, without_task, raised, merged}
+use Rattle.online.specs.Waits.{IsScopeOf, no_tasks, with_task, without_task, raised}
 
 -- ---- a list without one of its elements
 
@@ -168,33 +168,3 @@ scope_raise most is_in is_in' kept over s n is rises within = record {
         → over (max s.greatest n) task
     rest task (inl old) gone = rises task s.greatest (max s.greatest n) (omega arith) (is.rest task old gone)
     rest task (inr (gone', late)) gone = rises task n (max s.greatest n) (omega arith) late
-
--- the tasks of two scopes
-pub scope_merge : (most : ℕ) (is_in is_other is_both : ℕ → Type 0) (kept : ℕ → Bool) (over : ℕ → ℕ → Type 0)
-    (s t : Scope) → IsScopeOf most is_in kept over s → IsScopeOf most is_other kept over t → Rises over
-    → s.left + t.left ≤ most → most < 2 ^ 64 → ((task : ℕ) → is_both task → is_in task ⊎ is_other task)
-    → IsScopeOf most is_both kept over (merged s t)
-scope_merge most is_in is_other is_both kept over s t first second rises few small either = record {
-  tasks = first.tasks ++ second.tasks;
-  counted =
-      let e = first.counted in
-      let f = second.counted in
-      let l = length-append first.tasks second.tasks in
-      omega (arith, e, f, l, few, small);
-  few = omega (arith, few);
-  waits = λ task has stays. waits task (either task has) stays;
-  rest = λ task has gone. rest task (either task has) gone;
-}
-  where
-    waits : (task : ℕ) → is_in task ⊎ is_other task → kept task ≡ true
-        → Contains (first.tasks ++ second.tasks) task
-    waits task (inl has) stays =
-        Contains-append_left first.tasks second.tasks task (first.waits task has stays)
-    waits task (inr has) stays =
-        Contains-append_right first.tasks second.tasks task (second.waits task has stays)
-
-    rest : (task : ℕ) → is_in task ⊎ is_other task → kept task ≡ false → over (max s.greatest t.greatest) task
-    rest task (inl has) gone =
-        rises task s.greatest (max s.greatest t.greatest) (omega arith) (first.rest task has gone)
-    rest task (inr has) gone =
-        rises task t.greatest (max s.greatest t.greatest) (omega arith) (second.rest task has gone)

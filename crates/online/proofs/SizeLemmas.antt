@@ -196,16 +196,3 @@ mates_whole before after free read own _ below whole (together parallel mine m h
     together parallel mine m here is
     (subst (λ l. Contains l m)
     (members_whole before after free parallel mine here (whole parallel mine here is)) among)
-
--- and the team of a task that one of them makes is whole by all
-pub whole_kept : (before after : List Record) → AreWhole (before ++ after)
-    → IsRead (length before) (before ++ after) → (own : ℕ)
-    → IsMadeBelow (length before) (before ++ after) own → HasWholeTeam before own
-    → HasWholeTeam (before ++ after) own
-whole_kept before after free read own below whole parallel m has is =
-    let here =
-    member_back (length before) (before ++ after) before (same_append before after) read refl parallel m
-    (subst (IsMadeBelow (length before) (before ++ after)) (sym is) below) has in
-    let most = whole parallel m here is in
-    let all = ap length (members_whole before after free parallel m here most) in
-    omega (arith, most, all)

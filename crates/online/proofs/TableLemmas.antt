@@ -5,8 +5,6 @@ use Rattle.std.proofs.lemmas.Option.{none-some, same_Some}
 use Rattle.std.specs.Prelude.{nat_eq, IsSome, is_some, Result, Ok, Err, OnOk, OnErr}
 use Rattle.std.specs.HashMap.{HashMap, get, get_by, WritesThrough, UpdatesBy}
 use Rattle.online.specs.declared.kin.Kin.{Kin}
-use Rattle.online.specs.declared.team.Team.{Team}
-use Rattle.online.specs.Teams.{ChangesTeam}
 use Rattle.online.specs.Waits.{ChangesAt, ChangesAbove, Removes}
 
 pub changes_written : {S : Type 0} (change : Kin → Kin → Type 0) (task : ℕ) (old new : HashMap ℕ Kin S)
@@ -21,21 +19,6 @@ changes_written change task old new was after found writes changes =
           let same : was ≡ kin = same_Some was kin (found ∙ is) in
           (after, updates.1, subst (λ k. change k after) same changes);
       others = λ other apart. updates.2 other (ne_eqb task other (λ e. apart (sym e)));
-    }
-
-pub team_changed : {S : Type 0} (change : Team → Team → Type 0) (region : ℕ) (old new : HashMap ℕ Team S)
-    (was after : Team) → Some was ≡ get_by (nat_eq region) old
-    → WritesThrough nat_eq (nat_eq region) old after new → change was after
-    → ChangesTeam change region (get nat_eq old) (get nat_eq new)
-team_changed change region old new was after found writes changes =
-    let some : IsSome (get_by (nat_eq region) old) = ap is_some (sym found) in
-    let updates = writes.3 some in
-    record {
-      absent = λ none. absurd (none-some was (sym none ∙ sym found));
-      present = λ team is.
-          let same : was ≡ team = same_Some was team (found ∙ is) in
-          (after, updates.1, subst (λ k. change k after) same changes);
-      others = λ other apart. updates.2 other (ne_eqb region other (λ e. apart (sym e)));
     }
 
 pub above_written : {S : Type 0} (change : Kin → Kin → Type 0) (parent : Option ℕ) (task : ℕ)

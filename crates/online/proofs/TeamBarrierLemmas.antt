@@ -1,8 +1,9 @@
 -- What is kept of teams where a task begins a barrier.
-use Rattle.std.proofs.Common.{◌≡◌, ◌∙◌, ℕ, ◌≤◌, ◌+◌, List, [], ◌∷◌, ◌++◌}
+use Rattle.std.proofs.Common.{◌≡◌, ◌∙◌, ℕ, ◌<◌, ◌≤◌, ◌+◌, Bool, List, [], ◌∷◌, ◌++◌}
 use Rattle.std.proofs.Common.{length, Option, Some, None, refl, sym, ap, subst, arith, inl, inr, ◌⊎◌}
 use Rattle.std.specs.Prelude.{Contains}
-use Rattle.std.proofs.lemmas.Bool.{cases_eq}
+use Rattle.std.specs.Option.{option_map_or}
+use Rattle.std.proofs.lemmas.Bool.{cases_eq, cases_lt}
 use Rattle.std.proofs.lemmas.Option.{none-some, same_Some}
 use Rattle.ompt_events.specs.declared.records.Record.{Record}
 use Rattle.ompt_events.specs.declared.records.Body.{Body}
@@ -18,18 +19,20 @@ use Rattle.ompt_events.specs.Regions.{barrier_begun}
 use Rattle.ompt_events.proofs.ListLemmas.{contains_get}
 use Rattle.online.specs.declared.kin.Kin.{Kin}
 use Rattle.online.specs.declared.team.Team.{Team}
-use Rattle.online.specs.Waits.{ChangesAt, is_kept, MayFollow}
+use Rattle.online.specs.Waits.{ChangesAt, is_kept, IsScopeOf, IsSettled, MayFollow}
+use Rattle.online.specs.declared.scope.Scope.{Scope}
+use Rattle.online.specs.declared.phase.Phase.{Phase}
 use Rattle.online.specs.Teams.{CountsBarrier, CountsBegin, phase_at, ahead, IsMemberOf, IsInTeams}
-use Rattle.online.specs.Teams.{IsRosterOf, IsCountOf, AreTeamsOf, ChangesTeamOf}
-use Rattle.online.specs.Teams.{KeepsScopes}
+use Rattle.online.specs.Teams.{no_phase, phase_of, phase_in, with_begin, AreSettledUpTo, IsInPhase, IsTeamOf}
+use Rattle.online.specs.Teams.{AreTeamsBefore, AreTeamsOf, ChangesTeamOf}
 use Rattle.online.proofs.OpenGroupLemmas.{grouped as grouped'}
 use Rattle.online.proofs.GrowLemmas.{said_before}
 use Rattle.online.proofs.ViewLemmas.{IsFrom, changed_from, kept_same}
 use Rattle.online.proofs.StayLemmas.{by_none, made_none}
 use Rattle.online.proofs.PhaseLemmas.{phase_few, phase_more, phase_stays, members_stay}
-use Rattle.online.proofs.RosterLemmas.{Grows, grows_one, ahead_rises, ahead_more, roster_moves, count_moves}
-use Rattle.online.proofs.RosterLemmas.{scopes_same, members_same_kept, tells_moves, told_same}
-use Rattle.online.proofs.RosterLemmas.{phase_back}
+use Rattle.online.proofs.RosterLemmas.{Grows, grows_one, ahead_more, team_moves, team_same, AreBack, AreKept}
+use Rattle.online.proofs.RosterLemmas.{tells_moves, told_same, phase_back}
+use Rattle.online.proofs.EndedLemmas.{ends_grow}
 use Rattle.online.proofs.TeamStepLemmas.{TeamFrom, team_of_from, team_none}
 
 -- ---- a barrier begins
@@ -52,6 +55,103 @@ pub barrier_grouped : (task : ℕ) (b : Body) → barrier_begun (region b) ≡ S
 barrier_grouped task (SyncRegion kind endpoint parallel own) begins =
     barrier_kind task own kind endpoint begins
 barrier_grouped task _ begins = cc
+
+-- the begin of one member more is counted, where one member more has begun the barrier
+with_begin_is : (rs : List Record) (kept : ℕ → Bool) (parallel number : ℕ) (team after : Team)
+    → IsTeamOf rs kept parallel team → CountsBegin number team after
+    → ((p : Phase) → phase_of team number ≡ Some p → p.begun + 1 ≤ ahead rs (members rs parallel) number)
+    → 1 ≤ ahead rs (members rs parallel) number → IsTeamOf rs kept parallel after
+with_begin_is rs kept parallel number team after is changed more one = record {
+  joined = changed.keeps.joined ∙ is.joined;
+  begun = λ other p there. begun_of other p (was_of other p there);
+  going = λ other late.
+      let e = changed.keeps.over in
+      let P : Scope → Type 0 =
+      λ s. IsScopeOf (length rs) (IsInPhase rs parallel (λ k. k ≡ other)) kept (IsSettled rs) s in
+      subst P (scope_of other (omega (arith, e, late))) (is.going other (omega (arith, e, late)));
+  over = λ child has.
+      let P : ℕ → Type 0 = λ n. IsSettled rs n child in
+      let Q : ℕ → Type 0 = λ n. IsInPhase rs parallel (λ k. k < n) child in
+      subst P (sym changed.keeps.greatest) (is.over child (subst Q changed.keeps.over has));
+  each = λ other p low there child has.
+      let e = changed.keeps.over in each_of other p (omega (arith, e, low)) (was_of other p there) child has;
+}
+  where
+    -- what a phase that is kept was
+    Was : ℕ → Phase → Type 0
+    Was other p =
+        ((q : Phase) × (phase_of team other ≡ Some q) × (p.scope ≡ q.scope)
+        × ((p.begun ≤ q.begun) ⊎ ((other ≡ number) × (p.begun ≤ q.begun + 1))))
+        ⊎ ((other ≡ number) × (team.over ≤ other) × (p.begun ≤ 1))
+
+    begin_few : (q : Phase) → (with_begin q).begun ≤ q.begun + 1
+    begin_few q = omega arith
+
+    was_here : (p : Phase) → phase_of after number ≡ Some p → (it : Option Phase) → phase_of team number ≡ it
+        → Was number p
+    was_here p there (Some q) e =
+        let same : with_begin q ≡ p = same_Some (with_begin q) p (sym (changed.known q e) ∙ there) in
+        let few = begin_few q in
+        let b = ap (λ (x : Phase). x.begun) same in
+        inl (q, e, ap (λ (x : Phase). x.scope) (sym same), inr (refl, omega (arith, few, b)))
+    was_here p there None e = elim (cases_lt number team.over) [
+      | inl low ↦ absurd (none-some p (sym (changed.gone e low) ∙ there))
+      | inr late ↦
+          let same : with_begin no_phase ≡ p = same_Some (with_begin no_phase) p (sym (changed.fresh e late) ∙
+          there) in
+          let few = begin_few no_phase in
+          let b = ap (λ (x : Phase). x.begun) same in
+          inr (refl, late, omega (arith, few, b))
+    ]
+
+    was_of : (other : ℕ) (p : Phase) → phase_of after other ≡ Some p → Was other p
+    was_of other p there = elim (cases_eq other number) [
+      | inl same ↦
+          let P : ℕ → Type 0 = λ n. Was n p in
+          subst P (sym same)
+          (was_here p (ap (phase_of after) (sym same) ∙ there) (phase_of team number) refl)
+      | inr apart ↦
+          inl (p, sym (changed.others other apart) ∙ there, refl, inl (omega arith))
+    ]
+
+    begun_of : (other : ℕ) (p : Phase) → Was other p → p.begun ≤ ahead rs (members rs parallel) other
+    begun_of other p (inl (q, found, scope, inl few)) =
+        let h = is.begun other q found in omega (arith, h, few)
+    begun_of other p (inl (q, found, scope, inr (same, few))) =
+        let h = more q (ap (phase_of team) (sym same) ∙ found) in
+        let e = ap (ahead rs (members rs parallel)) same in
+        omega (arith, h, few, e)
+    begun_of other p (inr (same, late, few)) =
+        let e = ap (ahead rs (members rs parallel)) same in omega (arith, one, few, e)
+
+    each_of : (other : ℕ) (p : Phase) → other < team.over → Was other p
+        → AreSettledUpTo rs parallel other p.scope.greatest
+    each_of other p low (inl (q, found, scope, how)) child has =
+        let P : Scope → Type 0 = λ s. IsSettled rs s.greatest child in
+        subst P (sym scope) (is.each other q low found child has)
+    each_of other p low (inr (same, late, few)) child has = absurd (omega (arith, low, late))
+
+    scope_here : (late : team.over ≤ number) (it : Option Phase) → phase_of team number ≡ it
+        → (phase_in team number).scope ≡ (phase_in after number).scope
+    scope_here late (Some q) e =
+        ap (λ (o : Option Phase). (option_map_or (λ (p : Phase). p) o no_phase).scope) e
+        ∙ sym (ap (λ (o : Option Phase). (option_map_or (λ (p : Phase). p) o no_phase).scope) (changed.known q
+        e))
+    scope_here late None e =
+        ap (λ (o : Option Phase). (option_map_or (λ (p : Phase). p) o no_phase).scope) e
+        ∙ sym (ap (λ (o : Option Phase). (option_map_or (λ (p : Phase). p) o no_phase).scope) (changed.fresh e
+        late))
+
+    scope_of : (other : ℕ) → team.over ≤ other → (phase_in team other).scope ≡ (phase_in after other).scope
+    scope_of other late = elim (cases_eq other number) [
+      | inl same ↦
+          let P : ℕ → Type 0 = λ n. (phase_in team n).scope ≡ (phase_in after n).scope in
+          let Q : ℕ → Type 0 = λ n. team.over ≤ n in
+          subst P (sym same) (scope_here (subst Q same late) (phase_of team number) refl)
+      | inr apart ↦
+          ap (λ (o : Option Phase). (option_map_or (λ (p : Phase). p) o no_phase).scope)
+          (sym (changed.others other apart))
+    ]
 
 module _ (rs : List Record) (r : Record) (task : ℕ) (old new : ℕ → Option Kin) (was : Kin)
     (teams after_teams : ℕ → Option Team) (begins : barrier_begun (region r.body) ≡ Some task)
@@ -114,62 +214,63 @@ module _ (rs : List Record) (r : Record) (task : ℕ) (old new : ℕ → Option 
         (i, parent, grows.moves.creates i parent task creates, member_forth parallel parent member);
   }
 
-  begun_roster : (parallel : ℕ) (team after : Team) → was.team ≡ Some parallel → teams parallel ≡ Some team
-      → CountsBegin was.barriers team after → IsRosterOf (rs ++ r ∷ []) parallel after
-  begun_roster parallel team after own kept changed = record {
-    joined = changed.joined ∙ roster.joined ∙ ap length (sym (same_members parallel));
-    sizes = λ m has.
-        let e = changed.actual in
-        let h = roster.sizes m (subst (λ ms. Contains ms m) (same_members parallel) has) in
-        omega (arith, e, h);
-    begun =
-        let f = ap (λ ms. ahead (rs ++ r ∷ []) ms after.round) (same_members parallel) in
-        let g = ap (ahead (rs ++ r ∷ []) (members rs parallel)) changed.round in
-        let h = roster.begun in
-        let k = ahead_rises rs (rs ++ r ∷ []) grows (members rs parallel) team.round in
-        elim (cases_eq was.barriers team.round) [
-          | inl same ↦
-              let e = changed.counted same in
-              let l = counted same in
-              omega (arith, e, f, g, h, l)
-          | inr apart ↦ let e = changed.other apart in omega (arith, e, f, g, h, k)
-        ];
-    reached = λ small m has.
-        let e = changed.round in
-        let a = changed.actual in
-        let h =
-        roster.reached (omega (arith, small, a)) m
-        (subst (λ ms. Contains ms m) (same_members parallel) has) in
-        let k = grows.now m.member in
-        omega (arith, e, h, k);
+  back_here : (parallel : ℕ) → AreBack rs (rs ++ r ∷ []) parallel
+  back_here parallel i parent child member creates = record {
+    member = member_back parallel parent member;
+    creates = back i parent child creates;
   }
-    where
-      roster : IsRosterOf rs parallel team
-      roster = is.rosters parallel team kept
 
-      counted : was.barriers ≡ team.round
-          → ahead rs (members rs parallel) team.round + 1
-          ≤ ahead (rs ++ r ∷ []) (members rs parallel) team.round
-      counted same =
-          let (m, has, same_task) = place.member parallel own in
-          let (k, at_k) = contains_get (members rs parallel) m has in
-          let before = ap (λ t. phase_at rs t (length rs)) same_task in
-          let behind = ap (λ t. phase_at (rs ++ r ∷ []) t (length (rs ++ r ∷ []))) same_task in
-          let more = phase_more rs r task begins in
-          let number = number_is in
-          ahead_more rs (rs ++ r ∷ []) grows (members rs parallel) m team.round k at_k
-          (omega (arith, before, number, same)) (omega (arith, behind, more, number, same))
+  kept_here : (parallel : ℕ) → AreKept rs parallel (is_kept old) (is_kept new)
+  kept_here parallel i parent child member creates = kept_same CountsBarrier task old new counts child
 
-  pub begin_teams : AreTeamsOf (rs ++ r ∷ []) new after_teams
+  moved : (parallel : ℕ) (team : Team) → teams parallel ≡ Some team
+      → IsTeamOf (rs ++ r ∷ []) (is_kept new) parallel team
+  moved parallel team kept =
+      team_moves rs (rs ++ r ∷ []) parallel (is_kept old) (is_kept new) team team grows
+      (same_members parallel)
+      (back_here parallel) (kept_here parallel) (team_same team) (is.each parallel team kept)
+
+  -- one member more has begun the barrier
+  counted : (parallel : ℕ) → was.team ≡ Some parallel
+      → ahead rs (members rs parallel) was.barriers + 1
+      ≤ ahead (rs ++ r ∷ []) (members (rs ++ r ∷ []) parallel) was.barriers
+  counted parallel own =
+      let (m, has, same_task) = place.member parallel own in
+      let (k, at_k) = contains_get (members rs parallel) m has in
+      let before = ap (λ t. phase_at rs t (length rs)) same_task in
+      let behind = ap (λ t. phase_at (rs ++ r ∷ []) t (length (rs ++ r ∷ []))) same_task in
+      let more = phase_more rs r task begins in
+      let number = number_is in
+      let same = ap (λ ms. ahead (rs ++ r ∷ []) ms was.barriers) (same_members parallel) in
+      let h =
+      ahead_more rs (rs ++ r ∷ []) grows (members rs parallel) m was.barriers k at_k
+      (omega (arith, before, number)) (omega (arith, behind, more, number)) in
+      omega (arith, same, h)
+
+  begun_team : (parallel : ℕ) (team after : Team) → was.team ≡ Some parallel → teams parallel ≡ Some team
+      → CountsBegin was.barriers team after → IsTeamOf (rs ++ r ∷ []) (is_kept new) parallel after
+  begun_team parallel team after own kept changed =
+      with_begin_is (rs ++ r ∷ []) (is_kept new) parallel was.barriers team after
+      (moved parallel team kept) changed
+      (λ p there.
+      let few = (is.each parallel team kept).begun was.barriers p there in
+      let more = counted parallel own in
+      omega (arith, few, more))
+      (let more = counted parallel own in omega (arith, more))
+
+  pub begin_teams : AreTeamsBefore (rs ++ r ∷ []) (length rs) new after_teams
   begin_teams = record {
     places = λ other after there.
         place_of other after (changed_from CountsBarrier task old new counts other after there);
-    rosters = λ parallel after there. roster_of parallel after (from parallel after there);
-    counts = λ parallel after there. count_of parallel after (from parallel after there);
+    each = λ parallel after there. team_is parallel after (from parallel after there);
     absent = λ parallel none'.
         same_members parallel
         ∙ is.absent parallel
         (team_none (CountsBegin was.barriers) was.team teams after_teams changes parallel none');
+    ends =
+        ends_grow rs r old teams after_teams follows
+        (λ parent child parallel team creates. absurd (none-some (parent, child) (sym none ∙ creates)))
+        (λ parallel after it there before. rises parallel after it before (from parallel after there)) is;
   }
     where
       place_of : (other : ℕ) (after : Kin) → IsFrom CountsBarrier (other ≡ task) old other after
@@ -201,37 +302,34 @@ module _ (rs : List Record) (r : Record) (task : ℕ) (old new : ℕ → Option 
           → TeamFrom (CountsBegin was.barriers) (was.team ≡ Some parallel) teams parallel after
       from = team_of_from (CountsBegin was.barriers) was.team teams after_teams changes
 
-      roster_of : (parallel : ℕ) (after : Team)
+      team_is : (parallel : ℕ) (after : Team)
           → TeamFrom (CountsBegin was.barriers) (was.team ≡ Some parallel) teams parallel after
-          → IsRosterOf (rs ++ r ∷ []) parallel after
-      roster_of parallel after it = by it.how
-        where
-          by : ((was.team ≡ Some parallel) × CountsBegin was.barriers it.was after)
-              ⊎ ((was.team ≡ Some parallel → ⊥) × (it.was ≡ after)) → IsRosterOf (rs ++ r ∷ []) parallel after
-          by (inl (own, changed)) = begun_roster parallel it.was after own it.kept changed
-          by (inr (apart, same)) =
-              subst (λ t. IsRosterOf (rs ++ r ∷ []) parallel t) same
-              (roster_moves rs (rs ++ r ∷ []) parallel it.was it.was grows (same_members parallel)
-              (members_same_kept it.was) (is.rosters parallel it.was it.kept))
-
-      moved : (parallel : ℕ) (it after : Team) → teams parallel ≡ Some it → after.round ≡ it.round
-          → KeepsScopes it after → IsCountOf (rs ++ r ∷ []) (is_kept new) parallel after
-      moved parallel it after kept same keeps =
-          count_moves rs (rs ++ r ∷ []) parallel (is_kept old) (is_kept new) it after grows
-          (λ i parent child member creates.
-          record { member = member_back parallel parent member; creates = back i parent child creates })
-          (λ i parent child member creates. kept_same CountsBarrier task old new counts child) same keeps
-          (is.counts parallel it kept)
-
-      count_of : (parallel : ℕ) (after : Team)
-          → TeamFrom (CountsBegin was.barriers) (was.team ≡ Some parallel) teams parallel after
-          → IsCountOf (rs ++ r ∷ []) (is_kept new) parallel after
-      count_of parallel after it = by it.how
+          → IsTeamOf (rs ++ r ∷ []) (is_kept new) parallel after
+      team_is parallel after it = by it.how
         where
           by : ((was.team ≡ Some parallel) × CountsBegin was.barriers it.was after)
               ⊎ ((was.team ≡ Some parallel → ⊥) × (it.was ≡ after))
-              → IsCountOf (rs ++ r ∷ []) (is_kept new) parallel after
-          by (inl (own, changed)) = moved parallel it.was after it.kept changed.round changed.scopes
+              → IsTeamOf (rs ++ r ∷ []) (is_kept new) parallel after
+          by (inl (own, changed)) = begun_team parallel it.was after own it.kept changed
           by (inr (apart, same)) =
-              subst (λ t. IsCountOf (rs ++ r ∷ []) (is_kept new) parallel t) same
-              (moved parallel it.was it.was it.kept refl (scopes_same it.was))
+              subst (λ t. IsTeamOf (rs ++ r ∷ []) (is_kept new) parallel t) same
+              (moved parallel it.was it.kept)
+
+      rises : (parallel : ℕ) (after before : Team) → teams parallel ≡ Some before
+          → TeamFrom (CountsBegin was.barriers) (was.team ≡ Some parallel) teams parallel after
+          → before.over ≤ after.over
+      rises parallel after before found' it = by it.how
+        where
+          same_team : it.was ≡ before
+          same_team = same_Some it.was before (sym it.kept ∙ found')
+
+          by : ((was.team ≡ Some parallel) × CountsBegin was.barriers it.was after)
+              ⊎ ((was.team ≡ Some parallel → ⊥) × (it.was ≡ after)) → before.over ≤ after.over
+          by (inl (own, changed)) =
+              let e = changed.keeps.over in
+              let f = ap (λ (t : Team). t.over) same_team in
+              omega (arith, e, f)
+          by (inr (apart, same)) =
+              let e = ap (λ (t : Team). t.over) same in
+              let f = ap (λ (t : Team). t.over) same_team in
+              omega (arith, e, f)

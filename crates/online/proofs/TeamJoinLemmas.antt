@@ -1,9 +1,8 @@
 -- What is kept of teams where a member joins its team.
 use Rattle.std.proofs.Common.{◌≡◌, ◌≢◌, ◌∙◌, ℕ, ◌<◌, ◌≤◌, ◌+◌, ◌^◌, List, [], ◌∷◌, ◌++◌}
-use Rattle.std.proofs.Common.{length, Option, Some, None, refl, sym, ap, subst, arith, inl, inr, ◌⊎◌, zero}
-use Rattle.std.proofs.Common.{suc}
-use Rattle.std.proofs.Common.{get_or}
+use Rattle.std.proofs.Common.{length, Option, Some, None, refl, sym, ap, subst, arith, inl, inr, ◌⊎◌}
 use Rattle.std.specs.Prelude.{Contains}
+use Rattle.std.specs.Option.{option_map_or}
 use Rattle.std.proofs.lemmas.Bool.{cases_eq}
 use Rattle.std.proofs.lemmas.Option.{none-some, same_Some}
 use Rattle.std.proofs.lemmas.List.{length_push}
@@ -11,31 +10,31 @@ use Rattle.std.proofs.lemmas.List.Elements.{Contains-push, Contains-append_left,
 use Rattle.ompt_events.specs.declared.records.Record.{Record}
 use Rattle.ompt_events.specs.declared.records.Membership.{Membership}
 use Rattle.ompt_events.specs.Records.{joined, creation}
-use Rattle.ompt_events.specs.Tree.{IsCreatedAt}
 use Rattle.ompt_events.specs.Teams.{members}
 use Rattle.ompt_events.specs.Causes.{IsMade}
 use Rattle.online.specs.declared.scope.Scope.{Scope}
 use Rattle.online.specs.declared.kin.Kin.{Kin}
+use Rattle.online.specs.declared.phase.Phase.{Phase}
 use Rattle.online.specs.declared.team.Team.{Team}
-use Rattle.online.specs.Waits.{no_tasks, IsScopeOf, IsSettled, is_kept}
-use Rattle.online.specs.Teams.{IsFirstOf, HasJoined, ahead}
-use Rattle.online.specs.Teams.{IsMemberOf, IsInTeams, IsInPhase, IsRosterOf, IsCountOf, AreTeamsOf}
+use Rattle.online.specs.Waits.{IsScopeOf, IsSettled, is_kept}
+use Rattle.online.specs.Teams.{IsFirst, HasJoined, ahead, no_phase, phase_in, IsTeamOf}
+use Rattle.online.specs.Teams.{IsMemberOf, IsInTeams, IsInPhase, AreTeamsBefore, AreTeamsOf}
 use Rattle.online.specs.Teams.{JoinsTeam}
 use Rattle.online.proofs.ScopeLemmas.{scope_none}
 use Rattle.online.proofs.GrowLemmas.{said_before}
 use Rattle.online.proofs.StayLemmas.{creator_made}
 use Rattle.online.proofs.PhaseLemmas.{members_stay, members_join, members_few}
 use Rattle.online.proofs.PhaseLemmas.{member_is_made}
-use Rattle.online.proofs.RosterLemmas.{ahead_rises, ahead_push, roster_moves}
-use Rattle.online.proofs.RosterLemmas.{IsBack, count_moves, members_same_kept}
+use Rattle.online.proofs.RosterLemmas.{Grows, AreBack, AreKept, ahead_rises, ahead_push, in_phase_back}
+use Rattle.online.proofs.RosterLemmas.{scope_moves, team_moves, team_same}
+use Rattle.online.proofs.EndedLemmas.{ends_grow}
 use Rattle.online.proofs.RootTeamLemmas.{Roots, none, unmade, away, grows, kept_child, root_place, places}
-use Rattle.online.proofs.RootTeamLemmas.{same_count}
 
 -- ---- a member joins its team
 
 module _ (rs : List Record) (r : Record) (m : Membership) (old new : ℕ → Option Kin) (kin : Kin)
     (teams after_teams : ℕ → Option Team) (o : Roots rs r m.member (Some m.parallel) old new kin)
-    (joins : joined r.body ≡ Some m) (enters : JoinsTeam m.parallel m.actual teams after_teams)
+    (joins : joined r.body ≡ Some m) (enters : JoinsTeam m.parallel teams after_teams)
     (is : AreTeamsOf rs old teams) where
   others_same : (parallel : ℕ) → parallel ≢ m.parallel
       → members (rs ++ r ∷ []) parallel ≡ members rs parallel
@@ -112,9 +111,27 @@ module _ (rs : List Record) (r : Record) (m : Membership) (old new : ℕ → Opt
 
   -- ---- its team
 
-  joined_roster : (team : Team) → teams m.parallel ≡ Some team → HasJoined m.actual team enters.after
-      → IsRosterOf (rs ++ r ∷ []) m.parallel enters.after
-  joined_roster team kept changed = record {
+  grown : Grows rs (rs ++ r ∷ [])
+  grown = grows rs r m.member (Some m.parallel) old new kin o
+
+  back : (parallel : ℕ) → AreBack rs (rs ++ r ∷ []) parallel
+  back parallel i parent child member creates =
+      let early =
+      said_before creation rs r (none rs r m.member (Some m.parallel) old new kin o) i (parent, child)
+      creates in
+      record {
+        member =
+            mate_back parallel parent (creator_made rs r o.follows.watchable i parent child early) member;
+        creates = early;
+      }
+
+  kept_same' : (parallel : ℕ) → AreKept rs parallel (is_kept old) (is_kept new)
+  kept_same' parallel i parent child member creates =
+      kept_child rs r m.member (Some m.parallel) old new kin o i parent child creates
+
+  joined_team : (team : Team) → teams m.parallel ≡ Some team → HasJoined team enters.after
+      → IsTeamOf (rs ++ r ∷ []) (is_kept new) m.parallel enters.after
+  joined_team team kept changed = record {
     joined =
         let e = was.joined in
         let f = changed.joined in
@@ -122,146 +139,122 @@ module _ (rs : List Record) (r : Record) (m : Membership) (old new : ℕ → Opt
         let h = members_few rs m.parallel (length rs) in
         let k = room in
         omega (arith, e, f, g, h, k);
-    sizes = λ e has.
-        elim (Contains-push_cases (members rs m.parallel) m e (subst (λ ms. Contains ms e) here has)) [
-          | inl early ↦ let h = was.sizes e early in let k = changed.actual in omega (arith, h, k)
-          | inr last ↦
-              let P : Membership → Type 0 = λ x. x.actual ≤ enters.after.actual in
-              subst P last changed.least
-        ];
-    begun =
-        let e = changed.begun in
-        let f = ap (λ ms. ahead (rs ++ r ∷ []) ms enters.after.round) here in
-        let g = ap (ahead (rs ++ r ∷ []) (members rs m.parallel ++ m ∷ [])) changed.round in
-        let h = was.begun in
-        let k =
-        ahead_rises rs (rs ++ r ∷ []) (grows rs r m.member (Some m.parallel) old new kin o)
-        (members rs m.parallel) team.round in
-        let l = ahead_push (rs ++ r ∷ []) (members rs m.parallel) m team.round in
-        omega (arith, e, f, g, h, k, l);
-    reached = λ small e has. elim (cases_eq team.round 0) [
-      | inl first ↦ let h = changed.round in omega (arith, first, h)
-      | inr later ↦ let h = changed.behind (omega (arith, later)) in absurd (omega (arith, h, small))
-    ];
+    begun = λ number p there.
+        let f = ap (λ ms. ahead (rs ++ r ∷ []) ms number) here in
+        let h = was.begun number p (sym (changed.phases number) ∙ there) in
+        let k = ahead_rises rs (rs ++ r ∷ []) grown (members rs m.parallel) number in
+        let l = ahead_push (rs ++ r ∷ []) (members rs m.parallel) m number in
+        omega (arith, f, h, k, l);
+    going = λ number late.
+        let e = changed.over in
+        let P : Scope → Type 0 =
+        λ s.
+        IsScopeOf (length (rs ++ r ∷ [])) (IsInPhase (rs ++ r ∷ []) m.parallel (λ k. k ≡ number))
+        (is_kept new) (IsSettled (rs ++ r ∷ []))
+        s in
+        subst P (scope_same_in number)
+        (scope_moves rs (rs ++ r ∷ []) m.parallel (is_kept old) (is_kept new) (λ k. k ≡ number)
+        (phase_in team number).scope grown (back m.parallel) (kept_same' m.parallel)
+        (was.going number (omega (arith, e, late))));
+    over = λ child has.
+        let P : ℕ → Type 0 = λ n. IsInPhase (rs ++ r ∷ []) m.parallel (λ k. k < n) child in
+        let Q : ℕ → Type 0 = λ n. IsSettled (rs ++ r ∷ []) n child in
+        subst Q (sym changed.greatest)
+        (grown.moves.settled child team.greatest
+        (was.over child (early (λ k. k < team.over) child (subst P changed.over has))));
+    each = λ number p low there child has.
+        let e = changed.over in
+        grown.moves.settled child p.scope.greatest
+        (was.each number p (omega (arith, e, low)) (sym (changed.phases number) ∙ there) child
+        (early (λ k. k ≤ number) child has));
   }
     where
-      was : IsRosterOf rs m.parallel team
-      was = is.rosters m.parallel team kept
+      was : IsTeamOf rs (is_kept old) m.parallel team
+      was = is.each m.parallel team kept
 
-  joined_count : (team : Team) → teams m.parallel ≡ Some team → HasJoined m.actual team enters.after
-      → IsCountOf (rs ++ r ∷ []) (is_kept new) m.parallel enters.after
-  joined_count team kept changed =
-      count_moves rs (rs ++ r ∷ []) m.parallel (is_kept old) (is_kept new) team enters.after
-      (grows rs r m.member (Some m.parallel) old new kin o)
-      (λ i parent child member creates. back i parent child member creates)
-      (λ i parent child member creates.
-      kept_child rs r m.member (Some m.parallel) old new kin o i parent child creates)
-      changed.round changed.scopes (is.counts m.parallel team kept)
-    where
-      back : (i parent child : ℕ) → IsMemberOf (rs ++ r ∷ []) m.parallel parent
-          → IsCreatedAt (rs ++ r ∷ []) i parent child → IsBack rs (rs ++ r ∷ []) m.parallel i parent child
-      back i parent child member creates =
-          let early =
-          said_before creation rs r (none rs r m.member (Some m.parallel) old new kin o) i (parent, child)
-          creates in
-          record {
-            member =
-                mate_back m.parallel parent
-                (creator_made rs r o.follows.watchable i parent child early) member;
-            creates = early;
-          }
+      early : (is_phase : ℕ → Type 0) (child : ℕ) → IsInPhase (rs ++ r ∷ []) m.parallel is_phase child
+          → IsInPhase rs m.parallel is_phase child
+      early is_phase child has =
+          in_phase_back rs (rs ++ r ∷ []) m.parallel grown (back m.parallel) is_phase child has
+
+      scope_same_in : (number : ℕ) → (phase_in team number).scope ≡ (phase_in enters.after number).scope
+      scope_same_in number =
+          ap (λ (q : Option Phase). (option_map_or (λ (p : Phase). p) q no_phase).scope)
+          (sym (changed.phases number))
 
   -- of its first member
   first_list : teams m.parallel ≡ None → members (rs ++ r ∷ []) m.parallel ≡ m ∷ []
   first_list absent = here ∙ ap (λ l. l ++ m ∷ []) (is.absent m.parallel absent)
 
-  first_childless : teams m.parallel ≡ None → (i parent child : ℕ)
-      → IsMemberOf (rs ++ r ∷ []) m.parallel parent → IsCreatedAt (rs ++ r ∷ []) i parent child → ⊥
-  first_childless absent i parent child member creates =
-      let early =
-      said_before creation rs r (none rs r m.member (Some m.parallel) old new kin o) i (parent, child)
-      creates in
-      let (e, has, same_task) =
-      mate_back m.parallel parent (creator_made rs r o.follows.watchable i parent child early) member in
+  first_childless : teams m.parallel ≡ None → (is_phase : ℕ → Type 0) (child : ℕ)
+      → IsInPhase (rs ++ r ∷ []) m.parallel is_phase child → ⊥
+  first_childless absent is_phase child (i, parent, member, creates, phase) =
+      let there = back m.parallel i parent child member creates in
+      let (e, has, same_task) = there.member in
       let (k, low, at_k) = subst (λ ms. Contains ms e) (is.absent m.parallel absent) has in
       omega (arith, low)
 
-  first_roster : teams m.parallel ≡ None → IsFirstOf m.actual enters.after
-      → IsRosterOf (rs ++ r ∷ []) m.parallel enters.after
-  first_roster absent first = record {
+  first_team : teams m.parallel ≡ None → IsFirst enters.after
+      → IsTeamOf (rs ++ r ∷ []) (is_kept new) m.parallel enters.after
+  first_team absent first = record {
     joined = first.joined ∙ sym (ap length (first_list absent));
-    sizes = λ e has.
-        let (k, low, at_k) = subst (λ ms. Contains ms e) (first_list absent) has in
-        let same : m ≡ e = one k low at_k in
-        let P : Membership → Type 0 = λ x. x.actual ≤ enters.after.actual in
-        let h = first.actual in
-        subst P same (omega (arith, h));
-    begun = let h = first.begun in omega (arith, h);
-    reached = λ small e has. let h = first.round in omega (arith, h);
+    begun = λ number p there. absurd (none-some p (sym (first.none number) ∙ there));
+    going = λ number late.
+        let P : Scope → Type 0 =
+        λ s.
+        IsScopeOf (length (rs ++ r ∷ [])) (IsInPhase (rs ++ r ∷ []) m.parallel (λ k. k ≡ number))
+        (is_kept new) (IsSettled (rs ++ r ∷ []))
+        s in
+        subst P
+        (ap (λ (q : Option Phase). (option_map_or (λ (p : Phase). p) q no_phase).scope)
+        (sym (first.none number)))
+        (scope_none (length (rs ++ r ∷ [])) (IsInPhase (rs ++ r ∷ []) m.parallel (λ k. k ≡ number))
+        (is_kept new)
+        (IsSettled (rs ++ r ∷ [])) (λ child has. first_childless absent (λ k. k ≡ number) child has));
+    over = λ child has. absurd (first_childless absent (λ k. k < enters.after.over) child has);
+    each = λ number p low there. absurd (none-some p (sym (first.none number) ∙ there));
   }
-    where
-      one : {e : Membership} (k : ℕ) → k < length (m ∷ []) → get_or (m ∷ []) k e ≡ e → m ≡ e
-      one zero low at_k = at_k
-      one (suc k) low at_k = absurd (omega (arith, low))
 
-  first_count : teams m.parallel ≡ None → IsFirstOf m.actual enters.after
-      → IsCountOf (rs ++ r ∷ []) (is_kept new) m.parallel enters.after
-  first_count absent first = record {
-    steady = λ still i parent child member creates.
-        absurd (first_childless absent i parent child member creates);
-    few =
-        let e = ap (λ (s : Scope). s.left) first.past in
-        let f = ap (λ (s : Scope). s.left) first.later in
-        omega (arith, e, f);
-    past = empty (λ n. n < enters.after.round) enters.after.past first.past;
-    later = empty (λ n. enters.after.round ≤ n) enters.after.later first.later;
-  }
-    where
-      empty : (is_phase : ℕ → Type 0) (s : Scope) → s ≡ no_tasks
-          → IsScopeOf (length (rs ++ r ∷ [])) (IsInPhase (rs ++ r ∷ []) m.parallel is_phase) (is_kept new)
-          (IsSettled (rs ++ r ∷ [])) s
-      empty is_phase s e =
-          let P : Scope → Type 0 =
-          λ t.
-          IsScopeOf (length (rs ++ r ∷ [])) (IsInPhase (rs ++ r ∷ []) m.parallel is_phase) (is_kept new)
-          (IsSettled (rs ++ r ∷ [])) t in
-          subst P (sym e)
-          (scope_none (length (rs ++ r ∷ [])) (IsInPhase (rs ++ r ∷ []) m.parallel is_phase) (is_kept new)
-          (IsSettled (rs ++ r ∷ []))
-          (λ child has.
-          let (i, parent, member, creates, phase) = has in
-          first_childless absent i parent child member creates))
+  team_here : (it : Option Team) → teams m.parallel ≡ it
+      → IsTeamOf (rs ++ r ∷ []) (is_kept new) m.parallel enters.after
+  team_here None e = first_team e (enters.first e)
+  team_here (Some team) e = joined_team team e (enters.further team e)
 
-  pub join_teams : AreTeamsOf (rs ++ r ∷ []) new after_teams
+  -- ---- all teams
+
+  rises : (parallel : ℕ) (after before : Team) → after_teams parallel ≡ Some after
+      → teams parallel ≡ Some before → before.over ≤ after.over
+  rises parallel after before there kept = elim (cases_eq parallel m.parallel) [
+    | inl same ↦
+        let e : enters.after ≡ after =
+        same_Some enters.after after (sym enters.here ∙ ap after_teams (sym same) ∙ there) in
+        let f = ap (λ (t : Team). t.over) e in
+        let g = (enters.further before (ap teams (sym same) ∙ kept)).over in
+        omega (arith, f, g)
+    | inr apart ↦
+        let e : before ≡ after =
+        same_Some before after (sym kept ∙ sym (enters.others parallel apart) ∙ there) in
+        let f = ap (λ (t : Team). t.over) e in
+        omega (arith, f)
+  ]
+
+  pub join_teams : AreTeamsBefore (rs ++ r ∷ []) (length rs) new after_teams
   join_teams = record {
     places =
         places rs r m.member (Some m.parallel) old new kin o
         (λ parallel task found member. mate_back parallel task found member)
         (λ parallel task member. mate_forth parallel task member) is.places member_place;
-    rosters = λ parallel after there. elim (cases_eq parallel m.parallel) [
+    each = λ parallel after there. elim (cases_eq parallel m.parallel) [
       | inl same ↦
           let e : enters.after ≡ after =
           same_Some enters.after after (sym enters.here ∙ ap after_teams (sym same) ∙ there) in
-          let P : ℕ → Type 0 = λ t. IsRosterOf (rs ++ r ∷ []) t after in
-          let Q : Team → Type 0 = λ t. IsRosterOf (rs ++ r ∷ []) m.parallel t in
-          subst P (sym same) (subst Q e (roster_here (teams m.parallel) refl))
+          let P : ℕ → Type 0 = λ t. IsTeamOf (rs ++ r ∷ []) (is_kept new) t after in
+          let Q : Team → Type 0 = λ t. IsTeamOf (rs ++ r ∷ []) (is_kept new) m.parallel t in
+          subst P (sym same) (subst Q e (team_here (teams m.parallel) refl))
       | inr apart ↦
-          roster_moves rs (rs ++ r ∷ []) parallel after after
-          (grows rs r m.member (Some m.parallel) old new kin o) (others_same parallel apart)
-          (members_same_kept after)
-          (is.rosters parallel after (sym (enters.others parallel apart) ∙ there))
-    ];
-    counts = λ parallel after there. elim (cases_eq parallel m.parallel) [
-      | inl same ↦
-          let e : enters.after ≡ after =
-          same_Some enters.after after (sym enters.here ∙ ap after_teams (sym same) ∙ there) in
-          let P : ℕ → Type 0 = λ t. IsCountOf (rs ++ r ∷ []) (is_kept new) t after in
-          let Q : Team → Type 0 = λ t. IsCountOf (rs ++ r ∷ []) (is_kept new) m.parallel t in
-          subst P (sym same) (subst Q e (count_here (teams m.parallel) refl))
-      | inr apart ↦
-          same_count rs r m.member (Some m.parallel) old new kin o parallel after
-          (others_same parallel apart)
-          (is.counts parallel after (sym (enters.others parallel apart) ∙ there))
+          team_moves rs (rs ++ r ∷ []) parallel (is_kept old) (is_kept new) after after grown
+          (others_same parallel apart) (back parallel) (kept_same' parallel) (team_same after)
+          (is.each parallel after (sym (enters.others parallel apart) ∙ there))
     ];
     absent = λ parallel none'. elim (cases_eq parallel m.parallel) [
       | inl same ↦
@@ -270,14 +263,10 @@ module _ (rs : List Record) (r : Record) (m : Membership) (old new : ℕ → Opt
           others_same parallel apart
           ∙ is.absent parallel (sym (enters.others parallel apart) ∙ none')
     ];
+    ends =
+        ends_grow rs r old teams after_teams o.follows
+        (λ parent child parallel team creates.
+        absurd
+        (none-some (parent, child) (sym (none rs r m.member (Some m.parallel) old new kin o) ∙ creates)))
+        (λ parallel after before there kept. rises parallel after before there kept) is;
   }
-    where
-      roster_here : (it : Option Team) → teams m.parallel ≡ it
-          → IsRosterOf (rs ++ r ∷ []) m.parallel enters.after
-      roster_here None e = first_roster e (enters.first e)
-      roster_here (Some team) e = joined_roster team e (enters.further team e)
-
-      count_here : (it : Option Team) → teams m.parallel ≡ it
-          → IsCountOf (rs ++ r ∷ []) (is_kept new) m.parallel enters.after
-      count_here None e = first_count e (enters.first e)
-      count_here (Some team) e = joined_count team e (enters.further team e)

@@ -1,24 +1,25 @@
--- What is kept of teams where a task is settled, and where a team goes on to the next round.
-use Rattle.std.proofs.Common.{◌≡◌, ◌≢◌, ◌∙◌, ℕ, ◌<◌, ◌≤◌, ◌^◌, Bool, List, length}
+-- What is kept of teams where a task is settled.
+use Rattle.std.proofs.Common.{◌≡◌, ◌≢◌, ◌∙◌, ℕ, ◌<◌, ◌≤◌, true, false, List, length}
 use Rattle.std.proofs.Common.{Option, Some, None, refl, sym, ap, subst, arith, inl, inr, ◌⊎◌}
+use Rattle.std.specs.Option.{option_map_or}
 use Rattle.std.proofs.lemmas.Bool.{cases_eq, cases_lt}
 use Rattle.std.proofs.lemmas.Option.{none-some, same_Some}
 use Rattle.ompt_events.specs.declared.records.Record.{Record}
 use Rattle.ompt_events.specs.Tree.{IsCreatedAt}
 use Rattle.ompt_events.specs.Teams.{members}
-use Rattle.ompt_events.proofs.ListLemmas.{contains_get}
 use Rattle.ompt_events.proofs.RecordLemmas.{creation_at_created}
 use Rattle.online.specs.declared.scope.Scope.{Scope}
 use Rattle.online.specs.declared.kin.Kin.{Kin}
+use Rattle.online.specs.declared.phase.Phase.{Phase}
 use Rattle.online.specs.declared.team.Team.{Team}
-use Rattle.online.specs.Waits.{without_task, IsScopeOf, IsSettled, is_kept}
-use Rattle.online.specs.Teams.{IsSettledIn, GoesOn, MayGoOn, phase_at, IsMemberOf, IsInTeams}
-use Rattle.online.specs.Teams.{IsInPhase, IsRosterOf, IsCountOf, AreTeamsOf, ChangesTeam, ChangesTeamOf}
-use Rattle.online.proofs.ScopeLemmas.{scope_same, scope_leave, scope_none, scope_merge}
+use Rattle.online.specs.Waits.{no_tasks, without_task, IsScopeOf, IsSettled, is_kept}
+use Rattle.online.specs.Teams.{no_phase, phase_of, phase_in, without_child, IsSettledIn, phase_at, ahead}
+use Rattle.online.specs.Teams.{IsMemberOf, IsInTeams, IsInPhase, IsTeamOf, AreTeamsBefore, ChangesTeam}
+use Rattle.online.specs.Teams.{ChangesTeamOf}
+use Rattle.online.proofs.ScopeLemmas.{scope_same, scope_leave, scope_empty}
 use Rattle.online.proofs.GrowLemmas.{settled_rises}
 use Rattle.online.proofs.SettleLemmas.{Settles, settled, kept_was, kept_here, kept_apart, told_before}
-use Rattle.online.proofs.RosterLemmas.{grows_same, ahead_all, roster_moves, count_moves}
-use Rattle.online.proofs.RosterLemmas.{TellsSame, tells_moves, scopes_same}
+use Rattle.online.proofs.RosterLemmas.{grows_same, team_same, team_moves, TellsSame, tells_moves}
 
 -- ---- back from what is kept of teams behind a change
 
@@ -99,10 +100,10 @@ tells_same rs task = record {
 
 -- ---- a settled task is taken out
 
-module _ (rs : List Record) (task : ℕ) (old without new : ℕ → Option Kin) (was : Kin)
+module _ (rs : List Record) (n task : ℕ) (old without new : ℕ → Option Kin) (was : Kin)
     (f : Settles rs task old without new was) (teams after_teams : ℕ → Option Team)
     (changes : ChangesTeamOf (IsSettledIn was.phase was.family.greatest) was.parent_team teams after_teams)
-    (is : AreTeamsOf rs old teams) where
+    (is : AreTeamsBefore rs n old teams) where
   place : IsInTeams rs task was
   place = is.places task was f.found
 
@@ -145,102 +146,147 @@ module _ (rs : List Record) (task : ℕ) (old without new : ℕ → Option Kin) 
           let P : ℕ → Type 0 = λ t. IsCreatedAt rs i parent t in
           apart (subst is_phase (phase_is i parent (subst P same creates)) phase)
 
-  count_settled : (parallel : ℕ) (team after : Team) → was.parent_team ≡ Some parallel
+  -- in the phase in which the task was created, where that is not over
+  scope_settled : (parallel number : ℕ) (team after : Team) → was.parent_team ≡ Some parallel
       → teams parallel ≡ Some team → IsSettledIn was.phase was.family.greatest team after
-      → IsCountOf rs (is_kept new) parallel after
-  count_settled parallel team after above kept changed = elim (cases_lt was.phase team.round) [
-    | inl early ↦
-        let (past, later) = changed.early early in
-        record {
-          steady = λ still i parent child member creates.
-              let e = changed.members.round in
-              let h = count.steady (sym changed.steady ∙ still) i parent child member creates in
-              omega (arith, e, h);
-          few =
-              let e = ap (λ (s : Scope). s.left) past in
-              let g = ap (λ (s : Scope). s.left) later in
-              let h = count.few in
-              omega (arith, e, g, h);
-          past =
-              let P : Scope → Type 0 =
-              λ s.
-              IsScopeOf (length rs) (IsInPhase rs parallel (λ n. n < after.round)) (is_kept new)
-              (IsSettled rs) s in
-              let Q : ℕ → Type 0 =
-              λ k.
-              IsScopeOf (length rs) (IsInPhase rs parallel (λ n. n < k)) (is_kept new) (IsSettled rs)
-              (without_task was.family.greatest team.past) in
-              subst P (sym past)
-              (subst Q (sym changed.members.round)
-              (leaves parallel (λ n. n < team.round) team.past above early count.past));
-          later =
-              let P : Scope → Type 0 =
-              λ s.
-              IsScopeOf (length rs) (IsInPhase rs parallel (λ n. after.round ≤ n)) (is_kept new)
-              (IsSettled rs) s in
-              let Q : ℕ → Type 0 =
-              λ k.
-              IsScopeOf (length rs) (IsInPhase rs parallel (λ n. k ≤ n)) (is_kept new) (IsSettled rs)
-              team.later in
-              subst P (sym later)
-              (subst Q (sym changed.members.round)
-              (stays parallel (λ n. team.round ≤ n) team.later (λ high. omega (arith, high, early))
-              count.later));
-        }
-    | inr late ↦
-        let (past, later) = changed.late late in
-        record {
-          steady = λ still i parent child member creates.
-              let e = changed.members.round in
-              let h = count.steady (sym changed.steady ∙ still) i parent child member creates in
-              omega (arith, e, h);
-          few =
-              let e = ap (λ (s : Scope). s.left) past in
-              let g = ap (λ (s : Scope). s.left) later in
-              let h = count.few in
-              omega (arith, e, g, h);
-          past =
-              let P : Scope → Type 0 =
-              λ s.
-              IsScopeOf (length rs) (IsInPhase rs parallel (λ n. n < after.round)) (is_kept new)
-              (IsSettled rs) s in
-              let Q : ℕ → Type 0 =
-              λ k.
-              IsScopeOf (length rs) (IsInPhase rs parallel (λ n. n < k)) (is_kept new) (IsSettled rs)
-              team.past in
-              subst P (sym past)
-              (subst Q (sym changed.members.round)
-              (stays parallel (λ n. n < team.round) team.past (λ low. omega (arith, low, late)) count.past));
-          later =
-              let P : Scope → Type 0 =
-              λ s.
-              IsScopeOf (length rs) (IsInPhase rs parallel (λ n. after.round ≤ n)) (is_kept new)
-              (IsSettled rs) s in
-              let Q : ℕ → Type 0 =
-              λ k.
-              IsScopeOf (length rs) (IsInPhase rs parallel (λ n. k ≤ n)) (is_kept new) (IsSettled rs)
-              (without_task was.family.greatest team.later) in
-              subst P (sym later)
-              (subst Q (sym changed.members.round)
-              (leaves parallel (λ n. team.round ≤ n) team.later above late count.later));
-        }
-  ]
+      → number ≡ was.phase → team.over ≤ number
+      → IsScopeOf (length rs) (IsInPhase rs parallel (λ k. k ≡ number)) (is_kept new) (IsSettled rs)
+      (phase_in after number).scope
+  scope_settled parallel number team after above kept changed same late = of (phase_of team number) refl
     where
-      count : IsCountOf rs (is_kept old) parallel team
-      count = is.counts parallel team kept
+      counted : IsScopeOf (length rs) (IsInPhase rs parallel (λ k. k ≡ number)) (is_kept old) (IsSettled rs)
+          (phase_in team number).scope
+      counted = (is.each parallel team kept).going number late
 
-  pub settle_teams : AreTeamsOf rs new after_teams
+      there : (o : Option Phase) → phase_of team number ≡ o
+          → IsScopeOf (length rs) (IsInPhase rs parallel (λ k. k ≡ number)) (is_kept old) (IsSettled rs)
+          (option_map_or (λ (p : Phase). p) o no_phase).scope
+      there o e =
+          let P : Option Phase → Type 0 =
+          λ x.
+          IsScopeOf (length rs) (IsInPhase rs parallel (λ k. k ≡ number)) (is_kept old) (IsSettled rs)
+          (option_map_or (λ (p : Phase). p) x no_phase).scope in
+          subst P e counted
+
+      put : (p : Phase) → phase_of after number ≡ Some p
+          → IsScopeOf (length rs) (IsInPhase rs parallel (λ k. k ≡ number)) (is_kept new) (IsSettled rs)
+          p.scope
+          → IsScopeOf (length rs) (IsInPhase rs parallel (λ k. k ≡ number)) (is_kept new) (IsSettled rs)
+          (phase_in after number).scope
+      put p e scope =
+          let P : Option Phase → Type 0 =
+          λ x.
+          IsScopeOf (length rs) (IsInPhase rs parallel (λ k. k ≡ number)) (is_kept new) (IsSettled rs)
+          (option_map_or (λ (p : Phase). p) x no_phase).scope in
+          subst P (sym e) scope
+
+      -- the task is counted there, so something is kept of the phase
+      in_it : IsInPhase rs parallel (λ k. k ≡ number) task
+      in_it =
+          let (i, parent, creates, member) = place.parent_member parallel above in
+          (i, parent, member, creates, phase_is i parent creates ∙ sym same)
+
+      of : (o : Option Phase) → phase_of team number ≡ o
+          → IsScopeOf (length rs) (IsInPhase rs parallel (λ k. k ≡ number)) (is_kept new) (IsSettled rs)
+          (phase_in after number).scope
+      of None e =
+          let gone =
+          scope_empty (length rs) (IsInPhase rs parallel (λ k. k ≡ number)) (is_kept old) (IsSettled rs)
+          no_tasks (there None e) refl task in_it in
+          absurd (apart (sym (kept_was rs task old without new was f) ∙ gone.0))
+        where
+          apart : true ≡ false → ⊥
+          apart e = cc
+      of (Some p) e =
+          put (without_child was.family.greatest p)
+          (ap (phase_of after) same
+          ∙ changed.here (omega (arith, late, same)) p (ap (phase_of team) (sym same) ∙ e))
+          (leaves parallel (λ k. k ≡ number) p.scope above (sym same) (there (Some p) e))
+
+  team_settled : (parallel : ℕ) (team after : Team) → was.parent_team ≡ Some parallel
+      → teams parallel ≡ Some team → IsSettledIn was.phase was.family.greatest team after
+      → IsTeamOf rs (is_kept new) parallel after
+  team_settled parallel team after above kept changed = record {
+    joined = changed.keeps.joined ∙ it.joined;
+    begun = λ number p e. begun number p e (cases_eq number was.phase);
+    going = λ number late. going number (omega (arith, late, same_over)) (cases_eq number was.phase);
+    over = λ child has.
+        let P : ℕ → Type 0 = λ k. IsSettled rs k child in
+        let Q : ℕ → Type 0 = λ k. IsInPhase rs parallel (λ j. j < k) child in
+        subst P (sym changed.keeps.greatest) (it.over child (subst Q same_over has));
+    each = λ number p low e.
+        let early : number < team.over = omega (arith, low, same_over) in
+        it.each number p early (sym (stays_over number early (cases_eq number was.phase)) ∙ e);
+  }
+    where
+      it : IsTeamOf rs (is_kept old) parallel team
+      it = is.each parallel team kept
+
+      same_over : after.over ≡ team.over
+      same_over = changed.keeps.over
+
+      stays_over : (number : ℕ) → number < team.over → (number ≡ was.phase) ⊎ (number ≢ was.phase)
+          → phase_of after number ≡ phase_of team number
+      stays_over number low (inl same) =
+          ap (phase_of after) same ∙ changed.over (omega (arith, low, same)) ∙ ap (phase_of team) (sym same)
+      stays_over number low (inr apart) = changed.others number apart
+
+      going : (number : ℕ) → team.over ≤ number → (number ≡ was.phase) ⊎ (number ≢ was.phase)
+          → IsScopeOf (length rs) (IsInPhase rs parallel (λ k. k ≡ number)) (is_kept new) (IsSettled rs)
+          (phase_in after number).scope
+      going number late (inl same) = scope_settled parallel number team after above kept changed same late
+      going number late (inr apart) =
+          let P : Option Phase → Type 0 =
+          λ x.
+          IsScopeOf (length rs) (IsInPhase rs parallel (λ k. k ≡ number)) (is_kept new) (IsSettled rs)
+          (option_map_or (λ (p : Phase). p) x no_phase).scope in
+          subst P (sym (changed.others number apart))
+          (stays parallel (λ k. k ≡ number) (phase_in team number).scope (λ e. apart (sym e))
+          (it.going number late))
+
+      -- what is begun of a phase stays
+      begun_was : (number : ℕ) (p : Phase) → phase_of after number ≡ Some p → number ≡ was.phase
+          → team.over ≤ number → (o : Option Phase) → phase_of team number ≡ o
+          → p.begun ≤ ahead rs (members rs parallel) number
+      begun_was number p e same late None none =
+          absurd
+          (none-some p
+          (sym (changed.absent (ap (phase_of team) (sym same) ∙ none)) ∙ ap (phase_of after) (sym same) ∙ e))
+      begun_was number p e same late (Some q) found =
+          let put = changed.here (omega (arith, late, same)) q (ap (phase_of team) (sym same) ∙ found) in
+          let is_p =
+          same_Some p (without_child was.family.greatest q) (sym e ∙ ap (phase_of after) same ∙ put) in
+          let begun_is = ap (λ (x : Phase). x.begun) is_p in
+          let least = it.begun number q found in
+          omega (arith, begun_is, least)
+
+      begun : (number : ℕ) (p : Phase) → phase_of after number ≡ Some p
+          → (number ≡ was.phase) ⊎ (number ≢ was.phase) → p.begun ≤ ahead rs (members rs parallel) number
+      begun number p e (inr apart) = it.begun number p (sym (changed.others number apart) ∙ e)
+      begun number p e (inl same) = elim (cases_lt number team.over) [
+        | inl low ↦ it.begun number p (sym (stays_over number low (inl same)) ∙ e)
+        | inr late ↦ begun_was number p e same late (phase_of team number) refl
+      ]
+
+  pub settle_teams : AreTeamsBefore rs n new after_teams
   settle_teams = record {
     places = λ other after there.
         let (before, found, parents, told) = told_before rs task old without new was f other after there in
         tells_moves rs rs other before after (grows_same rs) (tells_same rs other) parents told
         (is.places other before found);
-    rosters = λ parallel after there. roster_of parallel after (from parallel after there);
-    counts = λ parallel after there. count_of parallel after (from parallel after there);
+    each = λ parallel after there. team_is parallel after (from parallel after there);
     absent = λ parallel none.
         is.absent parallel
         (team_none (IsSettledIn was.phase was.family.greatest) was.parent_team teams after_teams changes
         parallel none);
+    ends = record {
+      settled = is.ends.settled;
+      over = λ i parallel number after below ends there.
+          let it = from parallel after there in
+          let less = is.ends.over i parallel number it.was below ends it.kept in
+          let same = over_is parallel after it in
+          omega (arith, less, same);
+    };
   }
     where
       from : (parallel : ℕ) (after : Team) → after_teams parallel ≡ Some after
@@ -249,129 +295,31 @@ module _ (rs : List Record) (task : ℕ) (old without new : ℕ → Option Kin) 
       from = team_of_from (IsSettledIn was.phase was.family.greatest) was.parent_team teams after_teams
           changes
 
-      roster_of : (parallel : ℕ) (after : Team)
-          → TeamFrom (IsSettledIn was.phase was.family.greatest) (was.parent_team ≡ Some parallel) teams
-          parallel after → IsRosterOf rs parallel after
-      roster_of parallel after it = by it.how
+      over_is : (parallel : ℕ) (after : Team)
+          → (it : TeamFrom (IsSettledIn was.phase was.family.greatest) (was.parent_team ≡ Some parallel) teams
+          parallel after)
+          → after.over ≡ it.was.over
+      over_is parallel after it = by it.how
         where
           by : ((was.parent_team ≡ Some parallel) × IsSettledIn was.phase was.family.greatest it.was after)
-              ⊎ ((was.parent_team ≡ Some parallel → ⊥) × (it.was ≡ after)) → IsRosterOf rs parallel after
-          by (inl (above, changed)) =
-              roster_moves rs rs parallel it.was after (grows_same rs) refl changed.members
-              (is.rosters parallel it.was it.kept)
-          by (inr (apart, same)) =
-              subst (λ t. IsRosterOf rs parallel t) same (is.rosters parallel it.was it.kept)
+              ⊎ ((was.parent_team ≡ Some parallel → ⊥) × (it.was ≡ after)) → after.over ≡ it.was.over
+          by (inl (above, changed)) = changed.keeps.over
+          by (inr (apart, same)) = ap (λ (t : Team). t.over) (sym same)
 
-      count_of : (parallel : ℕ) (after : Team)
+      team_is : (parallel : ℕ) (after : Team)
           → TeamFrom (IsSettledIn was.phase was.family.greatest) (was.parent_team ≡ Some parallel) teams
-          parallel after → IsCountOf rs (is_kept new) parallel after
-      count_of parallel after it = by it.how
+          parallel after → IsTeamOf rs (is_kept new) parallel after
+      team_is parallel after it = by it.how
         where
           by : ((was.parent_team ≡ Some parallel) × IsSettledIn was.phase was.family.greatest it.was after)
               ⊎ ((was.parent_team ≡ Some parallel → ⊥) × (it.was ≡ after))
-              → IsCountOf rs (is_kept new) parallel after
-          by (inl (above, changed)) = count_settled parallel it.was after above it.kept changed
+              → IsTeamOf rs (is_kept new) parallel after
+          by (inl (above, changed)) = team_settled parallel it.was after above it.kept changed
           by (inr (apart, same)) =
-              subst (λ t. IsCountOf rs (is_kept new) parallel t) same
-              (count_moves rs rs parallel (is_kept old) (is_kept new) it.was it.was (grows_same rs)
+              subst (λ t. IsTeamOf rs (is_kept new) parallel t) same
+              (team_moves rs rs parallel (is_kept old) (is_kept new) it.was it.was (grows_same rs) refl
               (λ i parent child member creates. record { member = member; creates = creates })
               (λ i parent child member creates.
               kept_apart rs task old without new was f child
               (not_there parallel apart i parent child member creates))
-              refl (scopes_same it.was) (is.counts parallel it.was it.kept))
-
--- ---- a team goes on to the next round
-
-advanced_roster : (rs : List Record) (parallel : ℕ) (was after : Team) → GoesOn was after
-    → IsRosterOf rs parallel was → IsRosterOf rs parallel after
-advanced_roster rs parallel was after goes is = record {
-  joined = goes.advances.joined ∙ is.joined;
-  sizes = λ m has. let e = goes.advances.actual in let h = is.sizes m has in omega (arith, e, h);
-  begun = let e = goes.advances.begun in omega (arith, e);
-  reached = λ small m has.
-      let e = goes.advances.round in
-      let (k, at_k) = contains_get (members rs parallel) m has in
-      let a = goes.may.all_begun in
-      let b = is.begun in
-      let c = is.joined in
-      let less = ahead_all rs (members rs parallel) was.round (omega (arith, a, b, c)) m k at_k in
-      omega (arith, e, less);
-}
-
-advanced_count : (rs : List Record) (parallel : ℕ) (kept : ℕ → Bool) (was after : Team)
-    → length rs < 2 ^ 64 → GoesOn was after → IsCountOf rs kept parallel was
-    → IsCountOf rs kept parallel after
-advanced_count rs parallel kept was after small goes is = record {
-  steady = λ still i parent child member creates.
-      let e = goes.advances.round in
-      let h = is.steady goes.may.steady i parent child member creates in
-      omega (arith, e, h);
-  few =
-      let e = ap (λ (s : Scope). s.left) goes.advances.past in
-      let f = ap (λ (s : Scope). s.left) goes.advances.later in
-      let h = is.few in
-      omega (arith, e, f, h);
-  past =
-      let P : Scope → Type 0 =
-      λ s. IsScopeOf (length rs) (IsInPhase rs parallel (λ n. n < after.round)) kept (IsSettled rs) s in
-      subst P (sym goes.advances.past)
-      (scope_merge (length rs) (IsInPhase rs parallel (λ n. n < was.round))
-      (IsInPhase rs parallel (λ n. was.round ≤ n)) (IsInPhase rs parallel (λ n. n < after.round)) kept
-      (IsSettled rs) was.past was.later is.past is.later (settled_rises rs) is.few small
-      (λ child has. either child has));
-  later =
-      let P : Scope → Type 0 =
-      λ s. IsScopeOf (length rs) (IsInPhase rs parallel (λ n. after.round ≤ n)) kept (IsSettled rs) s in
-      subst P (sym goes.advances.later)
-      (scope_none (length rs) (IsInPhase rs parallel (λ n. after.round ≤ n)) kept (IsSettled rs)
-      (λ child has.
-      let (i, parent, member, creates, phase) = has in
-      let e = goes.advances.round in
-      let h = is.steady goes.may.steady i parent child member creates in
-      omega (arith, e, h, phase)));
-}
-  where
-    either : (child : ℕ) → IsInPhase rs parallel (λ n. n < after.round) child
-        → IsInPhase rs parallel (λ n. n < was.round) child
-        ⊎ IsInPhase rs parallel (λ n. was.round ≤ n) child
-    either child (i, parent, member, creates, phase) = elim (cases_lt (phase_at rs parent i) was.round) [
-      | inl early ↦ inl (i, parent, member, creates, early)
-      | inr late ↦ inr (i, parent, member, creates, late)
-    ]
-
-pub goes_on_teams : (rs : List Record) (table : ℕ → Option Kin) (parallel : ℕ) (old new : ℕ → Option Team)
-    → length rs < 2 ^ 64 → ChangesTeam MayGoOn parallel old new → AreTeamsOf rs table old
-    → AreTeamsOf rs table new
-goes_on_teams rs table parallel old new small changes is = record {
-  places = is.places;
-  rosters = λ other after there.
-      roster_of other after (team_from MayGoOn parallel old new changes other after there);
-  counts = λ other after there.
-      count_of other after (team_from MayGoOn parallel old new changes other after there);
-  absent = λ other none. is.absent other (team_none MayGoOn (Some parallel) old new changes other none);
-}
-  where
-    roster_of : (other : ℕ) (after : Team) → TeamFrom MayGoOn (parallel ≡ other) old other after
-        → IsRosterOf rs other after
-    roster_of other after it = by it.how
-      where
-        by : ((parallel ≡ other) × (GoesOn it.was after ⊎ (after ≡ it.was)))
-            ⊎ ((parallel ≡ other → ⊥) × (it.was ≡ after)) → IsRosterOf rs other after
-        by (inl (here, inl goes)) =
-            advanced_roster rs other it.was after goes (is.rosters other it.was it.kept)
-        by (inl (here, inr same)) =
-            subst (λ t. IsRosterOf rs other t) (sym same) (is.rosters other it.was it.kept)
-        by (inr (apart, same)) = subst (λ t. IsRosterOf rs other t) same (is.rosters other it.was it.kept)
-
-    count_of : (other : ℕ) (after : Team) → TeamFrom MayGoOn (parallel ≡ other) old other after
-        → IsCountOf rs (is_kept table) other after
-    count_of other after it = by it.how
-      where
-        by : ((parallel ≡ other) × (GoesOn it.was after ⊎ (after ≡ it.was)))
-            ⊎ ((parallel ≡ other → ⊥) × (it.was ≡ after)) → IsCountOf rs (is_kept table) other after
-        by (inl (here, inl goes)) =
-            advanced_count rs other (is_kept table) it.was after small goes (is.counts other it.was it.kept)
-        by (inl (here, inr same)) =
-            subst (λ t. IsCountOf rs (is_kept table) other t) (sym same) (is.counts other it.was it.kept)
-        by (inr (apart, same)) =
-            subst (λ t. IsCountOf rs (is_kept table) other t) same (is.counts other it.was it.kept)
+              (team_same it.was) (is.each parallel it.was it.kept))

@@ -22,7 +22,7 @@ use Rattle.online.specs.Waits.{BeginsGroup, EndsGroup, IsNew, Puts, Removes, May
 use Rattle.online.specs.Waits.{KeepsTold, EndsRoot, CreatesTask, CompletesTask, BeginsTaskgroup}
 use Rattle.online.specs.Waits.{EndsTaskgroup, is_kept}
 use Rattle.online.specs.Teams.{IsTold, IsPlaceIn, CountsBarrier, CountsBegin, IsCreatedIn, IsSettledIn}
-use Rattle.online.specs.Teams.{AreTeamsOf}
+use Rattle.online.specs.Teams.{AreTeamsBefore, AreTeamsOf}
 use Rattle.online.specs.Teams.{ChangesTeamOf, JoinsTeam, BeginsInitial, Joins, BeginsBarrier, TeamsFollow}
 use Rattle.online.specs.Teams.{KeepsTeams, SaysNothing}
 use Rattle.ompt_events.proofs.PlaceLemmas.{some_of}
@@ -33,6 +33,7 @@ use Rattle.online.proofs.TaskgroupLemmas.{region_made}
 use Rattle.online.proofs.RosterLemmas.{IsSilent, IsToldBefore, told_same, teams_grow, teams_same}
 use Rattle.online.proofs.RosterLemmas.{teams_move, grows_one}
 use Rattle.online.proofs.PhaseLemmas.{phase_stays, members_stay}
+use Rattle.online.proofs.EndedLemmas.{ends_grow}
 use Rattle.online.proofs.GrowLemmas.{said_before}
 use Rattle.online.proofs.TeamStepLemmas.{settle_teams}
 use Rattle.online.proofs.TeamCreateLemmas.{create_teams}
@@ -67,7 +68,7 @@ same_told table task after kept = (after, kept, refl, told_same after)
 pub quiet_teams : (table : ℕ → Option Kin) (teams : ℕ → Option Team)
     → TeamsFollow SaysNothing table teams table teams
 quiet_teams table teams rs r (none, begins) follows waits is =
-    teams_grow rs r table table teams (silent r none begins) (same_told table) (λ task. refl) is
+    teams_grow rs r table table teams follows (silent r none begins) (same_told table) (λ task. refl) is
 
 -- ---- a settled task is taken out
 
@@ -77,9 +78,9 @@ pub settle_teams_then : (old without new : ℕ → Option Kin) (teams after : �
     → ChangesAbove (SettlesChild was.group was.family.greatest) was.parent without new
     → ChangesTeamOf (IsSettledIn was.phase was.family.greatest) was.parent_team teams after
     → KeepsTeams old teams new after
-settle_teams_then old without new teams after task was found done none removes above changes rs once small
+settle_teams_then old without new teams after task was found done none removes above changes rs n once small
     waits is =
-    settle_teams rs task old without new was
+    settle_teams rs n task old without new was
     (record {
       once = once;
       found = found;
@@ -93,8 +94,8 @@ settle_teams_then old without new teams after task was found done none removes a
 
 keeps_teams_same : (old new : ℕ → Option Kin) (teams : ℕ → Option Team) → new ≡ old
     → KeepsTeams old teams new teams
-keeps_teams_same old new teams same rs once small waits is =
-    let P : (ℕ → Option Kin) → Type 0 = λ t. AreTeamsOf rs t teams in subst P (sym same) is
+keeps_teams_same old new teams same rs n once small waits is =
+    let P : (ℕ → Option Kin) → Type 0 = λ t. AreTeamsBefore rs n t teams in subst P (sym same) is
 
 pub teams_unchanged : {S : Type 0} (old new : HashMap ℕ Kin S) (teams : ℕ → Option Team) → IsUnchanged old new
     → KeepsTeams (get nat_eq old) teams (get nat_eq new) teams
@@ -111,13 +112,14 @@ small_more rs r follows = let e = length_push rs r in let h = follows.few in ome
 finished_teams : (rs : List Record) (r : Record) (task n : ℕ) (old marked done new : ℕ → Option Kin)
     (teams after : ℕ → Option Team) (kin : Kin) → MayFollow rs r → IsSilent r
     → Finishes (rs ++ r ∷ []) task n old marked done kin → KeepsTeams done teams new after
-    → AreTeamsOf rs old teams → AreTeamsOf (rs ++ r ∷ []) new after
+    → AreTeamsOf rs old teams → AreTeamsBefore (rs ++ r ∷ []) (length rs) new after
 finished_teams rs r task n old marked done new teams after kin follows quiet f keeps is =
-    keeps (rs ++ r ∷ []) follows.once (small_more rs r follows)
+    keeps (rs ++ r ∷ []) (length rs) follows.once (small_more rs r follows)
     (finish_waits (rs ++ r ∷ []) task n old marked done kin f)
-    (teams_same (rs ++ r ∷ []) old done teams (told_before (rs ++ r ∷ []) task n old marked done kin f)
+    (teams_same (rs ++ r ∷ []) (length rs) old done teams
+    (told_before (rs ++ r ∷ []) task n old marked done kin f)
     (kept_all (rs ++ r ∷ []) task n old marked done kin f)
-    (teams_grow rs r old old teams quiet (same_told old) (λ other. refl) is))
+    (teams_grow rs r old old teams follows quiet (same_told old) (λ other. refl) is))
 
 pub finish_teams_then : (old marked done new : ℕ → Option Kin) (teams after : ℕ → Option Team) (task seen : ℕ)
     (parent : Option ℕ) → ChangesAt (Completes (seen + 1)) task old marked
@@ -182,7 +184,7 @@ create_teams_never old new teams after parent child none rs r says follows waits
 pub begin_teams_then : (old new : ℕ → Option Kin) (teams : ℕ → Option Team) (task : ℕ)
     → ChangesAt BeginsGroup task old new → TeamsFollow (BeginsTaskgroup task) old teams new teams
 begin_teams_then old new teams task changes rs r says follows waits is =
-    teams_grow rs r old new teams
+    teams_grow rs r old new teams follows
     (silent r (region_made task Taskgroup Begin r.body says) (ap barrier_begun says))
     (λ other after kept. of (changed_from BeginsGroup task old new changes other after kept))
     (kept_same BeginsGroup task old new changes) is
@@ -202,7 +204,7 @@ begin_teams_then old new teams task changes rs r says follows waits is =
 pub end_teams_then : (old new : ℕ → Option Kin) (teams : ℕ → Option Team) (task seen : ℕ)
     → ChangesAt (EndsGroup seen) task old new → TeamsFollow (EndsTaskgroup task seen) old teams new teams
 end_teams_then old new teams task seen changes rs r (says, is_seen) follows waits is =
-    teams_grow rs r old new teams
+    teams_grow rs r old new teams follows
     (silent r (region_made task Taskgroup End r.body says) (ap barrier_begun says))
     (λ other after kept. of (changed_from (EndsGroup seen) task old new changes other after kept))
     (kept_same (EndsGroup seen) task old new changes) is
@@ -246,21 +248,19 @@ initial_teams_then old new teams root kin fresh told puts rs r begins follows wa
     alone None e = e
     alone (Some m) e = absurd (initial_joined root m r.body begins e)
 
-pub join_then : (old new : ℕ → Option Kin) (root parallel size : ℕ) (kin : Kin) → IsNew None 0 kin
-    → Puts root kin old new → Follows (Joins root parallel size) old new
-join_then old new root parallel size kin fresh puts rs r (m, joins, is_root, is_parallel, is_size)
-    follows is =
+pub join_then : (old new : ℕ → Option Kin) (root parallel : ℕ) (kin : Kin) → IsNew None 0 kin
+    → Puts root kin old new → Follows (Joins root parallel) old new
+join_then old new root parallel kin fresh puts rs r (m, joins, is_root, is_parallel) follows is =
     root_waits rs r old new root kin follows (member_begun m r.body joins ∙ ap Some is_root) fresh puts is
 
-pub join_teams_then : (old new : ℕ → Option Kin) (teams after : ℕ → Option Team) (root parallel size : ℕ)
+pub join_teams_then : (old new : ℕ → Option Kin) (teams after : ℕ → Option Team) (root parallel : ℕ)
     (kin : Kin) → IsNew None 0 kin → IsTold (Some parallel) None 0 kin → Puts root kin old new
-    → JoinsTeam parallel size teams after → TeamsFollow (Joins root parallel size) old teams new after
-join_teams_then old new teams after root parallel size kin fresh told puts enters rs r
-    (m, joins, is_root, is_parallel, is_size) follows waits is =
+    → JoinsTeam parallel teams after → TeamsFollow (Joins root parallel) old teams new after
+join_teams_then old new teams after root parallel kin fresh told puts enters rs r
+    (m, joins, is_root, is_parallel) follows waits is =
     let P : ℕ → Type 0 = λ t. Puts t kin old new in
     let Q : ℕ → Type 0 = λ t. IsTold (Some t) None 0 kin in
-    let R : ℕ → Type 0 = λ t. JoinsTeam t size teams after in
-    let S : ℕ → Type 0 = λ n. JoinsTeam m.parallel n teams after in
+    let R : ℕ → Type 0 = λ t. JoinsTeam t teams after in
     join_teams rs r m old new kin teams after
     (record {
       begins = member_begun m r.body joins;
@@ -270,7 +270,7 @@ join_teams_then old new teams after root parallel size kin fresh told puts enter
       puts = subst P (sym is_root) puts;
       before = waits;
     })
-    joins (subst S (sym is_size) (subst R (sym is_parallel) enters)) is
+    joins (subst R (sym is_parallel) enters) is
 
 -- ---- a barrier begins
 
@@ -282,32 +282,25 @@ barrier_then old new task changes rs r begins follows is =
     (waits_stay rs r old follows.ends (barrier_made task r.body begins).0
     (barrier_grouped task r.body begins) is)
 
-pub barrier_teams_then : (old new : ℕ → Option Kin) (teams counted after : ℕ → Option Team) (task : ℕ)
-    (was : Kin) → old task ≡ Some was → ChangesAt CountsBarrier task old new
-    → ChangesTeamOf (CountsBegin was.barriers) was.team teams counted
-    → ((rs : List Record) (table : ℕ → Option Kin) → length rs < 2 ^ 64 → AreTeamsOf rs table counted
-    → AreTeamsOf rs table after)
+pub barrier_teams_then : (old new : ℕ → Option Kin) (teams after : ℕ → Option Team) (task : ℕ) (was : Kin)
+    → old task ≡ Some was → ChangesAt CountsBarrier task old new
+    → ChangesTeamOf (CountsBegin was.barriers) was.team teams after
     → TeamsFollow (BeginsBarrier task) old teams new after
-barrier_teams_then old new teams counted after task was found changes begins goes_on rs r says follows
-    waits is =
-    goes_on (rs ++ r ∷ []) new (small_more rs r follows)
-    (begin_teams rs r task old new was teams counted says follows found changes begins is)
+barrier_teams_then old new teams after task was found changes begins rs r says follows waits is =
+    begin_teams rs r task old new was teams after says follows found changes begins is
 
 -- by what is told of the place of a child there
-pub barrier_teams_case : (old new : ℕ → Option Kin) (teams counted after : ℕ → Option Team) (task : ℕ)
-    (place : Place) → ((kin : Kin) → old task ≡ Some kin → IsPlaceIn kin place)
-    → ChangesAt CountsBarrier task old new
-    → ChangesTeamOf (CountsBegin place.barriers) place.team teams counted
-    → ((rs : List Record) (table : ℕ → Option Kin) → length rs < 2 ^ 64 → AreTeamsOf rs table counted
-    → AreTeamsOf rs table after)
-    → is_kept old task ≡ true → TeamsFollow (BeginsBarrier task) old teams new after
-barrier_teams_case old new teams counted after task place places changes begins goes_on kept =
+pub barrier_teams_case : (old new : ℕ → Option Kin) (teams after : ℕ → Option Team) (task : ℕ) (place : Place)
+    → ((kin : Kin) → old task ≡ Some kin → IsPlaceIn kin place) → ChangesAt CountsBarrier task old new
+    → ChangesTeamOf (CountsBegin place.barriers) place.team teams after → is_kept old task ≡ true
+    → TeamsFollow (BeginsBarrier task) old teams new after
+barrier_teams_case old new teams after task place places changes begins kept =
     let (was, found) = some_of (old task) kept in
     let there = places was found in
-    let P : Option ℕ → Type 0 = λ t. ChangesTeamOf (CountsBegin was.barriers) t teams counted in
-    let Q : ℕ → Type 0 = λ n. ChangesTeamOf (CountsBegin n) place.team teams counted in
-    barrier_teams_then old new teams counted after task was found changes
-    (subst P there.team (subst Q there.barriers begins)) goes_on
+    let P : Option ℕ → Type 0 = λ t. ChangesTeamOf (CountsBegin was.barriers) t teams after in
+    let Q : ℕ → Type 0 = λ n. ChangesTeamOf (CountsBegin n) place.team teams after in
+    barrier_teams_then old new teams after task was found changes
+    (subst P there.team (subst Q there.barriers begins))
 
 pub barrier_never : (table : ℕ → Option Kin) (task : ℕ) → Follows (BeginsBarrier task) table table
 barrier_never table task rs r begins follows is =
@@ -318,14 +311,23 @@ barrier_never table task rs r begins follows is =
 pub barrier_teams_never : (table : ℕ → Option Kin) (teams : ℕ → Option Team) (task : ℕ) → table task ≡ None
     → TeamsFollow (BeginsBarrier task) table teams table teams
 barrier_teams_never table teams task absent rs r begins follows waits is =
-    teams_move rs (rs ++ r ∷ []) table table teams (grows_one rs r (by_none rs r none))
+    teams_move rs (rs ++ r ∷ []) (length rs) (length rs) table table teams
+    (grows_one rs r (by_none rs r none))
     (λ parallel.
     members_stay rs r parallel
     (λ m joins. absurd (none-some m (sym (barrier_made task r.body begins).1 ∙ joins))))
     (λ i parent child. said_before creation rs r none i (parent, child))
     (λ other after there. phase_stays rs r other (λ e. apart other after there (same_Some task other (sym
     begins ∙ e))))
-    (same_told table) (λ other. refl) is
+    (same_told table) (λ other. refl)
+    (ends_grow rs r table teams teams follows
+    (λ parent child parallel team creates. absurd (none-some (parent, child) (sym none ∙ creates)))
+    (λ parallel after before there kept.
+    let e : before ≡ after = same_Some before after (sym kept ∙ there) in
+    let f = ap (λ (t : Team). t.over) e in
+    omega (arith, f))
+    is)
+    is
   where
     none : creation r.body ≡ None
     none = made_none r.body (barrier_made task r.body begins).0

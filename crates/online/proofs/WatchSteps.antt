@@ -50,7 +50,6 @@ use Rattle.online.specs.Kept.{kept_by, teams_by}
 use Rattle.online.specs.Lengths as lengths
 use Rattle.online.specs.Lengths.{IsLengthsOf, NamesLength}
 use Rattle.online.specs.Online.{EachRecord, ComesAfter, PassesAfter, IsSettledAfter, IsWatchable}
-use Rattle.online.specs.Online.{HasTeamBegun}
 use Rattle.online.specs.Online.{IsUnfinishedAfter, IsCompleteAfter, IsDependentAt, ListsAwaited}
 use Rattle.online.specs.Online.{is_told_at_once}
 use Rattle.online.specs.Replays.{script_of, IsReplayed, IsReplayOf}
@@ -91,8 +90,6 @@ pub record IsWatched (old new : Watch) (r : Record) (parent : Option ℕ) : Type
       → AreTeamsOf (rs ++ r ∷ []) (kept_by new.waits) (teams_by new.waits)
   pub covers : (rs : List Record) → MayFollow rs r → IsWaitsOf rs (kept_by old.waits)
       → AreTeamsOf rs (kept_by old.waits) (teams_by old.waits) → IsCoverComplete rs r
-  pub begun : (rs : List Record) → MayFollow rs r → IsWaitsOf rs (kept_by old.waits)
-      → AreTeamsOf rs (kept_by old.waits) (teams_by old.waits) → HasTeamBegun (rs ++ r ∷ []) (length rs)
   pub items : Reads old.items new.items r parent
 
 -- ---- no task and no region begins twice
@@ -256,7 +253,6 @@ watch_more rs old new r parent kept watched = record {
     unfinished =
         subst (λ l. IsUnfinishedAfter l r) before
         (replayed_unfinished nests all values (length rs) r replayed last);
-    begun = watched.begun rs follows kept.waits kept.teams;
     listed = read.listed;
     complete = complete;
   });

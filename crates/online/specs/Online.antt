@@ -17,10 +17,11 @@ use Rattle.ompt_events.specs.Records.{made, created, discarded, fulfilled, finis
 use Rattle.ompt_events.specs.Records.{created_with_deps, wait_completed, region_named, named}
 use Rattle.ompt_events.specs.Records.{begun_turn, suspended_turn}
 use Rattle.ompt_events.specs.Places.{at, seen_at}
-use Rattle.ompt_events.specs.Tree.{IsExplicit, IsChild}
+use Rattle.ompt_events.specs.Tree.{IsExplicit, IsChild, children_before}
 use Rattle.ompt_events.specs.Teams.{members, IsTeammate}
 use Rattle.ompt_events.specs.Regions.{IsRegion, is_barrier, IsBarrierBegin}
 use Rattle.ompt_events.specs.HappensBefore.{IsFinishing, IsStart, IsResumption}
+use Rattle.ompt_events.specs.Coverage.{IsFamily}
 use Rattle.ompt_events.specs.Violations.{IsRequired}
 use Rattle.ompt_events.specs.Completion.{IsCompleteAt}
 use Rattle.ompt_events.specs.Causes.{HasCause, entries_in, entries_before, IsNamedAt, IsMade, IsForked}
@@ -92,6 +93,16 @@ HasTeamBegun rs i =
     → IsBarrierBegin rs own number begin
     → HasWholeTeam rs own
     × ((member : ℕ) → IsTeammate rs own member → (start : ℕ) × IsBarrierBegin rs member number start)
+
+-- where a barrier ends at i, each teammate's barrier begin of its number stands there or before, or all is
+-- complete at i that the teammate created before it, and what comes of that
+abbrev pub IsBarrierSettled : List Record → ℕ → Type 0
+IsBarrierSettled rs i =
+    (own begin member number start : ℕ) (kind : SyncKind) → IsRegion rs i own kind begin
+    → is_barrier kind ≡ true → IsBarrierBegin rs own number begin → IsTeammate rs own member
+    → IsBarrierBegin rs member number start
+    → (start ≤ i) ⊎ ((first task : ℕ) → Contains (children_before rs member start) first
+    → IsFamily rs first task → IsCompleteAt rs task i)
 
 -- the lists of dependences of the task, and of its siblings with smaller numbers, stand before the place n
 abbrev pub AreListed : List Record → ℕ → ℕ → Type 0
@@ -169,8 +180,6 @@ IsCompleteAfter before r =
 -- the tests of completeness
 pub record IsSettledAfter (before : List Record) (r : Record) : Type 0 where
   pub unfinished : IsUnfinishedAfter before r
-  -- where a barrier ends, the whole team has begun it
-  pub begun : HasTeamBegun (before ++ r ∷ []) (length before)
   -- where a task must wait for its predecessors, all lists that count for them are there
   pub listed : (dependent : ℕ) → IsDependentAt (before ++ r ∷ []) (length before) dependent
       → HasLists (before ++ r ∷ []) dependent

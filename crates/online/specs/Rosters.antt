@@ -10,7 +10,6 @@ use Rattle.ompt_events.specs.Records.{joined}
 use Rattle.ompt_events.specs.Places.{at}
 use Rattle.ompt_events.specs.Teams.{members, members_before, IsTeammate}
 use Rattle.ompt_events.specs.Regions.{IsRegion, is_barrier, IsBarrierBegin}
-use Rattle.online.specs.Online.{HasTeamBegun}
 use Rattle.online.specs.declared.rosters.Roster.{Roster}
 use Rattle.online.specs.declared.rosters.Rosters.{Rosters}
 use Rattle.online.specs.Ids.{has}
@@ -44,10 +43,6 @@ pub record MissesBegin (rs : List Record) (i : ℕ) : Type 0 where
   pub begins : IsBarrierBegin rs task number begin
   pub mate : IsTeammate rs task member
   pub none : (start : ℕ) → IsBarrierBegin rs member number start → ⊥
-
--- with the records before it, the whole team has begun the barrier that ends there
-abbrev pub IsBegunAfter : List Record → Record → Type 0
-IsBegunAfter before r = HasTeamBegun (before ++ r ∷ []) (length before)
 
 -- ---- what is kept
 

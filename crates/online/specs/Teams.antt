@@ -1,22 +1,26 @@
 -- What is kept of teams for the ends of barriers.
-use Rattle.std.specs.Prelude.{ℕ, ◌≡◌, ◌≢◌, ◌<◌, ◌≤◌, ◌+◌, ◌-◌, ◌^◌, ◌⊎◌, Bool, true, List, [], ◌∷◌, ◌++◌}
-use Rattle.std.specs.Prelude.{length, filter, min, Option, Some, None, nat_lt, Contains, if◌then◌else◌}
+use Rattle.std.specs.Prelude.{ℕ, ◌≡◌, ◌≢◌, ◌<◌, ◌≤◌, ◌+◌, ◌-◌, ◌^◌, Bool, true, List, [], ◌∷◌, ◌++◌}
+use Rattle.std.specs.Prelude.{length, filter, min, max, Option, Some, None, nat_lt, nat_eq, Contains}
+use Rattle.std.specs.Prelude.{if◌then◌else◌}
+use Rattle.std.specs.Option.{option_map_or}
+use Rattle.std.specs.HashMap.{get}
 use Rattle.ompt_events.specs.declared.records.Record.{Record}
 use Rattle.ompt_events.specs.declared.records.Membership.{Membership}
 use Rattle.ompt_events.specs.declared.names.SyncKind.{SyncKind}
 use Rattle.ompt_events.specs.declared.names.Endpoint.{Endpoint}
 use Rattle.ompt_events.specs.declared.cause.Cause.TheVariants.{CreatedTwice}
 use Rattle.ompt_events.specs.Records.{made, joined, begun_initial, region}
-use Rattle.ompt_events.specs.Places.{own_before}
+use Rattle.ompt_events.specs.Places.{own_before, seen_at}
 use Rattle.ompt_events.specs.Tree.{IsCreatedAt}
-use Rattle.ompt_events.specs.Teams.{members, IsInitial}
-use Rattle.ompt_events.specs.Regions.{is_barrier, barrier_begun, begins_barrier}
+use Rattle.ompt_events.specs.Teams.{members, IsInitial, IsTeammate}
+use Rattle.ompt_events.specs.Regions.{is_barrier, barrier_begun, begins_barrier, IsRegion, IsBarrierBegin}
 use Rattle.ompt_events.specs.Causes.{IsFreeOf}
 use Rattle.online.specs.declared.kin.Kin.{Kin}
 use Rattle.online.specs.declared.kin.Place.{Place}
+use Rattle.online.specs.declared.phase.Phase.{Phase}
 use Rattle.online.specs.declared.team.Team.{Team}
-use Rattle.online.specs.Waits.{no_tasks, with_task, without_task, merged, IsScopeOf, IsSettled, is_kept}
-use Rattle.online.specs.Waits.{ChangesGroups, IsWaitsOf, MayFollow}
+use Rattle.online.specs.Waits.{no_tasks, with_task, without_task, IsScopeOf, IsSettled, is_kept}
+use Rattle.online.specs.Waits.{ChangesGroups, IsWaitsOf, MayFollow, IsCoverComplete}
 
 -- ---- what is kept of a task
 
@@ -44,87 +48,114 @@ pub record CountsBarrier (old new : Kin) : Type 0 where
 
 -- ---- what is kept of a team
 
--- the team of a first member
-pub record IsFirstOf (size : ℕ) (team : Team) : Type 0 where
-  pub actual : team.actual ≡ size
-  pub joined : team.joined ≡ 1
-  pub begun : team.begun ≡ 0
-  pub round : team.round ≡ 0
-  pub past : team.past ≡ no_tasks
-  pub later : team.later ≡ no_tasks
+-- nothing of a phase
+abbrev pub no_phase : Phase
+no_phase = record { scope = no_tasks; begun = 0; ended = 0 }
 
--- the members stay, and their barriers
-pub record KeepsMembers (old new : Team) : Type 0 where
-  pub actual : new.actual ≡ old.actual
+-- of the phase with this number
+abbrev pub phase_of : Team → ℕ → Option Phase
+phase_of team = get nat_eq team.phases
+
+abbrev pub phase_in : Team → ℕ → Phase
+phase_in team number = option_map_or (λ (p : Phase). p) (phase_of team number) no_phase
+
+-- with one more child, which is not settled
+abbrev pub with_child : Phase → Phase
+with_child p = record { scope = with_task p.scope; begun = p.begun; ended = p.ended }
+
+-- where one of the children is settled from the length on
+abbrev pub without_child : ℕ → Phase → Phase
+without_child length p = record { scope = without_task length p.scope; begun = p.begun; ended = p.ended }
+
+-- where one more member begins the barrier behind it
+abbrev pub with_begin : Phase → Phase
+with_begin p = record { scope = p.scope; begun = min (p.begun + 1) (2 ^ 64 - 1); ended = p.ended }
+
+-- where one more ends it
+abbrev pub with_end : Phase → Phase
+with_end p = record { scope = p.scope; begun = p.begun; ended = min (p.ended + 1) (2 ^ 64 - 1) }
+
+-- where the phase is over, and all that was created up to it is settled from the length on
+abbrev pub over_from : ℕ → Phase → Phase
+over_from length p = record {
+  scope = record { left = 0; greatest = length };
+  begun = p.begun;
+  ended = p.ended;
+}
+
+-- how many members have begun, and which phases are over, stays
+pub record KeepsTeam (old new : Team) : Type 0 where
   pub joined : new.joined ≡ old.joined
-  pub begun : new.begun ≡ old.begun
-  pub round : new.round ≡ old.round
+  pub over : new.over ≡ old.over
+  pub greatest : new.greatest ≡ old.greatest
 
--- what is counted of children stays
-pub record KeepsScopes (old new : Team) : Type 0 where
-  pub steady : new.steady ≡ old.steady
-  pub past : new.past ≡ old.past
-  pub later : new.later ≡ old.later
+-- and what is kept of each phase
+pub record IsSameTeam (old new : Team) : Type 0 where
+  pub keeps : KeepsTeam old new
+  pub phases : (number : ℕ) → phase_of new number ≡ phase_of old number
+
+-- of one phase something else is kept
+pub record PutsPhase (number : ℕ) (phase : Phase) (old new : Team) : Type 0 where
+  pub keeps : KeepsTeam old new
+  pub here : phase_of new number ≡ Some phase
+  pub others : (other : ℕ) → other ≢ number → phase_of new other ≡ phase_of old other
+
+-- the team of a first member
+pub record IsFirst (team : Team) : Type 0 where
+  pub joined : team.joined ≡ 1
+  pub over : team.over ≡ 0
+  pub none : (number : ℕ) → phase_of team number ≡ None
 
 -- a further member begins
-pub record HasJoined (size : ℕ) (old new : Team) : Type 0 where
-  pub scopes : KeepsScopes old new
-  pub actual : old.actual ≤ new.actual
-  pub least : size ≤ new.actual
-  -- a member that begins behind the first round makes the team one that is never whole
-  pub behind : 0 < old.round → 2 ^ 64 - 1 ≤ new.actual
+pub record HasJoined (old new : Team) : Type 0 where
   pub joined : new.joined ≡ min (old.joined + 1) (2 ^ 64 - 1)
-  pub begun : new.begun ≡ old.begun
-  pub round : new.round ≡ old.round
+  pub over : new.over ≡ old.over
+  pub greatest : new.greatest ≡ old.greatest
+  pub phases : (number : ℕ) → phase_of new number ≡ phase_of old number
 
--- a member that had begun so many barriers creates a child
-pub record IsCreatedIn (phase : ℕ) (old new : Team) : Type 0 where
-  pub members : KeepsMembers old new
-  pub early : phase < old.round
-      → (new.past ≡ with_task old.past) × (new.later ≡ old.later) × (new.steady ≡ old.steady)
-  pub late : old.round ≤ phase
-      → (new.past ≡ old.past) × (new.later ≡ with_task old.later)
-      × (new.steady ≡ true → (old.steady ≡ true) × (phase ≤ old.round))
+-- a member creates a child in the phase, which is not over
+pub record IsCreatedIn (number : ℕ) (old new : Team) : Type 0 where
+  pub going : old.over ≤ number
+  pub counted : PutsPhase number (with_child (phase_in old number)) old new
 
 -- such a child is settled from the length on
-pub record IsSettledIn (phase length : ℕ) (old new : Team) : Type 0 where
-  pub members : KeepsMembers old new
-  pub steady : new.steady ≡ old.steady
-  pub early : phase < old.round → (new.past ≡ without_task length old.past) × (new.later ≡ old.later)
-  pub late : old.round ≤ phase → (new.past ≡ old.past) × (new.later ≡ without_task length old.later)
+pub record IsSettledIn (number length : ℕ) (old new : Team) : Type 0 where
+  pub keeps : KeepsTeam old new
+  pub here : old.over ≤ number → (p : Phase) → phase_of old number ≡ Some p
+      → phase_of new number ≡ Some (without_child length p)
+  pub absent : phase_of old number ≡ None → phase_of new number ≡ None
+  pub over : number < old.over → phase_of new number ≡ phase_of old number
+  pub others : (other : ℕ) → other ≢ number → phase_of new other ≡ phase_of old other
 
--- a member begins the barrier with this number
+-- a member begins the barrier behind the phase; where that is over and nothing is kept of it, nothing changes
 pub record CountsBegin (number : ℕ) (old new : Team) : Type 0 where
-  pub scopes : KeepsScopes old new
-  pub actual : new.actual ≡ old.actual
+  pub keeps : KeepsTeam old new
+  pub known : (was : Phase) → phase_of old number ≡ Some was → phase_of new number ≡ Some (with_begin was)
+  pub fresh : phase_of old number ≡ None → old.over ≤ number
+      → phase_of new number ≡ Some (with_begin no_phase)
+  pub gone : phase_of old number ≡ None → number < old.over → phase_of new number ≡ None
+  pub others : (other : ℕ) → other ≢ number → phase_of new other ≡ phase_of old other
+
+-- what is kept of a phase that is over may go; of each other stays what is counted of children and of begins
+pub record KeepsPhases (old new : Team) : Type 0 where
+  pub keeps : KeepsTeam old new
+  pub each : (number : ℕ) (p : Phase) → phase_of new number ≡ Some p
+      → (was : Phase) × (phase_of old number ≡ Some was) × (p.scope ≡ was.scope) × (p.begun ≡ was.begun)
+  pub going : (number : ℕ) → old.over ≤ number → (phase_in new number).scope ≡ (phase_in old number).scope
+
+-- the next phase is over, in which no child is left: what is kept of it tells of all phases up to it
+pub record EndsPhase (old new : Team) : Type 0 where
   pub joined : new.joined ≡ old.joined
-  pub round : new.round ≡ old.round
-  pub counted : number ≡ old.round → new.begun ≤ old.begun + 1
-  pub other : number ≢ old.round → new.begun ≡ old.begun
+  pub over : new.over ≡ old.over + 1
+  pub none_left : (phase_in old old.over).scope.left ≡ 0
+  pub greatest : new.greatest ≡ max old.greatest (phase_in old old.over).scope.greatest
+  pub here : phase_of new old.over ≡ Some (over_from new.greatest (phase_in old old.over))
+  pub others : (other : ℕ) → other ≢ old.over → phase_of new other ≡ phase_of old other
 
--- all members have begun the barrier with the number of the round
-pub record MayAdvance (team : Team) : Type 0 where
-  pub steady : team.steady ≡ true
-  pub whole : team.joined ≡ team.actual
-  pub all_begun : team.joined ≤ team.begun
-  pub small : team.round < 2 ^ 64 - 1
-
--- the team goes on to the next round
-pub record Advances (old new : Team) : Type 0 where
-  pub actual : new.actual ≡ old.actual
-  pub joined : new.joined ≡ old.joined
-  pub steady : new.steady ≡ old.steady
-  pub begun : new.begun ≡ 0
-  pub round : new.round ≡ old.round + 1
-  pub past : new.past ≡ merged old.past old.later
-  pub later : new.later ≡ no_tasks
-
--- at the length all is settled that a barrier covers whose number is less than this
-pub record IsOverAt (barriers length : ℕ) (team : Team) : Type 0 where
-  pub whole : team.joined ≡ team.actual
-  pub reached : barriers ≤ team.round
-  pub none : team.past.left ≡ 0
-  pub greatest : team.past.greatest ≤ length
+-- the phase is kept, and from the length on all is settled that is counted for it
+abbrev pub IsSettledAt : ℕ → ℕ → Team → Type 0
+IsSettledAt number length team =
+    (p : Phase) × (phase_of team number ≡ Some p) × (p.scope.greatest ≤ length)
 
 -- ---- what the records leave of them
 
@@ -160,32 +191,82 @@ IsInPhase rs parallel is_phase child =
     (i : ℕ) × (parent : ℕ) × IsMemberOf rs parallel parent × IsCreatedAt rs i parent child
     × is_phase (phase_at rs parent i)
 
--- this is what the records leave of the members of a team, and of their barriers
-pub record IsRosterOf (rs : List Record) (parallel : ℕ) (team : Team) : Type 0 where
+-- a barrier with this number of a member of the team ends there
+pub record EndsBarrierAt (rs : List Record) (parallel number i : ℕ) : Type 0 where
+  pub own : ℕ
+  pub begin : ℕ
+  pub kind : SyncKind
+  pub ends : IsRegion rs i own kind begin
+  pub barrier : is_barrier kind ≡ true
+  pub begins : IsBarrierBegin rs own number begin
+  pub member : IsMemberOf rs parallel own
+
+-- below the length all children are settled that the team's members created in phases up to this one
+abbrev pub AreSettledUpTo : List Record → ℕ → ℕ → ℕ → Type 0
+AreSettledUpTo rs parallel number length =
+    (child : ℕ) → IsInPhase rs parallel (λ k. k ≤ number) child → IsSettled rs length child
+
+-- this is what the records leave of a team
+pub record IsTeamOf (rs : List Record) (is_kept : ℕ → Bool) (parallel : ℕ) (team : Team) : Type 0 where
   pub joined : team.joined ≡ length (members rs parallel)
-  pub sizes : (m : Membership) → Contains (members rs parallel) m → m.actual ≤ team.actual
-  pub begun : team.begun ≤ ahead rs (members rs parallel) team.round
-  pub reached : team.actual < 2 ^ 64 - 1 → (m : Membership) → Contains (members rs parallel) m
-      → team.round ≤ phase_at rs m.member (length rs)
+  pub begun : (number : ℕ) (p : Phase) → phase_of team number ≡ Some p
+      → p.begun ≤ ahead rs (members rs parallel) number
+  -- the children of each phase that is not over
+  pub going : (number : ℕ) → team.over ≤ number
+      → IsScopeOf (length rs) (IsInPhase rs parallel (λ k. k ≡ number)) is_kept (IsSettled rs)
+      (phase_in team number).scope
+  -- and of those that are over
+  pub over : (child : ℕ) → IsInPhase rs parallel (λ k. k < team.over) child → IsSettled rs team.greatest child
+  pub each : (number : ℕ) (p : Phase) → number < team.over → phase_of team number ≡ Some p
+      → AreSettledUpTo rs parallel number p.scope.greatest
 
--- and of their children
-pub record IsCountOf (rs : List Record) (is_kept : ℕ → Bool) (parallel : ℕ) (team : Team) : Type 0 where
-  pub steady : team.steady ≡ true → (i parent child : ℕ) → IsMemberOf rs parallel parent
-      → IsCreatedAt rs i parent child → phase_at rs parent i ≤ team.round
-  pub few : team.past.left + team.later.left ≤ length rs
-  pub past : IsScopeOf (length rs) (IsInPhase rs parallel (λ n. n < team.round)) is_kept (IsSettled rs)
-      team.past
-  pub later : IsScopeOf (length rs) (IsInPhase rs parallel (λ n. team.round ≤ n)) is_kept (IsSettled rs)
-      team.later
+-- where a barrier ended before the place n, its phase is over, and all is settled that was created in it or
+-- before it, by whichever record
+pub record AreEndsOver (rs : List Record) (n : ℕ) (teams : ℕ → Option Team) : Type 0 where
+  pub settled : (i parallel number : ℕ) → i < n → EndsBarrierAt rs parallel number i
+      → AreSettledUpTo rs parallel number (seen_at rs i)
+  pub over : (i parallel number : ℕ) (team : Team) → i < n → EndsBarrierAt rs parallel number i
+      → teams parallel ≡ Some team → number < team.over
 
--- this is what the records leave of all teams
-pub record AreTeamsOf (rs : List Record) (table : ℕ → Option Kin) (teams : ℕ → Option Team) : Type 0 where
+-- this is what the records leave of all teams; of the ends of barriers those before the place n are looked at
+pub record AreTeamsBefore (rs : List Record) (n : ℕ) (table : ℕ → Option Kin) (teams : ℕ → Option Team)
+    : Type 0 where
   pub places : (task : ℕ) (kin : Kin) → table task ≡ Some kin → IsInTeams rs task kin
-  pub rosters : (parallel : ℕ) (team : Team) → teams parallel ≡ Some team → IsRosterOf rs parallel team
-  pub counts : (parallel : ℕ) (team : Team) → teams parallel ≡ Some team
-      → IsCountOf rs (is_kept table) parallel team
+  pub each : (parallel : ℕ) (team : Team) → teams parallel ≡ Some team
+      → IsTeamOf rs (is_kept table) parallel team
   -- nothing is kept of a team that has no member yet
   pub absent : (parallel : ℕ) → teams parallel ≡ None → members rs parallel ≡ []
+  pub ends : AreEndsOver rs n teams
+
+abbrev pub AreTeamsOf : List Record → (ℕ → Option Kin) → (ℕ → Option Team) → Type 0
+AreTeamsOf rs table teams = AreTeamsBefore rs (length rs) table teams
+
+-- the phase with this number is over, and what is kept is still right
+pub record EndsPhases (number : ℕ) (old new : Team) : Type 0 where
+  pub same : (rs : List Record) (is_kept : ℕ → Bool) (parallel : ℕ) → IsTeamOf rs is_kept parallel old
+      → IsTeamOf rs is_kept parallel new
+  pub rises : old.over ≤ new.over
+  pub over : number < new.over
+
+-- the member's barrier with this number has ended: its phase and all before it are over, and in them all is
+-- settled at the length
+pub record HasEnded (number length : ℕ) (old new : Team) : Type 0 where
+  pub ends : EndsPhases number old new
+  pub settled : (rs : List Record) (is_kept : ℕ → Bool) (parallel : ℕ) → IsTeamOf rs is_kept parallel old
+      → AreSettledUpTo rs parallel number length
+
+-- all members have begun the barrier behind each phase that is over
+abbrev pub HasBegunAll : Team → Type 0
+HasBegunAll team =
+    (rs : List Record) (is_kept : ℕ → Bool) (parallel : ℕ) → IsTeamOf rs is_kept parallel team
+    → (m : Membership) → Contains (members rs parallel) m → team.over ≤ phase_at rs m.member (length rs)
+
+-- for each barrier that ends, each teammate has one with its number
+abbrev pub AreBarriersBegun : List Record → Type 0
+AreBarriersBegun rs =
+    (i own begin member number : ℕ) (kind : SyncKind) → IsRegion rs i own kind begin
+    → is_barrier kind ≡ true → IsBarrierBegin rs own number begin → IsTeammate rs own member
+    → (start : ℕ) × IsBarrierBegin rs member number start
 
 -- ---- changes of what is kept of one team
 
@@ -202,18 +283,19 @@ abbrev pub ChangesTeamOf : (Team → Team → Type 0) → Option ℕ → (ℕ �
 ChangesTeamOf change None old new = (other : ℕ) → new other ≡ old other
 ChangesTeamOf change (Some parallel) old new = ChangesTeam change parallel old new
 
--- a member with this size of the team begins
-pub record JoinsTeam (parallel size : ℕ) (old new : ℕ → Option Team) : Type 0 where
+-- a member's barrier with this number ends
+pub record EndsIn (number length parallel : ℕ) (old new : ℕ → Option Team) : Type 0 where
+  pub was : Team
+  pub found : old parallel ≡ Some was
+  pub changes : ChangesTeam (HasEnded number length) parallel old new
+
+-- a member of the team begins
+pub record JoinsTeam (parallel : ℕ) (old new : ℕ → Option Team) : Type 0 where
   pub after : Team
   pub here : new parallel ≡ Some after
-  pub first : old parallel ≡ None → IsFirstOf size after
-  pub further : (team : Team) → old parallel ≡ Some team → HasJoined size team after
+  pub first : old parallel ≡ None → IsFirst after
+  pub further : (team : Team) → old parallel ≡ Some team → HasJoined team after
   pub others : (other : ℕ) → other ≢ parallel → new other ≡ old other
-
--- the team goes on to the next round, if all its members have begun the barrier
-pub record GoesOn (old new : Team) : Type 0 where
-  pub may : MayAdvance old
-  pub advances : Advances old new
 
 -- ---- what a record says, for each step
 
@@ -221,11 +303,10 @@ pub record GoesOn (old new : Team) : Type 0 where
 abbrev pub BeginsInitial : ℕ → Record → Type 0
 BeginsInitial root r = begun_initial r.body ≡ Some root
 
--- it begins this member of the team of a parallel region, which has this size
-abbrev pub Joins : ℕ → ℕ → ℕ → Record → Type 0
-Joins root parallel size r =
+-- it begins this member of the team of a parallel region
+abbrev pub Joins : ℕ → ℕ → Record → Type 0
+Joins root parallel r =
     (m : Membership) × (joined r.body ≡ Some m) × (m.member ≡ root) × (m.parallel ≡ parallel)
-    × (m.actual ≡ size)
 
 -- it begins a barrier of the task
 abbrev pub BeginsBarrier : ℕ → Record → Type 0
@@ -248,14 +329,18 @@ abbrev pub TeamsFollow : (Record → Type 0) → (ℕ → Option Kin) → (ℕ �
     → (ℕ → Option Team) → Type 0
 TeamsFollow says old teams new after =
     (rs : List Record) (r : Record) → says r → MayFollow rs r → IsWaitsOf rs old → AreTeamsOf rs old teams
-    → AreTeamsOf (rs ++ r ∷ []) new after
+    → AreTeamsBefore (rs ++ r ∷ []) (length rs) new after
 
 -- what the records left of teams is still so for them
 abbrev pub KeepsTeams : (ℕ → Option Kin) → (ℕ → Option Team) → (ℕ → Option Kin) → (ℕ → Option Team) → Type 0
 KeepsTeams old teams new after =
-    (rs : List Record) → IsFreeOf rs CreatedTwice → length rs < 2 ^ 64 → IsWaitsOf rs old
-    → AreTeamsOf rs old teams → AreTeamsOf rs new after
+    (rs : List Record) (n : ℕ) → IsFreeOf rs CreatedTwice → length rs < 2 ^ 64 → IsWaitsOf rs old
+    → AreTeamsBefore rs n old teams → AreTeamsBefore rs n new after
 
--- the team goes on, or stays
-abbrev pub MayGoOn : Team → Team → Type 0
-MayGoOn old new = GoesOn old new ⊎ (new ≡ old)
+-- where the new record ends a barrier, all that this covers is complete there, and what is kept is what the
+-- records leave
+pub record HasBarrierEnded (rs : List Record) (r : Record) (table : ℕ → Option Kin) (teams : ℕ → Option Team)
+    : Type 0 where
+  pub waits : IsWaitsOf (rs ++ r ∷ []) table
+  pub teams_are : AreTeamsOf (rs ++ r ∷ []) table teams
+  pub complete : IsCoverComplete rs r

@@ -53,10 +53,6 @@ no_tasks = record { left = 0; greatest = 0 }
 abbrev pub with_task : Scope → Scope
 with_task s = record { left = min (s.left + 1) (2 ^ 64 - 1); greatest = s.greatest }
 
--- with other tasks, of which this is counted
-abbrev pub merged : Scope → Scope → Scope
-merged s t = record { left = min (s.left + t.left) (2 ^ 64 - 1); greatest = max s.greatest t.greatest }
-
 -- where one of the tasks is over from the length on
 abbrev pub without_task : ℕ → Scope → Scope
 without_task length s = record { left = s.left - 1; greatest = max s.greatest length }

@@ -20,7 +20,7 @@ ghost use Rattle.ompt_events.specs.Linearization.{IsLinearization, IsGreedy};
 ghost use Rattle.ompt_events.specs.declared.cause.Cause.TheVariants.{NotCurrent, TurnGap, RegionOrder};
 ghost use Rattle.ompt_events.specs.declared.cause.Cause.TheVariants.{SeqGap, Moved, NestedParallel, RegionNesting, TargetTask};
 ghost use Rattle.ompt_events.specs.Causes.{ShowsNowhere, IsMadeAgain, IsShort};
-ghost use Rattle.online.specs.Rosters.{IsShortRoster, AreWhole, MissesBegin, IsBegunAfter};
+ghost use Rattle.online.specs.Rosters.{IsShortRoster, AreWhole, MissesBegin};
 ghost use Rattle.scripts.specs.Progress.{Values};
 ghost use Rattle.online.specs.Replays.{IsReplayed};
 ghost use Rattle.online.specs.Lengths.{MayFollow, NamesLength};
@@ -30,7 +30,7 @@ ghost use Rattle.online.specs.declared.kin.Kin.{Kin};
 ghost use Rattle.online.specs.declared.team.Team.{Team};
 ghost use Rattle.online.specs.Teams.{TeamsFollow, SaysNothing};
 ghost use Rattle.online.specs.Waits.{Follows, ChangesNothing, IsCoverComplete};
-ghost use Rattle.online.specs.Online.{EndsLast, AreBegun, HasTeamBegun, AreListed, HasLists, IsDependentAt};
+ghost use Rattle.online.specs.Online.{EndsLast, AreBegun, HasTeamBegun, IsBarrierSettled, AreListed, HasLists, IsDependentAt};
 ghost use Rattle.online.specs.Online.{EachRecord, ComesAfter, ListsAwaited, AreForked, NoneAwaited, PassesAfter};
 ghost use Rattle.online.specs.Online.{IsUnfinishedAfter, IsCompleteAfter, IsSettledAfter};
 
@@ -164,7 +164,8 @@ pub fn tests_at_each_record_exclude_all_causes()
 /// - `required`: where `EndsLast` holds, and the barrier begins and the lists of dependences that count for a record
 ///   are among those up to it (`AreBegun`, `AreListed`).
 /// - `settled`: where each record passes the tests of causes and of completeness (`IsSettledAfter`), no thread
-///   awaits dependences after the last record, and no team lacks a member.
+///   awaits dependences after the last record, and each barrier ends behind the begins that count for it, or behind
+///   what they add to it (`IsBarrierSettled`).
 pub fn what_is_complete_at_each_record_is_complete()
     ensures ends_last { (rs : List Record) → EachRecord IsUnfinishedAfter rs → EndsLast rs }
     ensures required { (rs : List Record) → IsWatchable rs → IsFreeOf rs CreatedTwice → EndsLast rs
@@ -172,7 +173,7 @@ pub fn what_is_complete_at_each_record_is_complete()
         → ((i dependent : ℕ) → i < length rs → IsDependentAt rs i dependent → AreListed rs (i + 1) dependent)
         → EachRecord IsCompleteAfter rs → (i task : ℕ) → IsRequired rs i task → IsCompleteAt rs task i }
     ensures settled { (rs : List Record) → IsWatchable rs → EachRecord PassesAfter rs → NoneAwaited rs
-        → IsFreeOf rs TeamShort → EachRecord IsSettledAfter rs
+        → ((i : ℕ) → IsBarrierSettled rs i) → EachRecord IsSettledAfter rs
         → (i task : ℕ) → IsRequired rs i task → IsCompleteAt rs task i }
 {}
 
@@ -271,10 +272,7 @@ pub fn lengths_may_be_taken()
 /// - `cases`: the cause is one that `Rosters` excludes (`IsShortRoster`), or a barrier ends that a member does not
 ///   begin.
 /// - `free`: so it does not occur where neither does.
-/// - `each`: the same, where each record shows the barrier's begins with those before it.
 pub fn whole_teams_lack_no_member()
     ensures cases { (rs : List Record) (i : ℕ) → IsShort rs i → IsShortRoster rs i ⊎ MissesBegin rs i }
     ensures free { (rs : List Record) → AreWhole rs → ((i : ℕ) → HasTeamBegun rs i) → IsFreeOf rs TeamShort }
-    ensures each { (rs : List Record) → IsWatchable rs → IsFreeOf rs CreatedTwice → AreWhole rs
-        → EachRecord IsBegunAfter rs → IsFreeOf rs TeamShort }
 {}

@@ -32,6 +32,7 @@ mod kin;
 mod kins;
 pub mod laws;
 mod lengths;
+mod phase;
 mod regions;
 mod replay;
 mod rosters;

@@ -1,6 +1,6 @@
 //! What is counted of some tasks.
 ghost use Rattle.std.specs.Prelude.{◌≡◌, ◌≤◌, ◌↔◌, IsTrue};
-ghost use Rattle.online.specs.Waits.{no_tasks, with_task, without_task, raised, merged};
+ghost use Rattle.online.specs.Waits.{no_tasks, with_task, without_task, raised};
 
 /// What is counted of some tasks: how many are not over, and a ledger length from which on all others are.
 #[derive(Clone, Copy, Debug, PartialEq, Eq)]
@@ -49,16 +49,6 @@ impl Scope {
         Scope {
             left: self.left,
             greatest: self.greatest.max(length),
-        }
-    }
-
-    /// Returns what is counted of these tasks and of the others.
-    pub fn merged(self, others: Scope) -> Self
-        ensures { result ≡ merged self others }
-    {
-        Scope {
-            left: self.left.saturating_add(others.left),
-            greatest: self.greatest.max(others.greatest),
         }
     }
 

@@ -1,83 +1,94 @@
 //! What is kept of teams, by their parallel regions.
-ghost use Rattle.std.specs.Prelude.{◌≡◌, ◌<◌, ◌^◌, ◌≢◌, IsTrue, OnOk, true, length, nat_eq, ℕ, Some, List, Option};
+ghost use Rattle.std.specs.Prelude.{◌≡◌, ◌<◌, IsTrue, IfOk, OnOk, nat_eq, ℕ, Some};
 ghost use Rattle.std.specs.HashMap.{get};
-ghost use Rattle.ompt_events.specs.declared.records.Record.{Record};
-ghost use Rattle.online.specs.declared.kin.Kin.{Kin};
 ghost use Rattle.online.specs.declared.team.Team.{Team};
-ghost use Rattle.online.specs.Teams.{ChangesTeamOf, JoinsTeam, IsCreatedIn, IsSettledIn, CountsBegin, IsOverAt, AreTeamsOf};
+ghost use Rattle.online.specs.Teams.{ChangesTeamOf, JoinsTeam, IsCreatedIn, IsSettledIn, CountsBegin, EndsIn, HasBegunAll};
 
 use crate::team::Team;
-use std::alloc::AllocError;
+use std::alloc::{AllocError, Global};
 use std::collections::HashMap;
 
 /// What is kept of each team, by its parallel region.
 pub type Teams = HashMap<u64, Team>;
 
 /// Counts a member of the team, by which it has this size.
-pub fn join(teams: &mut Teams, parallel: u64, size: u32) -> Result<(), AllocError>
-    ensures { OnOk result (JoinsTeam parallel size (get nat_eq teams.old) (get nat_eq teams.new)) }
+pub fn join(teams: &mut Teams, alloc: Global, parallel: u64, size: u32) -> Result<(), AllocError>
+    ensures { OnOk result (JoinsTeam parallel (get nat_eq teams.old) (get nat_eq teams.new)) }
 {
-    let team = match teams.get(&parallel) {
-        Some(team) => team.joined_by(size),
-        None => Team::new(size),
-    };
-    let _ = teams.insert(parallel, team)?;
+    if let Some(team) = teams.get_mut(&parallel) {
+        team.join(size);
+        return Ok(());
+    }
+    let _ = teams.insert(parallel, Team::new(alloc, size))?;
     Ok(())
 }
 
-/// Counts a child of a member of the team, where there is a team, that had begun so many barriers.
-pub fn create_in(teams: &mut Teams, parallel: Option<u64>, phase: u64)
-    ensures { ChangesTeamOf (IsCreatedIn phase) parallel (get nat_eq teams.old) (get nat_eq teams.new) }
+/// Counts a child that a member of the team, where there is a team, creates in the phase. Returns false if the phase
+/// is over.
+pub fn create_in(teams: &mut Teams, parallel: Option<u64>, number: u64) -> Result<bool, AllocError>
+    ensures { IfOk result (λ counted. IsTrue counted
+        → ChangesTeamOf (IsCreatedIn number) parallel (get nat_eq teams.old) (get nat_eq teams.new)) }
 {
-    if let Some(region) = parallel {
-        if let Some(team) = teams.get_mut(&region) {
-            team.create(phase);
-        }
+    let Some(region) = parallel else {
+        return Ok(true);
+    };
+    match teams.get_mut(&region) {
+        Some(team) => team.create(number),
+        None => Ok(true),
     }
 }
 
 /// Counts such a child as settled from the length on.
-pub fn settle_in(teams: &mut Teams, parallel: Option<u64>, phase: u64, length: u64)
-    ensures { ChangesTeamOf (IsSettledIn phase length) parallel (get nat_eq teams.old) (get nat_eq teams.new) }
+pub fn settle_in(teams: &mut Teams, parallel: Option<u64>, number: u64, length: u64)
+    ensures { ChangesTeamOf (IsSettledIn number length) parallel (get nat_eq teams.old) (get nat_eq teams.new) }
 {
     if let Some(region) = parallel {
         if let Some(team) = teams.get_mut(&region) {
-            team.settle(phase, length);
+            team.settle(number, length);
         }
     }
 }
 
-/// Counts a member of the team, where there is a team, that begins the barrier with this number.
-pub fn begin_in(teams: &mut Teams, parallel: Option<u64>, number: u64)
-    ensures { ChangesTeamOf (CountsBegin number) parallel (get nat_eq teams.old) (get nat_eq teams.new) }
+/// Counts a member of the team, where there is a team, that begins the barrier behind the phase.
+pub fn begin_in(teams: &mut Teams, parallel: Option<u64>, number: u64) -> Result<(), AllocError>
+    ensures { OnOk result (ChangesTeamOf (CountsBegin number) parallel (get nat_eq teams.old) (get nat_eq teams.new)) }
 {
-    if let Some(region) = parallel {
-        if let Some(team) = teams.get_mut(&region) {
-            team.begin(number);
-        }
+    let Some(region) = parallel else {
+        return Ok(());
+    };
+    match teams.get_mut(&region) {
+        Some(team) => team.begin(number),
+        None => Ok(()),
     }
 }
 
-/// Goes on to the next round of the team, where there is a team, if all its members have begun the barrier with
-/// the number of the round.
-pub fn go_on_in(teams: &mut Teams, parallel: Option<u64>)
-    ensures { (rs : List Record) (table : ℕ → Option Kin) → length rs < 2 ^ 64
-        → AreTeamsOf rs table (get nat_eq teams.old) → AreTeamsOf rs table (get nat_eq teams.new) }
+/// Counts a member of the team that ends the barrier behind the phase. Returns true only if all children are settled
+/// at the length that the team's members created in this phase or in one before it.
+pub fn end_in(
+    teams: &mut Teams,
+    parallel: u64,
+    number: u64,
+    length: u64,
+) -> Result<bool, AllocError>
+    requires { number < u64.MAX }
+    ensures { IfOk result (λ ended. IsTrue ended
+        → EndsIn number length parallel (get nat_eq teams.old) (get nat_eq teams.new)) }
 {
-    if let Some(region) = parallel {
-        if let Some(team) = teams.get_mut(&region) {
-            team.go_on();
-        }
+    match teams.get_mut(&parallel) {
+        Some(team) => team.end(number, length),
+        None => Ok(false),
     }
 }
 
-/// Returns whether all is settled at the length that a barrier of the team covers whose number is less than this.
-pub fn is_over_in(teams: &Teams, parallel: u64, barriers: u64, length: u64) -> bool
-    ensures { IsTrue result → (team : Team) × (get nat_eq teams.now parallel ≡ Some team)
-        × IsOverAt barriers length team }
+/// Returns whether of each team all members have begun the barrier behind each phase that is over.
+pub fn have_begun_all(teams: &Teams) -> bool
+    ensures { IsTrue result → (parallel : ℕ) (team : Team) → get nat_eq teams.now parallel ≡ Some team
+        → HasBegunAll team }
 {
-    match teams.get(&parallel) {
-        Some(team) => team.is_over(barriers, length),
-        None => false,
+    for (_, team) in teams {
+        if !team.has_begun_all() {
+            return false;
+        }
     }
+    true
 }

@@ -10,11 +10,10 @@ ghost use Rattle.ompt_events.specs.declared.names.SyncKind.TheVariants.{Taskwait
 ghost use Rattle.ompt_events.specs.declared.names.Endpoint.TheVariants.{Begin};
 ghost use Rattle.ompt_events.specs.Records.{made, region};
 ghost use Rattle.ompt_events.specs.Regions.{is_barrier};
-ghost use Rattle.online.specs.Online.{HasTeamBegun};
 ghost use Rattle.online.specs.Waits.{IsWaitsOf, MayFollow, IsCoverComplete};
 ghost use Rattle.online.specs.Teams.{AreTeamsOf};
 ghost use Rattle.online.specs.Kept.{kept_by, teams_by};
-ghost use Rattle.online.specs.WaitSteps.{TakesStep, TakesRecord, IsOfRegion};
+ghost use Rattle.online.specs.WaitSteps.{StepsBefore, TakesStep, TakesRecord, IsOfRegion};
 
 use crate::waits::Waits;
 use bitflags::Flags;
@@ -23,9 +22,9 @@ use std::alloc::AllocError;
 
 impl Waits {
     /// Does the record's step, and returns true only if all that must be complete for a taskwait, taskgroup
-    /// or barrier that ends there is complete below the length that the record names, and, for a barrier, the
-    /// whole team has begun it. Where it returns false, or fails, what is kept is of no use for later records.
-    /// Fails only when out of memory.
+    /// or barrier that ends there is complete below the length that the record names; for a barrier of a
+    /// team also all that it may come to cover. Where it returns false, or fails, what is kept is of no use for
+    /// later records. Fails only when out of memory.
     pub fn take(&mut self, record: &Record) -> Result<bool, AllocError>
         ensures tasks { IfOk result (λ taken. IsTrue taken → (rs : List Record) → MayFollow rs «record».now
             → IsWaitsOf rs (kept_by self.old) → IsWaitsOf (rs ++ «record».now ∷ []) (kept_by self.new)) }
@@ -35,9 +34,6 @@ impl Waits {
         ensures complete { IfOk result (λ taken. IsTrue taken → (rs : List Record) → MayFollow rs «record».now
             → IsWaitsOf rs (kept_by self.old) → AreTeamsOf rs (kept_by self.old) (teams_by self.old)
             → IsCoverComplete rs «record».now) }
-        ensures begun { IfOk result (λ taken. IsTrue taken → (rs : List Record) → MayFollow rs «record».now
-            → IsWaitsOf rs (kept_by self.old) → AreTeamsOf rs (kept_by self.old) (teams_by self.old)
-            → HasTeamBegun (rs ++ «record».now ∷ []) (length rs)) }
     {
         match record.body.region() {
             Some((task, kind, endpoint)) => self.take_region(task, kind, endpoint, record.seen),
@@ -63,7 +59,7 @@ impl Waits {
                 Endpoint::End => self.end_root(*task),
                 Endpoint::BeginEnd => return Ok(false),
             },
-            Body::TaskCreate { task, child, .. } => self.create(*task, *child)?,
+            Body::TaskCreate { task, child, .. } => return self.create(*task, *child),
             _ => self.take_finish(record),
         }
         Ok(true)
@@ -116,7 +112,7 @@ impl Waits {
         match kind.wait_kind() {
             Some(WaitKind::Taskwait) => Ok(self.take_taskwait(task, endpoint, seen)),
             Some(WaitKind::Taskgroup) => self.take_taskgroup(task, endpoint, seen),
-            Some(WaitKind::Barrier) => Ok(self.take_barrier(task, endpoint, seen)),
+            Some(WaitKind::Barrier) => self.take_barrier(task, endpoint, seen),
             None => Ok(true),
         }
     }
@@ -152,26 +148,27 @@ impl Waits {
         }
     }
 
-    /// The same of a barrier. Its end is asked about behind the step.
-    fn take_barrier(&mut self, task: u64, endpoint: Endpoint, seen: u32) -> bool
-        ensures { IsTrue result → (r : Record) (kind : SyncKind) → is_barrier kind ≡ true
-            → IsOfRegion task kind endpoint seen r → TakesRecord r self.old self.new }
+    /// The same of a barrier. Its end is noted behind the step.
+    fn take_barrier(&mut self, task: u64, endpoint: Endpoint, seen: u32) -> Result<bool, AllocError>
+        ensures { IfOk result (λ taken. IsTrue taken → (r : Record) (kind : SyncKind) → is_barrier kind ≡ true
+            → IsOfRegion task kind endpoint seen r → TakesRecord r self.old self.new) }
     {
-        self.step_barrier(task, endpoint);
+        self.step_barrier(task, endpoint)?;
         match endpoint {
-            Endpoint::Begin => true,
-            Endpoint::End | Endpoint::BeginEnd => self.is_barrier_over(task, seen),
+            Endpoint::Begin => Ok(true),
+            Endpoint::End | Endpoint::BeginEnd => self.end_barrier(task, seen),
         }
     }
 
-    /// Does the step of a record of a barrier. One that begins and ends in one record is begun there too.
-    fn step_barrier(&mut self, task: u64, endpoint: Endpoint)
-        ensures { (r : Record) (kind : SyncKind) → is_barrier kind ≡ true
-            → region r.body ≡ Some (task, kind, endpoint) → TakesStep r self.old self.new }
+    /// Does the step of a record of a barrier, but for its end. One that begins and ends in one record is begun there
+    /// too.
+    fn step_barrier(&mut self, task: u64, endpoint: Endpoint) -> Result<(), AllocError>
+        ensures { OnOk result ((r : Record) (kind : SyncKind) → is_barrier kind ≡ true
+            → region r.body ≡ Some (task, kind, endpoint) → StepsBefore r self.old self.new) }
     {
         match endpoint {
             Endpoint::Begin | Endpoint::BeginEnd => self.begin_barrier(task),
-            Endpoint::End => {}
+            Endpoint::End => Ok(()),
         }
     }
 }

@@ -1,11 +1,10 @@
 //! What the ends of taskwaits, taskgroups and barriers need of the records so far.
-ghost use Rattle.std.specs.Prelude.{◌≡◌, ◌≤◌, ◌+◌, ◌++◌, ◌∷◌, IsTrue, OnOk, OnErr, nat_eq, List, [], length, is_some, if◌then◌else◌};
+ghost use Rattle.std.specs.Prelude.{◌≡◌, ◌≤◌, ◌+◌, ◌++◌, ◌∷◌, IsTrue, IfOk, OnOk, OnErr, nat_eq, List, [], length, is_some, if◌then◌else◌};
 ghost use Rattle.std.specs.HashMap.{get, hash_map_len};
 ghost use Rattle.ompt_events.specs.declared.records.Record.{Record};
-ghost use Rattle.online.specs.Online.{HasTeamBegun};
 ghost use Rattle.online.specs.Waits.{IsWaitsOf, KeepsWaits, Follows, EndsRoot, CreatesTask, CompletesTask};
 ghost use Rattle.online.specs.Waits.{BeginsTaskgroup, EndsTaskgroup, EndsTaskwait, MayFollow, IsCoverComplete};
-ghost use Rattle.online.specs.Teams.{AreTeamsOf, KeepsTeams, TeamsFollow, BeginsInitial, Joins, BeginsBarrier, EndsBarrier};
+ghost use Rattle.online.specs.Teams.{AreTeamsBefore, AreTeamsOf, AreBarriersBegun, HasBarrierEnded, KeepsTeams, TeamsFollow, BeginsInitial, Joins, BeginsBarrier, EndsBarrier};
 ghost use Rattle.online.specs.Kept.{kept_by, teams_by};
 
 use crate::kin::Kin;
@@ -13,7 +12,7 @@ use crate::kins::{
     Table, are_children_over, begin_barrier, begin_group, complete, complete_child, count_child,
     end_group, is_family_over, is_root, is_settled, place_in, put, settle_child,
 };
-use crate::teams::{Teams, begin_in, create_in, go_on_in, is_over_in, join, settle_in};
+use crate::teams::{Teams, begin_in, create_in, end_in, have_begun_all, join, settle_in};
 use std::alloc::{AllocError, Global};
 use std::collections::HashMap;
 
@@ -76,15 +75,15 @@ impl Waits {
 
     /// Notes the begin of an implicit task: a member of the team of the parallel region, which has this size.
     pub(crate) fn join(&mut self, root: u64, parallel: u64, size: u32) -> Result<(), AllocError>
-        ensures tasks { OnOk result (Follows (Joins root parallel size) (kept_by self.old) (kept_by self.new)) }
-        ensures teams { OnOk result (TeamsFollow (Joins root parallel size) (kept_by self.old) (teams_by self.old) (kept_by self.new) (teams_by self.new)) }
+        ensures tasks { OnOk result (Follows (Joins root parallel) (kept_by self.old) (kept_by self.new)) }
+        ensures teams { OnOk result (TeamsFollow (Joins root parallel) (kept_by self.old) (teams_by self.old) (kept_by self.new) (teams_by self.new)) }
     {
         put(
             &mut self.table,
             root,
             Kin::of_root(self.alloc, Some(parallel)),
         )?;
-        join(&mut self.teams, parallel, size)
+        join(&mut self.teams, self.alloc, parallel, size)
     }
 
     /// Notes the end of an initial or implicit task.
@@ -98,13 +97,16 @@ impl Waits {
         }
     }
 
-    /// Notes that the parent creates the child.
-    pub(crate) fn create(&mut self, parent: u64, child: u64) -> Result<(), AllocError>
-        ensures tasks { OnOk result (Follows (CreatesTask parent child) (kept_by self.old) (kept_by self.new)) }
-        ensures teams { OnOk result (TeamsFollow (CreatesTask parent child) (kept_by self.old) (teams_by self.old) (kept_by self.new) (teams_by self.new)) }
+    /// Notes that the parent creates the child. Returns false if the barrier of a member of its team has ended that
+    /// waits for it.
+    pub(crate) fn create(&mut self, parent: u64, child: u64) -> Result<bool, AllocError>
+        ensures tasks { IfOk result (λ created. IsTrue created
+            → Follows (CreatesTask parent child) (kept_by self.old) (kept_by self.new)) }
+        ensures teams { IfOk result (λ created. IsTrue created
+            → TeamsFollow (CreatesTask parent child) (kept_by self.old) (teams_by self.old) (kept_by self.new) (teams_by self.new)) }
     {
         let Some(place) = place_in(&self.table, parent) else {
-            return Ok(());
+            return Ok(true);
         };
         put(
             &mut self.table,
@@ -112,8 +114,7 @@ impl Waits {
             Kin::of_child(self.alloc, parent, place),
         )?;
         count_child(&mut self.table, parent);
-        create_in(&mut self.teams, place.team, place.barriers);
-        Ok(())
+        create_in(&mut self.teams, place.team, place.barriers)
     }
 
     /// Notes that the task is complete by the entry with the index `seen`.
@@ -147,15 +148,15 @@ impl Waits {
     }
 
     /// Notes the begin of a barrier of the task.
-    pub(crate) fn begin_barrier(&mut self, task: u64)
-        ensures tasks { Follows (BeginsBarrier task) (kept_by self.old) (kept_by self.new) }
-        ensures teams { TeamsFollow (BeginsBarrier task) (kept_by self.old) (teams_by self.old) (kept_by self.new) (teams_by self.new) }
+    pub(crate) fn begin_barrier(&mut self, task: u64) -> Result<(), AllocError>
+        ensures tasks { OnOk result (Follows (BeginsBarrier task) (kept_by self.old) (kept_by self.new)) }
+        ensures teams { OnOk result (TeamsFollow (BeginsBarrier task) (kept_by self.old) (teams_by self.old) (kept_by self.new) (teams_by self.new)) }
     {
-        if let Some(place) = place_in(&self.table, task) {
-            begin_barrier(&mut self.table, task);
-            begin_in(&mut self.teams, place.team, place.barriers);
-            go_on_in(&mut self.teams, place.team);
-        }
+        let Some(place) = place_in(&self.table, task) else {
+            return Ok(());
+        };
+        begin_barrier(&mut self.table, task);
+        begin_in(&mut self.teams, place.team, place.barriers)
     }
 
     /// Returns whether all that a taskwait of the task covers is complete by the entries below the length `seen`,
@@ -167,20 +168,34 @@ impl Waits {
         are_children_over(&self.table, task, seen as u64)
     }
 
-    /// Returns whether all that a barrier of the task covers is complete by the entries below the length `seen`, and
-    /// the whole team has begun the barrier. It is asked behind the step of the record at which the barrier ends.
-    pub(crate) fn is_barrier_over(&self, task: u64, seen: u32) -> bool
-        ensures { IsTrue result → (rs : List Record) (r : Record) → EndsBarrier task seen r → MayFollow rs r
-            → IsWaitsOf (rs ++ r ∷ []) (kept_by self.now)
-            → AreTeamsOf (rs ++ r ∷ []) (kept_by self.now) (teams_by self.now)
-            → IsCoverComplete rs r × HasTeamBegun (rs ++ r ∷ []) (length rs) }
+    /// Notes the end of a barrier of the task, behind the step of the record at which it ends. Returns true only if all
+    /// that it covers is complete by the entries below the length `seen`; of a team, all that it may come to cover. If
+    /// not, what is kept is of no use for later records.
+    pub(crate) fn end_barrier(&mut self, task: u64, seen: u32) -> Result<bool, AllocError>
+        ensures tasks { KeepsWaits (kept_by self.old) (kept_by self.new) }
+        ensures ends { IfOk result (λ ended. IsTrue ended → (rs : List Record) (r : Record) → EndsBarrier task seen r
+            → MayFollow rs r → IsWaitsOf (rs ++ r ∷ []) (kept_by self.old)
+            → AreTeamsBefore (rs ++ r ∷ []) (length rs) (kept_by self.old) (teams_by self.old)
+            → HasBarrierEnded rs r (kept_by self.new) (teams_by self.new)) }
     {
         let Some(place) = place_in(&self.table, task) else {
-            return false;
+            return Ok(false);
         };
-        match place.team {
-            Some(parallel) => is_over_in(&self.teams, parallel, place.barriers, seen as u64),
-            None => is_family_over(&self.table, task, seen as u64),
+        let Some(parallel) = place.team else {
+            return Ok(is_family_over(&self.table, task, seen as u64));
+        };
+        match place.barriers.checked_sub(1) {
+            Some(number) => end_in(&mut self.teams, parallel, number, seen as u64),
+            None => Ok(false),
         }
+    }
+
+    /// Returns true only if each member of a team has a barrier with the number of each barrier of the team that has
+    /// ended.
+    pub fn have_begun_all(&self) -> bool
+        ensures { IsTrue result → (rs : List Record) → IsWaitsOf rs (kept_by self.now)
+            → AreTeamsOf rs (kept_by self.now) (teams_by self.now) → AreBarriersBegun rs }
+    {
+        have_begun_all(&self.teams)
     }
 }

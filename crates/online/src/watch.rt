@@ -103,8 +103,9 @@ impl Watch {
     }
 
     /// Returns true only if the records so far may be all: each parallel region that they name is begun, each team has
-    /// as many members as its size, and no list of dependences is missing. Then, by file order, no record has a cause (`clear`), all is complete that must be
-    /// complete (`complete`), and file order is an order of the records, the one that a yes tells (`order`).
+    /// as many members as its size, each of them has begun each barrier that ended, and no list of dependences is
+    /// missing. Then, by file order, no record has a cause (`clear`), all is complete that must be complete
+    /// (`complete`), and file order is an order of the records, the one that a yes tells (`order`).
     pub fn may_end(&self) -> bool
         ensures clear { IsTrue result → (rs : List Record) → IsWatchOf rs self.now → (i : ℕ) (cause : Cause)
             → HasCause rs i cause → ⊥ }
@@ -117,6 +118,9 @@ impl Watch {
             return false;
         }
         if !self.rosters.are_whole() {
+            return false;
+        }
+        if !self.waits.have_begun_all() {
             return false;
         }
         self.items.are_listed()

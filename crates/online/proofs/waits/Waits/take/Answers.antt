@@ -1,5 +1,5 @@
 use Rattle.std.proofs.Common.{◌∙◌, sym}
-use Rattle.online.proofs.WaitStepLemmas.{no_region, covers_nothing, begins_nothing}
+use Rattle.online.proofs.WaitStepLemmas.{no_region, covers_nothing}
 use Rattle.std.proofs.lemmas.Result.{IfOk-weaker}
 use Rattle.online.proofs.waits.Waits.take.Goals as goal
 
@@ -9,12 +9,4 @@ returns-in-None-clause-complete c =
     IfOk-weaker c.take_task.result _ _
     (λ taken step yes rs follows waits is.
     covers_nothing rs r (no_region r (sym c.region.ensures ∙ c.in-None.is)))
-    c.take_task.ensures
-
-pub returns-in-None-clause-begun : goal.returns-in-None-clause-begun
-returns-in-None-clause-begun c =
-    let r = c.args.«record».now in
-    IfOk-weaker c.take_task.result _ _
-    (λ taken step yes rs follows waits is.
-    begins_nothing rs r (no_region r (sym c.region.ensures ∙ c.in-None.is)))
     c.take_task.ensures

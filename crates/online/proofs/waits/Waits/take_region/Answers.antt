@@ -1,14 +1,18 @@
 use Rattle.std.proofs.Common.{◌∙◌, ap, sym}
 use Rattle.ompt_events.specs.declared.names.WaitKind.TheVariants.{Barrier}
 use Rattle.std.proofs.Common.{Some, None}
+use Rattle.std.proofs.lemmas.Result.{IfOk-weaker}
 use Rattle.online.proofs.WaitStepLemmas.{kind_of, other_region}
 use Rattle.online.proofs.waits.Waits.take_region.Goals as goal
 
 pub returns-in-Some-Barrier : goal.returns-in-Some-Barrier
-returns-in-Some-Barrier c = λ yes r is.
-    c.take_barrier.ensures yes r c.args.kind
+returns-in-Some-Barrier c =
+    IfOk-weaker c.take_barrier.result _ _
+    (λ taken takes yes r is.
+    takes yes r c.args.kind
     (kind_of c.args.kind (Some Barrier)
-    (ap Some (sym c.in-Some-Barrier.field-0-is) ∙ sym c.in-Some-Barrier.is ∙ c.wait_kind.ensures)) is
+    (ap Some (sym c.in-Some-Barrier.field-0-is) ∙ sym c.in-Some-Barrier.is ∙ c.wait_kind.ensures)) is)
+    c.take_barrier.ensures
 
 pub returns-in-None : goal.returns-in-None
 returns-in-None c = λ yes r is.

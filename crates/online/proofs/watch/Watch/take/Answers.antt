@@ -23,7 +23,6 @@ returns c passed rs kept =
       waits = c.in_ok-take-5.ensures.tasks c.if-not-branch-5.false;
       teams = c.in_ok-take-5.ensures.teams c.if-not-branch-5.false;
       covers = c.in_ok-take-5.ensures.complete c.if-not-branch-5.false;
-      begun = c.in_ok-take-5.ensures.begun c.if-not-branch-5.false;
       items = λ before may_be items. record {
         kept = c.in_ok-take-6.ensures.kept c.if-not-branch-6.false before may_be items;
         listed = c.in_ok-take-6.ensures.listed c.if-not-branch-6.false before may_be items;
