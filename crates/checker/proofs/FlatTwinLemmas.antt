@@ -8,21 +8,13 @@ use Rattle.std.specs.Prelude.{◌==◌, slice_get, filter, fold, take}
 use Rattle.std.specs.Option.{option_map_or}
 use Rattle.ompt_events.specs.declared.records.Record.{Record}
 use Rattle.ompt_events.specs.declared.cause.Cause.{Cause}
-use Rattle.ompt_events.specs.declared.cause.Cause.TheVariants.{NotCurrent, NestedParallel, RegionNesting}
-use Rattle.ompt_events.specs.declared.cause.Cause.TheVariants.{TargetTask}
-use Rattle.ompt_events.specs.Records.{made, forked, joined, begun_initial, flags}
 use Rattle.ompt_events.specs.Places.{nests_at}
 use Rattle.ompt_events.specs.Threads.{Walk, at_start, after_body, after_record}
-use Rattle.ompt_events.specs.Causes.{HasCause, IsNested, forked_inside, joined_inside, initial_inside}
-use Rattle.ompt_events.specs.Causes.{IsWalkAt, IsMisnested, other_region, other_league, nested_parallel}
-use Rattle.ompt_events.specs.Causes.{region_nesting, target_task}
-use Rattle.task_tree.proofs.BlindLemmas.{blind_begun_initial, blind_joined}
-use Rattle.task_tree.proofs.RenamedPlaceLemmas.{reordered}
-use Rattle.task_tree.proofs.RenamedTreeLemmas.{moved_initial, moved_member}
-use Rattle.checker.proofs.BlindBodyLemmas.{blind_made, blind_forked, blind_flags, blind_walk}
+use Rattle.ompt_events.specs.Causes.{HasCause, IsMisnested, other_region, other_league}
+use Rattle.checker.proofs.BlindBodyLemmas.{blind_walk}
 use Rattle.checker.proofs.TwinLemmas.{AreTwins, twins_back, twins_take, twins_filter, twin_fold}
-use Rattle.checker.proofs.TwinLemmas.{twin_of, twin_says, twin_renaming}
-use Rattle.checker.proofs.TwinCauseLemmas.{HaveSameWalks, walk_before, twin_not_current}
+use Rattle.checker.proofs.TwinCauseLemmas.{HaveSameWalks}
+use Rattle.checker.proofs.WalkTwinLemmas.{AreWalkTwins, IsWalkCause, walk_cause}
 
 -- no record lets regions lie inside others
 abbrev pub AreFlat : List Record → Type 0
@@ -97,28 +89,14 @@ flat_walks rs ss same thread n =
     ∙ twin_flat_walk (take n rs) (take n ss) thread (twins_take rs ss n same.twins)
     ∙ sym (flat_walk on at_start (take n ss) (flat_take n ss same.is_flat))
 
-twin_walk_at : (rs ss : List Record) (i : ℕ) (walk : Walk) → AreFlatTwins rs ss → IsWalkAt rs i walk
-    → IsWalkAt ss i walk
-twin_walk_at rs ss i walk same (r, stands, is) =
-    let other = twin_of rs ss i r same.twins stands in
-    (other.0, other.1, is ∙ walk_before rs ss i r other.0 (flat_walks rs ss same) other.2)
-
 -- ---- causes
 
-flat_nested : (rs ss : List Record) (i : ℕ) → AreFlatTwins rs ss → IsNested rs i → IsNested ss i
-flat_nested rs ss i same (forked_inside task parallel flat forks none) =
-    forked_inside task parallel (flat_at ss i same.is_flat)
-    (twin_says forked blind_forked (task, parallel) rs ss i same.twins forks)
-    (λ is. none (moved_initial (reordered (twin_renaming ss rs (twins_back rs ss same.twins))) task is))
-flat_nested rs ss i same (joined_inside m walk outer flat joins stands innermost member) =
-    joined_inside m walk outer (flat_at ss i same.is_flat)
-    (twin_says joined blind_joined m rs ss i same.twins joins)
-    (twin_walk_at rs ss i walk same stands) innermost
-    (moved_member (reordered (twin_renaming rs ss same.twins)) outer member)
-flat_nested rs ss i same (initial_inside task walk flat begins stands some) =
-    initial_inside task walk (flat_at ss i same.is_flat)
-    (twin_says begun_initial blind_begun_initial task rs ss i same.twins begins)
-    (twin_walk_at rs ss i walk same stands) some
+flat_walk_twins : (rs ss : List Record) → AreFlatTwins rs ss → AreWalkTwins rs ss
+flat_walk_twins rs ss same = record {
+  twins = same.twins;
+  walks = flat_walks rs ss same;
+  nests = λ i. flat_at rs i same.flat ∙ sym (flat_at ss i same.is_flat);
+}
 
 -- a flat list has no root that begins where it may not
 pub never_misnested : (rs : List Record) (i : ℕ) → AreFlat rs → IsMisnested rs i → ⊥
@@ -127,27 +105,7 @@ never_misnested rs i flat (other_region m walk nests joins stands inside none) =
 never_misnested rs i flat (other_league task walk nests begins stands inside none) =
     true≢false (sym nests ∙ flat_at rs i flat)
 
--- the cause is of the walks of threads, or of what a version admits
-abbrev pub IsFlatCause : Cause → Type 0
-IsFlatCause NotCurrent = Unit {0}
-IsFlatCause NestedParallel = Unit {0}
-IsFlatCause RegionNesting = Unit {0}
-IsFlatCause TargetTask = Unit {0}
-IsFlatCause _ = ⊥
-
-pub flat_cause : (rs ss : List Record) (i : ℕ) (cause : Cause) → IsFlatCause cause → AreFlatTwins rs ss
+pub flat_cause : (rs ss : List Record) (i : ℕ) (cause : Cause) → IsWalkCause cause → AreFlatTwins rs ss
     → HasCause rs i cause → HasCause ss i cause
-flat_cause rs ss i NotCurrent is_so same has = twin_not_current rs ss i same.twins (flat_walks rs ss same) has
-flat_cause rs ss i NestedParallel is_so same (nested_parallel is) =
-    nested_parallel (flat_nested rs ss i same is)
-flat_cause rs ss i RegionNesting is_so same (region_nesting is) =
-    absurd (never_misnested rs i same.flat is)
-flat_cause rs ss i TargetTask is_so same (target_task (task, bits, flat, makes, has, target)) = target_task (
-  task,
-  bits,
-  flat_at ss i same.is_flat,
-  twin_says made blind_made task rs ss i same.twins makes,
-  twin_says flags blind_flags bits rs ss i same.twins has,
-  target,
-)
-flat_cause rs ss i _ is_so same has = absurd is_so
+flat_cause rs ss i cause is_so same has =
+    walk_cause rs ss i cause is_so (flat_walk_twins rs ss same) has

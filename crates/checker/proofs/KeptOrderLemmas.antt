@@ -225,6 +225,38 @@ moved_between rs task a b tells one other apart =
         (apart
         (at_home (home_of rs task) (thread_at rs a) e ∙ sym (at_home (home_of rs task) (thread_at rs b) f)))
 
+-- a task that runs on two threads is no root: a root runs on one
+rootless_apart : (rs : List Record) (task i k : ℕ) → IsFreeOf rs CreatedTwice → IsFreeOf rs NotCurrent
+    → at running rs i ≡ Some task → at running rs k ≡ Some task → thread_at rs i ≢ thread_at rs k
+    → IsNoRoot rs task
+rootless_apart rs task i k once current one other apart (s, begins) =
+    apart
+    (sym (root_own rs i task s once current begins one) ∙ root_own rs k task s once current begins other)
+
+-- and moves
+moved_apart : (rs : List Record) (task i k : ℕ) → HasOrderlyTurns rs → at running rs i ≡ Some task
+    → at running rs k ≡ Some task → thread_at rs i ≢ thread_at rs k → HasMoved rs task
+moved_apart rs task i k facts one other apart =
+    let not_root = rootless_apart rs task i k facts.once facts.current one other apart in
+    let a = own_turn rs i task facts.current not_root one in
+    let b = own_turn rs k task facts.current not_root other in
+    record {
+      facts = facts;
+      not_root = not_root;
+      moves =
+          moved_between rs task a.known.place b.known.place facts.told
+          (begun_started rs a.known.place task (turn_at rs i) a.known.begins)
+          (begun_started rs b.known.place task (turn_at rs k) b.known.begins)
+          (λ same. apart (a.on ∙ sym a.known.on ∙ same ∙ b.known.on ∙ sym b.on));
+    }
+
+-- so a record of it happens before each one of a later turn on another thread
+pub turn_kept : (rs : List Record) (task i k : ℕ) → HasOrderlyTurns rs → at running rs i ≡ Some task
+    → at running rs k ≡ Some task → thread_at rs i ≢ thread_at rs k → turn_at rs i < turn_at rs k
+    → HappensBefore rs i k
+turn_kept rs task i k facts one other apart less =
+    earlier_turn_before rs task i k (moved_apart rs task i k facts one other apart) one other less
+
 -- ---- a task's own order
 
 -- no task moves in a trace of version 1
@@ -269,8 +301,12 @@ own_kept version rs task i k trace none is_one is_other less =
           on_one_thread rs i k
           (own_on_thread version rs task i k trace (λ n. none n TurnGap) one other same less) within same
       | inr apart ↦ elim (first_or_told version rs trace) [
-        | inl first ↦ absurd (apart (at_one_home first (rootless apart)))
-        | inr told ↦ elsewhere told (rootless apart) apart
+        | inl first ↦
+            absurd
+            (apart
+            (at_one_home first
+            (rootless_apart rs task i k (λ n. none n CreatedTwice) (λ n. none n NotCurrent) one other apart)))
+        | inr told ↦ elsewhere told apart
       ]
     ]
   where
@@ -283,13 +319,6 @@ own_kept version rs task i k trace none is_one is_other less =
     within : k < length rs
     within = at_within running rs k task other
 
-    -- a root runs on one thread
-    rootless : thread_at rs i ≢ thread_at rs k → IsRoot rs task → ⊥
-    rootless apart (s, begins) =
-        apart
-        (sym (root_own rs i task s (λ n. none n CreatedTwice) (λ n. none n NotCurrent) begins one)
-        ∙ root_own rs k task s (λ n. none n CreatedTwice) (λ n. none n NotCurrent) begins other)
-
     at_one_home : IsTraceOf 1 rs → (IsRoot rs task → ⊥) → thread_at rs i ≡ thread_at rs k
     at_one_home first not_root =
         let own = own_turn rs i task (λ n. none n NotCurrent) not_root one in
@@ -298,20 +327,11 @@ own_kept version rs task i k trace none is_one is_other less =
         runs_home rs task i own.known.place stays one starts
         ∙ sym (runs_home rs task k own.known.place stays other starts)
 
-    elsewhere : TellsStarts rs → (IsRoot rs task → ⊥) → thread_at rs i ≢ thread_at rs k
-        → HappensBefore rs i k
-    elsewhere told not_root apart =
-        let a = own_turn rs i task (λ n. none n NotCurrent) not_root one in
-        let b = own_turn rs k task (λ n. none n NotCurrent) not_root other in
-        let known : HasMoved rs task = record {
-          facts = orderly rs trace.is_trace told none;
-          not_root = not_root;
-          moves =
-              moved_between rs task a.known.place b.known.place told
-              (begun_started rs a.known.place task (turn_at rs i) a.known.begins)
-              (begun_started rs b.known.place task (turn_at rs k) b.known.begins)
-              (λ same. apart (a.on ∙ sym a.known.on ∙ same ∙ b.known.on ∙ sym b.on));
-        } in
+    elsewhere : TellsStarts rs → thread_at rs i ≢ thread_at rs k → HappensBefore rs i k
+    elsewhere told apart =
+        let known = moved_apart rs task i k (orderly rs trace.is_trace told none) one other apart in
+        let a = own_turn rs i task known.facts.current known.not_root one in
+        let b = own_turn rs k task known.facts.current known.not_root other in
         elim ((own_order rs i k (at_within running rs i task one) within).0 less) [
           | inl lower ↦ earlier_turn_before rs task i k known one other lower
           | inr (turn, before) ↦

@@ -25,9 +25,11 @@ mod FindingsLemmas
 mod PhaseLemmas
 mod VerdictLemmas
 mod BlindBodyLemmas
+mod TeamBlindLemmas
 mod MappedLemmas
 mod TwinLemmas
 mod TwinCauseLemmas
+mod WalkTwinLemmas
 mod FlatTwinLemmas
 mod TwinMoveLemmas
 mod TwinStepLemmas
@@ -38,7 +40,9 @@ pub mod ReadingLemmas
 mod UpgradeVerdictLemmas
 mod RelabelledLemmas
 mod RelabelledWalkLemmas
+mod RelabelledRunLemmas
 mod RelabelledVerdictLemmas
+mod EndVerdictLemmas
 mod BeforeLemmas
 mod DecidingLemmas
 mod ShareLemmas
@@ -47,4 +51,6 @@ mod OneVerdictLemmas
 mod TurnEndLemmas
 mod OwnTurnLemmas
 mod KeptOrderLemmas
+mod FileYesLemmas
+pub mod EndYesLemmas
 mod AllShownLemmas

@@ -1,12 +1,13 @@
 -- Two lists of records that are the same once each record is changed in a way: what does not depend on the
 -- change is the same in both.
 use Rattle.std.proofs.Common.{◌≡◌, ◌∙◌, ℕ, ◌+◌, List, [], ◌∷◌, length, Option, Some, None, Bool, true, false}
-use Rattle.std.proofs.Common.{refl, sym, ap, map, cond}
-use Rattle.std.specs.Prelude.{slice_get, option_map, take, filter, fold, count_by, is_some}
+use Rattle.std.proofs.Common.{refl, sym, ap, map, cond, subst, get_or}
+use Rattle.std.specs.Prelude.{slice_get, option_map, take, filter, fold, count_by, is_some, All, ◌↔◌}
 use Rattle.std.specs.List.{find}
 use Rattle.std.proofs.lemmas.Bool.{true≢false, false≢true}
 use Rattle.std.proofs.lemmas.Option.{slice_get-map}
 use Rattle.std.proofs.lemmas.List.{take-map, length-map}
+use Rattle.std.proofs.lemmas.List.Elements.{All-nil, All-cons, All-head, All-tail, All-map}
 use Rattle.ompt_events.specs.declared.records.Record.{Record}
 
 -- the lists are the same once each record is changed so
@@ -100,3 +101,18 @@ pub found_by : (change : Record → Record) (p : Record → Bool) → IsUnchange
     → (rs ss : List Record) → AreSameBy change rs ss → is_some (find p rs) ≡ is_some (find p ss)
 found_by change p blind rs ss same =
     sym (found_map_by change p blind rs) ∙ ap (λ l. is_some (find p l)) same ∙ found_map_by change p blind ss
+
+all_map_by : (change : Record → Record) (P : Record → Type 0) → ((r : Record) → P (change r) → P r)
+    → (rs : List Record) → All P (map change rs) → All P rs
+all_map_by change P back [] all = All-nil P
+all_map_by change P back (r ∷ rs) all =
+    All-cons P r rs (back r (All-head P (change r) (map change rs) all))
+    (all_map_by change P back rs (All-tail P (change r) (map change rs) all))
+
+-- what holds of each record of the one holds of each record of the other, if it does not depend on the change
+pub all_by : (change : Record → Record) (P : Record → Type 0) → ((r : Record) → P r ↔ P (change r))
+    → (rs ss : List Record) → AreSameBy change rs ss → All P rs → All P ss
+all_by change P blind rs ss same all =
+    all_map_by change P (λ r. (blind r).1) ss
+    (subst (All P) same
+    (All-map P change rs (λ i d below. (blind (get_or rs i d)).0 (all i d below))))

@@ -1,5 +1,6 @@
--- Two lists of records that are the same but for what their versions say of nesting: they have the same
--- turns, the same own order of each task, the same moves and the same steps.
+-- Two lists of records that are the same but for what their versions say of nesting, and for what the ends of
+-- initial and implicit tasks say of their teams: they have the same turns, the same own order of each task,
+-- the same moves and the same steps.
 use Rattle.std.proofs.Common.{◌≡◌, ◌∙◌, ℕ, suc, ◌+◌, List, [], ◌∷◌, ◌++◌, Option, Some}
 use Rattle.std.proofs.Common.{None, Bool, false, max, refl, sym, ap, map, cond}
 use Rattle.std.specs.Prelude.{◌==◌, ◌&&◌, not, is_some, slice_get, option_map, option_and_then, take, filter}
@@ -7,7 +8,8 @@ use Rattle.std.specs.List.{filter_map, cons_option, flat_map, range_with_len, po
 use Rattle.std.specs.Option.{option_map_or}
 use Rattle.ompt_events.specs.declared.records.Record.{Record}
 use Rattle.ompt_events.specs.declared.records.Body.{Body}
-use Rattle.ompt_events.specs.declared.records.Body.TheVariants.{TaskSchedule}
+use Rattle.ompt_events.specs.declared.records.Body.TheVariants.{TaskSchedule, ImplicitTask}
+use Rattle.ompt_events.specs.declared.names.Endpoint.TheVariants.{End}
 use Rattle.ompt_events.specs.Records.{running, started, told_turns, begun_turn, ended_turn, suspended_turn}
 use Rattle.ompt_events.specs.Places.{at, places}
 use Rattle.ompt_events.specs.Turns.{turn_after, turn_in, turn_of, turn_at, turns_in, own_places, in_own_order}
@@ -17,18 +19,21 @@ use Rattle.ompt_events.specs.States.{moves_by_file, turn_starts_at, turn_ends_at
 use Rattle.ompt_events.specs.States.{moves_of, all_moves_of, is_early_move, is_apart}
 use Rattle.ompt_events.specs.HappensBefore.{resumption}
 use Rattle.ompt_events.specs.Upgrades.{nesting}
+use Rattle.ompt_events.specs.Ends.{without_team}
 use Rattle.task_tree.proofs.BlindLemmas.{IsBlind}
 use Rattle.checker.proofs.MappedLemmas.{AreSameBy, get_by, take_by, filter_by, fold_by}
 use Rattle.checker.proofs.TwinLemmas.{AreTwins, blank}
 use Rattle.checker.proofs.TwinMoveLemmas.{twin_places, filter_same, find_same, flat_same, twin_on, read_same}
 use Rattle.checker.proofs.TwinMoveLemmas.{twin_moves_at, twin_moves_of}
 use Rattle.checker.proofs.TwinStepLemmas.{KeepsSteps, HaveSameSteps}
+use Rattle.checker.proofs.TeamBlindLemmas.{IsTeamBlind, team_untold, team_told, team_begun}
+use Rattle.checker.proofs.TeamBlindLemmas.{team_ended, team_suspended, team_started, team_running}
 
--- the record without what its version says of nesting
+-- the record without what its version says of nesting, and without what an end says of a team
 abbrev pub plain : Record → Record
-plain r = record { thread = r.thread; nests = false; seq = r.seq; seen = r.seen; body = r.body }
+plain r = record { thread = r.thread; nests = false; seq = r.seq; seen = r.seen; body = without_team r.body }
 
--- the lists are the same without that
+-- the lists are the same without these
 abbrev pub AreRelabelled : List Record → List Record → Type 0
 AreRelabelled rs ss = AreSameBy plain rs ss
 
@@ -45,13 +50,17 @@ relabelled_twins rs ss same = sym (through rs) ∙ ap (map blank) same ∙ throu
   where
     through : (l : List Record) → map blank (map plain l) ≡ map blank l
     through [] = refl
-    through (r ∷ l) = ap (λ m. blank r ∷ m) (through l)
+    through (r ∷ l) =
+        ap (λ m. blank (plain r) ∷ m) (through l) ∙ ap (λ b. saying r b ∷ map blank l) (team_untold r.body)
+      where
+        saying : Record → Body → Record
+        saying q b = record { thread = q.thread; nests = false; seq = q.seq; seen = q.seen; body = b }
 
 -- ---- at a place
 
-pub same_at : {X : Type 0} (f : Body → Option X) (rs ss : List Record) (i : ℕ) → AreRelabelled rs ss
-    → at f rs i ≡ at f ss i
-same_at {X} f rs ss i same =
+pub same_at : {X : Type 0} (f : Body → Option X) → IsTeamBlind f → (rs ss : List Record) (i : ℕ)
+    → AreRelabelled rs ss → at f rs i ≡ at f ss i
+same_at {X} f blind rs ss i same =
     sym (through (slice_get rs i))
     ∙ ap (option_and_then (λ (r : Record). f r.body)) (get_by plain rs ss i same)
     ∙ through (slice_get ss i)
@@ -60,11 +69,11 @@ same_at {X} f rs ss i same =
         → option_and_then (λ (r : Record). f r.body) (option_map plain o)
         ≡ option_and_then (λ (r : Record). f r.body) o
     through None = refl
-    through (Some r) = refl
+    through (Some r) = blind r.body
 
-pub says_same : {X : Type 0} (f : Body → Option X) (x : X) (rs ss : List Record) (i : ℕ)
+pub says_same : {X : Type 0} (f : Body → Option X) → IsTeamBlind f → (x : X) (rs ss : List Record) (i : ℕ)
     → AreRelabelled rs ss → at f rs i ≡ Some x → at f ss i ≡ Some x
-says_same f x rs ss i same is = sym (same_at f rs ss i same) ∙ is
+says_same f blind x rs ss i same is = sym (same_at f blind rs ss i same) ∙ is
 
 -- ---- turns
 
@@ -73,7 +82,10 @@ same_turn_in : (rs ss : List Record) (task thread n : ℕ) → AreRelabelled rs 
     ≡ turn_in task (filter (λ (q : Record). q.thread == thread) (take n ss))
 same_turn_in rs ss task thread n same =
     let on : Record → Bool = λ q. q.thread == thread in
-    fold_by plain (turn_after task) (λ turn r. refl) 0 (filter on (take n rs)) (filter on (take n ss))
+    fold_by plain (turn_after task)
+    (λ turn r.
+    ap (λ o. option_map_or (λ (b : ℕ × ℕ). cond (b.0 == task) b.1 turn) o turn) (team_begun r.body))
+    0 (filter on (take n rs)) (filter on (take n ss))
     (filter_by plain on (λ r. refl) (take n rs) (take n ss) (take_by plain rs ss n same))
 
 pub same_turn : (rs ss : List Record) (i : ℕ) → AreRelabelled rs ss → turn_at rs i ≡ turn_at ss i
@@ -87,7 +99,9 @@ same_turn rs ss i same =
         → option_map_or (λ (r : Record). turn_of l r i) (option_map plain o) 0
         ≡ option_map_or (λ (r : Record). turn_of l r i) o 0
     through l None = refl
-    through l (Some r) = refl
+    through l (Some r) =
+        let own : List Record = filter (λ (q : Record). q.thread == r.thread) (take i l) in
+        ap (λ o. option_map_or (λ task. turn_in task own) o 0) (team_running r.body)
 
     of_task : (r : Record) (o : Option ℕ)
         → option_map_or (λ task. turn_in task (filter (λ (q : Record). q.thread == r.thread) (take i rs))) o 0
@@ -106,9 +120,9 @@ same_turns rs ss same =
     ap suc
     (fold_by plain
     (λ (most : ℕ) (r : Record). max most (option_map_or (λ (b : ℕ × ℕ). b.1) (begun_turn r.body) 0))
-    (λ most r. refl) 0 rs ss same)
+    (λ most r. ap (λ o. max most (option_map_or (λ (b : ℕ × ℕ). b.1) o 0)) (team_begun r.body)) 0 rs ss same)
 
-same_places : (rs ss : List Record) → AreRelabelled rs ss → places rs ≡ places ss
+pub same_places : (rs ss : List Record) → AreRelabelled rs ss → places rs ≡ places ss
 same_places rs ss same = twin_places rs ss (relabelled_twins rs ss same)
 
 -- ---- the tasks' own order
@@ -154,6 +168,7 @@ same_own_order rs ss same =
 
 blind_stops : (task : ℕ) → IsBlind (stops task)
 blind_stops task (TaskSchedule status turns prior next claimed) = refl
+blind_stops task (ImplicitTask End actual index given parallel own) = refl
 blind_stops task _ = refl
 
 same_moved : (rs ss : List Record) (task : ℕ) → AreRelabelled rs ss → has_moved rs task ≡ has_moved ss task
@@ -168,9 +183,9 @@ same_moved rs ss task same =
     each : (i : ℕ) → away rs i ≡ away ss i
     each i =
         ap (λ o. (is_task task o && is_some (at told_turns rs i)) && not (is_on rs (home_of rs task) i))
-        (same_at started rs ss i same)
+        (same_at started team_started rs ss i same)
         ∙ ap (λ o. (is_task task (at started ss i) && is_some o) && not (is_on rs (home_of rs task) i))
-        (same_at told_turns rs ss i same)
+        (same_at told_turns team_told rs ss i same)
         ∙ ap (λ b. (is_task task (at started ss i) && is_some (at told_turns ss i)) && not b)
         (twin_on rs ss task i (relabelled_twins rs ss same))
 
@@ -197,7 +212,7 @@ same_turn_moves rs ss task turn same =
     starts : (i : ℕ) → turn_starts_at rs task turn i ≡ turn_starts_at ss task turn i
     starts i =
         ap (λ o. cond {A = List (ℕ × Move)} (is_turn task turn o) ((i, Started) ∷ []) [])
-        (same_at begun_turn rs ss i same)
+        (same_at begun_turn team_begun rs ss i same)
 
     ends : (i : ℕ) → turn_ends_at rs task turn i ≡ turn_ends_at ss task turn i
     ends i =
@@ -206,7 +221,7 @@ same_turn_moves rs ss task turn same =
         cond {A = List (ℕ × Move)} (is_turn task turn o)
         (map (λ move. (i, move)) (option_map_or (λ (r : Record). stops task r.body) (slice_get rs i) []))
         [])
-        (same_at ended_turn rs ss i same)
+        (same_at ended_turn team_ended rs ss i same)
         ∙ ap
         (λ (l : List Move).
         cond {A = List (ℕ × Move)} (is_turn task turn (at ended_turn ss i)) (map (λ move. (i, move)) l) [])
@@ -245,17 +260,18 @@ keeps rs ss same = record {
   twins = relabelled_twins rs ss same;
   starts =
       λ i task explicit is. record {
-        starts = says_same begun_turn (task, 0) rs ss i same is.starts;
+        starts = says_same begun_turn team_begun (task, 0) rs ss i same is.starts;
         first = λ k below there.
-            is.first k below (says_same begun_turn (task, 0) ss rs k (relabelled_back rs ss same) there);
+            is.first k below
+            (says_same begun_turn team_begun (task, 0) ss rs k (relabelled_back rs ss same) there);
       };
   resumes =
       λ a b is.
       resumption (record {
         task = is.task;
         turn = is.turn;
-        suspends = says_same suspended_turn (is.task, is.turn) rs ss a same is.suspends;
-        resumes = says_same begun_turn (is.task, is.turn + 1) rs ss b same is.resumes;
+        suspends = says_same suspended_turn team_suspended (is.task, is.turn) rs ss a same is.suspends;
+        resumes = says_same begun_turn team_begun (is.task, is.turn + 1) rs ss b same is.resumes;
         another = is.another;
       });
 }

@@ -32,6 +32,7 @@ use Rattle.checker.proofs.TurnWalkLemmas.{same_option, start_on}
 use Rattle.checker.proofs.TwinCauseLemmas.{HaveSameWalks}
 use Rattle.checker.proofs.FlatTwinLemmas.{AreFlat, flat_at}
 use Rattle.checker.proofs.RelabelledLemmas.{nesting_relabelled, relabelled_back, says_same}
+use Rattle.checker.proofs.TeamBlindLemmas.{team_forked}
 
 -- what is known of a trace of version 2 that may have version 3
 pub record MayNest (rs : List Record) : Type 0 where
@@ -148,7 +149,7 @@ begins_there rs m r walk task known stands here there is begins = by walk.roots 
         → HasBegun (map nesting rs) m walk parallel → ⊥
     begun parallel apart (k, forker, before, same, runs, forks) =
         let forks_too : at forked rs k ≡ Some (forker, parallel) =
-        says_same forked (forker, parallel) (map nesting rs) rs k
+        says_same forked team_forked (forker, parallel) (map nesting rs) rs k
         (relabelled_back rs (map nesting rs) (nesting_relabelled rs)) forks in
         known.outside k
         (nested_parallel

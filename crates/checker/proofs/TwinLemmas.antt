@@ -1,4 +1,5 @@
--- Two lists of records that say the same of all but turns. What their versions say of nesting may differ.
+-- Two lists of records that say the same of all but turns, and but for the team of a task that ends. What
+-- their versions say of nesting may differ.
 use Rattle.std.proofs.Common.{◌≡◌, ◌∙◌, ℕ, List, length, Option, Some, None, Bool, false}
 use Rattle.std.proofs.Common.{refl, sym, ap, arith}
 use Rattle.std.specs.Prelude.{slice_get, option_map, option_and_then, take, filter, fold, count_by, is_some}
@@ -7,14 +8,16 @@ use Rattle.std.specs.Option.{option_map_or}
 use Rattle.std.proofs.lemmas.Option.{none-some, same_Some}
 use Rattle.ompt_events.specs.declared.records.Record.{Record}
 use Rattle.ompt_events.specs.declared.records.Body.{Body}
-use Rattle.ompt_events.specs.declared.records.Body.TheVariants.{TaskSchedule}
+use Rattle.ompt_events.specs.declared.records.Body.TheVariants.{TaskSchedule, ImplicitTask}
+use Rattle.ompt_events.specs.declared.names.Endpoint.TheVariants.{End}
 use Rattle.ompt_events.specs.Places.{at, thread_at, seen_at}
 use Rattle.task_tree.specs.Renaming.{untold, SayAlike, IsRenaming}
 use Rattle.task_tree.proofs.BlindLemmas.{IsBlind, blind_at}
 use Rattle.checker.proofs.MappedLemmas.{AreSameBy, IsUnchanged, get_by, read_by, long_by, take_by, filter_by}
 use Rattle.checker.proofs.MappedLemmas.{fold_by, count_same, found_by}
 
--- the record without turns, and without what its version says of nesting
+-- the record without turns, without the team of a task that ends, and without what its version says of
+-- nesting
 abbrev pub blank : Record → Record
 blank r = record { thread = r.thread; nests = false; seq = r.seq; seen = r.seen; body = untold r.body }
 
@@ -60,6 +63,7 @@ twins_alike rs ss i twins =
   where
     untold_twice : (b : Body) → untold (untold b) ≡ untold b
     untold_twice (TaskSchedule status turns prior next claimed) = refl
+    untold_twice (ImplicitTask End actual index given parallel task) = refl
     untold_twice _ = refl
 
     through : (o : Option Record)

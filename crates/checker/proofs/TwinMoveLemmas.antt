@@ -7,7 +7,8 @@ use Rattle.std.specs.List.{find, flat_map, range_with_len}
 use Rattle.std.specs.Option.{option_map_or}
 use Rattle.ompt_events.specs.declared.records.Record.{Record}
 use Rattle.ompt_events.specs.declared.records.Body.{Body}
-use Rattle.ompt_events.specs.declared.records.Body.TheVariants.{TaskSchedule}
+use Rattle.ompt_events.specs.declared.records.Body.TheVariants.{TaskSchedule, ImplicitTask}
+use Rattle.ompt_events.specs.declared.names.Endpoint.TheVariants.{End}
 use Rattle.ompt_events.specs.declared.names.Status.TheVariants.{EarlyFulfill}
 use Rattle.ompt_events.specs.declared.cause.Cause.TheVariants.{StatusOrder}
 use Rattle.ompt_events.specs.Records.{begun_root, started}
@@ -47,6 +48,7 @@ twin_places rs ss twins = ap (range_with_len 0) (twins_long rs ss twins)
 
 blind_wait : (task : ℕ) → IsBlind (creates_wait task)
 blind_wait task (TaskSchedule status turns prior next claimed) = refl
+blind_wait task (ImplicitTask End actual index given parallel own) = refl
 blind_wait task _ = refl
 
 pub twin_made_so : (test : Body → Bool) → IsBlind test → (rs ss : List Record) → AreTwins rs ss
@@ -129,6 +131,7 @@ twin_early rs ss task i twins =
       where
         said : (b : Body) → early_body (untold b) ≡ early_body b
         said (TaskSchedule EarlyFulfill turns prior next claimed) = refl
+        said (ImplicitTask End actual index given parallel task) = refl
         said _ = refl
 
 pub twin_moves_at : (rs ss : List Record) (task i : ℕ) → AreTwins rs ss

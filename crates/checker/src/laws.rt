@@ -6,17 +6,20 @@ ghost use Rattle.ompt_events.specs.declared.records.Record.{Record};
 ghost use Rattle.ompt_events.specs.declared.cause.Cause.TheVariants.{CreatedTwice, NotCurrent, TurnGap, StatusOrder};
 ghost use Rattle.ompt_events.specs.declared.cause.Cause.TheVariants.{RegionNesting};
 ghost use Rattle.ompt_events.specs.Records.{begun_root, started, suspended_turn};
-ghost use Rattle.ompt_events.specs.Places.{at, is_own};
+ghost use Rattle.ompt_events.specs.Places.{at, is_own, places};
 ghost use Rattle.ompt_events.specs.Traces.{IsTraceOf};
 ghost use Rattle.ompt_events.specs.Turns.{own_place};
 ghost use Rattle.ompt_events.specs.Tree.{IsExplicit};
 ghost use Rattle.ompt_events.specs.Causes.{IsFreeOf};
 ghost use Rattle.ompt_events.specs.HappensBefore.{IsStart};
 ghost use Rattle.ompt_events.specs.Linearization.{IsEarlier, IsLinearization};
+ghost use Rattle.ompt_events.specs.Completion.{IsCompleteAt};
+ghost use Rattle.ompt_events.specs.Ends.{AreSameButForEnds};
 ghost use Rattle.ompt_events.specs.Upgrades.{IsUpgrade, IsRelabelled, MovesNowhere};
 ghost use Rattle.ompt_events.specs.Violations as violations;
 ghost use Rattle.task_tree.specs.Rising.{TurnsRise};
 ghost use Rattle.checker.specs.declared.verdict.Verdict.{Verdict};
+ghost use Rattle.checker.specs.declared.verdict.Verdict.TheVariants.{Yes};
 ghost use Rattle.checker.specs.Readings.{by_task, by_file, IsRequiredBy};
 ghost use Rattle.checker.specs.Verdicts.{ShowsNone, IsUnfinished, IsMissed, IsVerdict, IsVerdictBy};
 ghost use Rattle.checker.specs.Counter.{IsCounterBy};
@@ -118,4 +121,31 @@ pub fn version_3_keeps_the_verdict()
 /// A trace of version 1 that shows no cause can be upgraded: none of its tasks moves.
 pub fn a_well_formed_first_version_can_be_upgraded()
     ensures { (rs : List Record) → IsTraceOf 1 rs → ShowsNone (by_task rs) → MovesNowhere rs }
+{}
+
+/// What the end of an initial or implicit task says of its team tells nothing. Let two lists of records be the
+/// same but for the size of the team and the number there that such an end repeats. Then they have the same
+/// verdict, record for record and with the same order, and the same counter orders.
+pub fn the_end_of_a_root_tells_nothing_of_its_team()
+    ensures verdict { (rs ss : List Record) → AreSameButForEnds rs ss
+        → (verdict : Verdict) → IsVerdict rs verdict ↔ IsVerdict ss verdict }
+    ensures counter { (rs ss : List Record) → AreSameButForEnds rs ss
+        → (i task : ℕ) (found : Option (List ℕ))
+        → IsCounterBy (by_task rs) i task found ↔ IsCounterBy (by_task ss) i task found }
+{}
+
+/// A file in order has a yes, with its own order. By the order of the file alone let no record show a cause, and
+/// let each task that must be complete at a record be complete there by what the record has seen; and let that
+/// order be a linearization.
+///
+/// - `alike`: the trace has these records.
+/// - `but_for_ends`: the trace has these records, but for what ends of initial and implicit tasks say of teams.
+pub fn a_file_in_order_has_a_yes()
+    ensures alike { (version : ℕ) (rs : List Record) → IsTraceOf version rs → ShowsNone (by_file rs)
+        → ((i task : ℕ) → violations.IsRequired rs i task → IsCompleteAt rs task i)
+        → IsLinearization rs (places rs) → IsVerdict rs (Yes (places rs)) }
+    ensures but_for_ends { (version : ℕ) (records rs : List Record) → IsTraceOf version records
+        → AreSameButForEnds records rs → ShowsNone (by_file rs)
+        → ((i task : ℕ) → violations.IsRequired rs i task → IsCompleteAt rs task i)
+        → IsLinearization rs (places rs) → IsVerdict records (Yes (places records)) }
 {}

@@ -24,5 +24,6 @@ pub mod Violations
 pub mod CauseNames
 pub mod Causes
 pub mod Upgrades
+pub mod Ends
 pub mod Shown
 pub mod Faults

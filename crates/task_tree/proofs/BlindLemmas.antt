@@ -3,7 +3,8 @@ use Rattle.std.proofs.Common.{◌≡◌, ◌∙◌, ℕ, List, Option, Some, Non
 use Rattle.std.specs.Prelude.{slice_get, option_and_then}
 use Rattle.ompt_events.specs.declared.records.Record.{Record}
 use Rattle.ompt_events.specs.declared.records.Body.{Body}
-use Rattle.ompt_events.specs.declared.records.Body.TheVariants.{TaskSchedule}
+use Rattle.ompt_events.specs.declared.records.Body.TheVariants.{TaskSchedule, ImplicitTask}
+use Rattle.ompt_events.specs.declared.names.Endpoint.TheVariants.{End}
 use Rattle.ompt_events.specs.Records.{begun_root, begun_initial, joined, created, creation, dependences}
 use Rattle.ompt_events.specs.Records.{running, region, finish, claim}
 use Rattle.ompt_events.specs.Places.{at}
@@ -32,40 +33,50 @@ blind_at {X} f blind rs i ss j alike =
 
 pub blind_running : IsBlind running
 blind_running (TaskSchedule status turns prior next claimed) = refl
+blind_running (ImplicitTask End actual index given parallel task) = refl
 blind_running _ = refl
 
 pub blind_joined : IsBlind joined
 blind_joined (TaskSchedule status turns prior next claimed) = refl
+blind_joined (ImplicitTask End actual index given parallel task) = refl
 blind_joined _ = refl
 
 pub blind_creation : IsBlind creation
 blind_creation (TaskSchedule status turns prior next claimed) = refl
+blind_creation (ImplicitTask End actual index given parallel task) = refl
 blind_creation _ = refl
 
 pub blind_begun_root : IsBlind begun_root
 blind_begun_root (TaskSchedule status turns prior next claimed) = refl
+blind_begun_root (ImplicitTask End actual index given parallel task) = refl
 blind_begun_root _ = refl
 
 pub blind_created : IsBlind created
 blind_created (TaskSchedule status turns prior next claimed) = refl
+blind_created (ImplicitTask End actual index given parallel task) = refl
 blind_created _ = refl
 
 pub blind_begun_initial : IsBlind begun_initial
 blind_begun_initial (TaskSchedule status turns prior next claimed) = refl
+blind_begun_initial (ImplicitTask End actual index given parallel task) = refl
 blind_begun_initial _ = refl
 
 pub blind_dependences : IsBlind dependences
 blind_dependences (TaskSchedule status turns prior next claimed) = refl
+blind_dependences (ImplicitTask End actual index given parallel task) = refl
 blind_dependences _ = refl
 
 pub blind_region : IsBlind region
 blind_region (TaskSchedule status turns prior next claimed) = refl
+blind_region (ImplicitTask End actual index given parallel task) = refl
 blind_region _ = refl
 
 pub blind_finish : IsBlind finish
 blind_finish (TaskSchedule status turns prior next claimed) = refl
+blind_finish (ImplicitTask End actual index given parallel task) = refl
 blind_finish _ = refl
 
 pub blind_claim : IsBlind claim
 blind_claim (TaskSchedule status turns prior next claimed) = refl
+blind_claim (ImplicitTask End actual index given parallel task) = refl
 blind_claim _ = refl

@@ -3,16 +3,18 @@
 use Rattle.std.specs.Prelude.{ℕ, ◌≡◌, ◌<◌, ◌≤◌, true, List, length, Some, None, is_some}
 use Rattle.ompt_events.specs.declared.records.Record.{Record}
 use Rattle.ompt_events.specs.declared.records.Body.{Body}
-use Rattle.ompt_events.specs.declared.records.Body.TheVariants.{TaskSchedule}
+use Rattle.ompt_events.specs.declared.records.Body.TheVariants.{TaskSchedule, ImplicitTask}
+use Rattle.ompt_events.specs.declared.names.Endpoint.TheVariants.{End}
 use Rattle.ompt_events.specs.Records.{joined}
 use Rattle.ompt_events.specs.Places.{at, is_own}
 
--- what a record says, but for turns
+-- what a record says, but for turns, and for the place in a team where a task of a team ends
 abbrev pub untold : Body → Body
 untold (TaskSchedule status turns prior next claimed) = TaskSchedule status None prior next claimed
+untold (ImplicitTask End actual index flags parallel task) = ImplicitTask End 0 0 flags parallel task
 untold body = body
 
--- the records at the places say the same, but for turns
+-- the records at the places say the same, but for these
 abbrev pub SayAlike : List Record → ℕ → List Record → ℕ → Type 0
 SayAlike rs i ss j = at (λ body. Some (untold body)) rs i ≡ at (λ body. Some (untold body)) ss j
 
