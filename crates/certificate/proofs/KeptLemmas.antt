@@ -10,11 +10,7 @@ use Rattle.ompt_events.specs.declared.records.Record.{Record}
 use Rattle.ompt_events.specs.Records.{made}
 use Rattle.ompt_events.specs.Limits.{max_records, max_tasks}
 use Rattle.ompt_events.specs.Traces.{FitsIn, HasItsTurns, NestsIn, IsInRange, IsSound, TraceView, tasks_in}
-use Rattle.certificate.specs.Keeping.{IsTraceKept}
-
--- the trace and one record more
-abbrev pub and_record : TraceView → Record → TraceView
-and_record trace r = record { version = trace.version; records = trace.records ++ r ∷ [] }
+use Rattle.certificate.specs.Keeping.{IsTraceKept, and_record}
 
 pub IsTraceKept-more : (trace : TraceView) (r : Record) (count tasks more : ℕ)
     → IsTraceKept trace count tasks

@@ -13,6 +13,8 @@ mod TraceLemmas
 mod ScriptFileLemmas
 mod WritingLemmas
 mod KeptLemmas
+mod TallyLemmas
+mod TakingLemmas
 mod LawLemmas
 mod TaskTurnLemmas
 mod UpgradeLemmas

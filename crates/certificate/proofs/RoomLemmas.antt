@@ -15,8 +15,7 @@ use Rattle.lines.specs.declared.cause.ReadCause.TheVariants.{Field, Limit, Unend
 use Rattle.lines.proofs.RecordLemmas.{both-first, ok_not_err}
 use Rattle.lines.specs.RecordLines.{IsSaid}
 use Rattle.certificate.specs.Files.{has_room, with_record}
-use Rattle.certificate.specs.Keeping.{HaveRoom, IsWhyNot, KeepsFirst}
-use Rattle.certificate.proofs.KeptLemmas.{and_record}
+use Rattle.certificate.specs.Keeping.{HaveRoom, IsWhyNot, KeepsFirst, and_record}
 
 -- one record more after those that have room
 HaveRoom-push : (before rs : List Record) (r : Record) → HaveRoom before rs

@@ -1,7 +1,6 @@
 -- What holds of a block of bytes, and of the bytes of its whole lines.
-use Rattle.std.specs.Prelude.{◌≡◌, ℕ, ◌≤◌, Bool, true, false, List, [], ◌∷◌, length, take, drop, slice_range}
-use Rattle.std.specs.Prelude.{Option, None, Result, Ok, IfErr}
-use Rattle.std.specs.Io.KnownBytes.{Keeps, IsAtEnd, prepend_known}
+use Rattle.std.specs.Prelude.{◌≡◌, ℕ, ◌≤◌, List, [], ◌∷◌, length, take, drop, slice_range}
+use Rattle.std.specs.Prelude.{None}
 use Rattle.lines.specs.declared.cause.ReadCause.{ReadCause}
 use Rattle.lines.specs.declared.cause.ReadCause.TheVariants.{Device, Memory, TurnsSpent}
 use Rattle.certificate.specs.Windows.{LineFeedAt}

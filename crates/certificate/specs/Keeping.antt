@@ -12,6 +12,10 @@ pub record IsTraceKept (trace : TraceView) (count tasks : ℕ) : Type 0 where
   pub all : count ≡ length trace.records
   pub counted : tasks ≡ tasks_in trace.records
 
+-- the trace and one record more
+abbrev pub and_record : TraceView → Record → TraceView
+and_record trace r = record { version = trace.version; records = trace.records ++ r ∷ [] }
+
 -- there is room for each of these records, after those before it
 abbrev pub HaveRoom : List Record → List Record → Type 0
 HaveRoom before [] = Unit {0}

@@ -3,8 +3,8 @@ use Rattle.std.specs.Prelude.{is_some}
 use Rattle.std.specs.Result.{is_ok}
 use Rattle.ompt_events.specs.Traces.{TraceView, FitsIn}
 use Rattle.ompt_events.specs.Limits.{max_tasks}
-use Rattle.certificate.specs.Keeping.{IsTraceKept}
-use Rattle.certificate.proofs.KeptLemmas.{and_record, kept_next, room_asked, pushed}
+use Rattle.certificate.specs.Keeping.{IsTraceKept, and_record}
+use Rattle.certificate.proofs.KeptLemmas.{kept_next, room_asked, pushed}
 use Rattle.certificate.proofs.kept.Kept.keep.Goals as goal
 use Rattle.certificate.proofs.kept.Kept.keep.Goals.{else-makes-via-then-makes+else-self-ge-MAX_TASKS}
 use Rattle.certificate.proofs.kept.Kept.keep.Goals.{else-makes-via-else-makes}

@@ -1,0 +1,179 @@
+//! A trace file whose records are handed on one after another, and not kept.
+ghost use Rattle.std.specs.Prelude.{◌≡◌, ◌≢◌, ◌≤◌, ◌+◌, ℕ, List, Option, Ok, true, IfOk, IfErr};
+ghost use Rattle.std.specs.Result.{result_err};
+ghost use Rattle.ompt_events.specs.Traces.{FitsIn, TraceView};
+ghost use Rattle.certificate.specs.Counts.{TakesTurns, breaks_told, cause_told};
+ghost use Rattle.certificate.specs.Files.{no_trace, traces};
+ghost use Rattle.certificate.specs.Limits.{newest_version};
+ghost use Rattle.certificate.specs.Reading.{IsBetween, IsOfText};
+ghost use Rattle.certificate.specs.Taking.{CountsOne, HasTakenAll, IsBegun, IsFaultlessUpTo, IsPassed, IsTakenOn};
+ghost use Rattle.certificate.specs.Taking.{IsTaking, IsTallyOf, IsToldOf};
+
+use crate::device::{MAX_TURNS, Source};
+use crate::faults::ReadFault;
+use crate::line_reader::LineReader;
+use crate::reading::LAST_LINE;
+use crate::tally::Tally;
+use lines::ReadCause;
+use ompt_events::Record;
+use std::alloc::{AllocError, Global};
+
+/// What takes the records of a file one after another.
+pub trait Taker {
+    ghost use Rattle.std.specs.Prelude.{◌≡◌, ◌≤◌, ◌++◌, ◌∷◌, [], ℕ, List, true, IfOk};
+    ghost use Rattle.ompt_events.specs.declared.records.Record.{Record};
+
+    /// That these records were taken, of a file of this version.
+    ghost has_taken: { ℕ → List Record → Self → Type 0 };
+
+    /// Begins a file of this version. Fails only when out of memory.
+    fn begin(&mut self, version: u32) -> Result<(), AllocError>
+        requires { (1 ≤ version) × (version ≤ 3) }
+        ensures { IfOk result (λ _. has_taken version [] self.new) };
+
+    /// Takes one more record. Returns false where it takes no more: then it need not have taken this one. Fails
+    /// only when out of memory.
+    fn take(&mut self, event: &Record) -> Result<bool, AllocError>
+        ensures { IfOk result (λ taken. taken ≡ true → (version : ℕ) (rs : List Record)
+            → has_taken version rs self.old → has_taken version (rs ++ event.now ∷ []) self.new) };
+}
+
+/// How far a file was taken.
+#[derive(Clone, Copy, Debug, PartialEq, Eq)]
+pub enum Taken {
+    /// To its end.
+    All,
+    /// Up to the line of this number, whose record was not taken.
+    Until(u32),
+}
+
+/// What became of a line.
+pub(crate) enum Line {
+    /// Its record was taken.
+    Taken,
+    /// Its record was not taken.
+    Refused,
+    /// There was none.
+    End,
+}
+
+/// Reads a trace file of a version up to [`NEWEST_VERSION`](crate::NEWEST_VERSION), and hands its records to
+/// the taker one after another, without keeping any, to the end of the file or the first record that is not
+/// taken. Fails as [`read`](crate::read) does. Has a buffer of 131,074 bytes, two of the longest lines with
+/// their line feeds.
+pub fn read_each<S: Source, T: Taker>(
+    alloc: Global,
+    source: &mut S,
+    taker: &mut T,
+) -> Result<Taken, ReadFault>
+    // The file was taken to its end: the taker has the records of the trace that the bytes stand for.
+    ensures all { result ≡ Ok Taken.All → HasTakenAll (S.remaining source.old)
+        (λ version rs. T.has_taken version rs taker.new) }
+
+    // Else no line has a fault up to the one whose record was not taken.
+    ensures until { (line : ℕ) → result ≡ Ok (Taken.Until line) → (2 ≤ line) × (line ≤ LAST_LINE)
+        × IsFaultlessUpTo line (S.remaining source.old) }
+
+    // The first fault of the bytes, or a failure of the device or of memory.
+    ensures fault { IfErr result
+        (λ fault. IsToldOf (S.remaining source.old) fault.cause fault.line (S.remaining source.new)) }
+
+    // The call ends with the 10,001st answer `Again`.
+    ensures turns { (turns : ℕ) × TakesTurns (cause_told result) 0 turns (S.agains source.old)
+        (S.agains source.new) }
+
+    // `Device` is reported if and only if the source has failed.
+    ensures breaks { S.breaks source.new ≡ breaks_told (cause_told result) (S.breaks source.old) }
+    ensures line { IfErr result (λ fault. (1 ≤ fault.line) × (fault.line ≤ LAST_LINE)) }
+{
+    let Ok(mut reader) = LineReader::new(alloc) else {
+        return Err(ReadFault {
+            line: 1,
+            cause: ReadCause::Memory,
+        });
+    };
+    let mut tally = match begin(&mut reader, source, taker) {
+        Ok(tally) => tally,
+        Err(cause) => return Err(ReadFault { line: 1, cause }),
+    };
+    'lines: for line in 2..=LAST_LINE {
+        match take_line(&mut reader, source, &mut tally, taker) {
+            Ok(Line::Taken) => {}
+            Ok(Line::Refused) => return Ok(Taken::Until(line)),
+            Ok(Line::End) => return Ok(Taken::All),
+            Err(cause) => return Err(ReadFault { line, cause }),
+        }
+    }
+    unreachable!()
+}
+
+/// Reads the header, and begins to take the file's records. Returns the tally of none.
+fn begin<S: Source, T: Taker>(
+    reader: &mut LineReader,
+    source: &mut S,
+    taker: &mut T,
+) -> Result<Tally, ReadCause>
+    requires { reader.old.turns ≤ MAX_TURNS }
+    ensures after { (known : Option (List ℕ)) → IsBetween (traces newest_version) known 1 no_trace
+        reader.old.window (S.remaining source.old)
+        → IsBegun result known reader.new.window (S.remaining source.new)
+        (λ version rs. T.has_taken version rs taker.new) }
+    ensures none { IfOk result (λ tally. tally.records ≡ 0) }
+    ensures turns { TakesTurns (result_err result) reader.old.turns reader.new.turns (S.agains source.old)
+        (S.agains source.new) }
+    ensures breaks { S.breaks source.new ≡ breaks_told (result_err result) (S.breaks source.old) }
+{
+    let (version, len) = reader.header(source)?;
+    match taker.begin(version) {
+        Ok(()) => {
+            reader.skip(len + 1);
+            Ok(Tally::new(version))
+        }
+        Err(_) => Err(ReadCause::Memory),
+    }
+}
+
+/// Reads the next line, and hands on its record.
+fn take_line<S: Source, T: Taker>(
+    reader: &mut LineReader,
+    source: &mut S,
+    tally: &mut Tally,
+    taker: &mut T,
+) -> Result<Line, ReadCause>
+    requires { reader.old.turns ≤ MAX_TURNS }
+    ensures after { (known : Option (List ℕ)) (n : ℕ) → n ≢ 1 → IsTaking known n tally.old
+        reader.old.window (S.remaining source.old) (λ version rs. T.has_taken version rs taker.old)
+        → IsTakenOn result known n tally.new reader.new.window (S.remaining source.new)
+        (λ version rs. T.has_taken version rs taker.new) }
+    ensures one { result ≡ Ok Line.Taken → CountsOne tally.old tally.new }
+    ensures turns { TakesTurns (result_err result) reader.old.turns reader.new.turns (S.agains source.old)
+        (S.agains source.new) }
+    ensures breaks { S.breaks source.new ≡ breaks_told (result_err result) (S.breaks source.old) }
+{
+    match reader.record(source, tally.version)? {
+        Some((event, len)) => match pass(&event, tally, taker) {
+            Ok(true) => {
+                reader.skip(len + 1);
+                Ok(Line::Taken)
+            }
+            Ok(false) => Ok(Line::Refused),
+            Err(cause) => Err(cause),
+        },
+        None => Ok(Line::End),
+    }
+}
+
+/// Counts the record and hands it on. Returns whether it was taken.
+fn pass<T: Taker>(event: &Record, tally: &mut Tally, taker: &mut T) -> Result<bool, ReadCause>
+    ensures passed { (trace : TraceView) → IsTallyOf trace tally.old → FitsIn trace.version event.now
+        → T.has_taken trace.version trace.records taker.old
+        → IsPassed result trace event.now tally.new (λ version rs. T.has_taken version rs taker.new) }
+    ensures one { result ≡ Ok true → CountsOne tally.old tally.new }
+    ensures fault { IfErr result IsOfText }
+{
+    tally.count(event)?;
+    match taker.take(event) {
+        Ok(taken) => Ok(taken),
+        Err(_) => Err(ReadCause::Memory),
+    }
+}
