@@ -23,7 +23,7 @@ DESCRIPTION = """Auditor of recorded OpenMP tasks
  its tasks, and audits what was recorded. taskaudit-explain explains an answer,
  and taskaudit-audit audits many files."""
 # The documents named in the help, the errors and the scripts.
-DOCUMENTS = ('CAUSES.md', 'FORMAT.md', 'MODEL.md', 'RECORDING.md', 'SUITES.md', 'SUMMARY.md',
+DOCUMENTS = ('CAUSES.md', 'FORMAT.md', 'LONG_RUNS.md', 'MODEL.md', 'RECORDING.md', 'SUITES.md', 'SUMMARY.md',
              'TIMELINE.md', 'trace.schema.json')
 COMPLETIONS = {'bash': 'usr/share/bash-completion/completions/{}', 'zsh': 'usr/share/zsh/vendor-completions/_{}',
                'fish': 'usr/share/fish/vendor_completions.d/{}.fish'}

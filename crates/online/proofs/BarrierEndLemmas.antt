@@ -32,7 +32,7 @@ use Rattle.online.specs.declared.kin.Kin.{Kin}
 use Rattle.online.specs.declared.team.Team.{Team}
 use Rattle.online.specs.Waits.{is_kept, IsSettled, IsWaitsOf, MayFollow}
 use Rattle.online.specs.Teams.{phase_at, IsMemberOf, IsInTeams, IsInPhase, EndsBarrierAt, AreSettledUpTo}
-use Rattle.online.specs.Teams.{IsTeamOf, AreEndsOver, AreTeamsBefore, AreTeamsOf, HasEnded}
+use Rattle.online.specs.Teams.{IsTeamOf, IsTeamOver, AreEndsOver, AreTeamsBefore, AreTeamsOf, HasEnded}
 use Rattle.online.specs.Teams.{HasBegunAll, AreBarriersBegun, EndsIn, EndsBarrier, HasBarrierEnded}
 use Rattle.online.proofs.BarrierLemmas.{barrier_runs}
 use Rattle.online.proofs.ScopeLemmas.{scope_empty}
@@ -232,10 +232,27 @@ ends_here rs r own seen parallel number table teams after is = record {
         let P : ℕ → Type 0 = λ k. EndsBarrierAt (rs ++ r ∷ []) region' number' k in
         now region' number' team (subst P here there) kept
   ];
+  gone = λ i region' number' m less there none has. elim (cases_lt i (length rs)) [
+    | inl before ↦
+        is.were.ends.gone i region' number' m before there (absent region' none (cases_eq region' parallel))
+        has
+    | inr least ↦
+        let e = length_push rs r in
+        let here : i ≡ length rs = omega (arith, e, less, least) in
+        let P : ℕ → Type 0 = λ k. EndsBarrierAt (rs ++ r ∷ []) region' number' k in
+        let that = that_end rs r own seen parallel number table teams after is region' number'
+        (subst P here there) in
+        absurd (none-some a.team (sym none ∙ ap after (sym that.team_is) ∙ a.here))
+  ];
 }
   where
     a : HasAfter number seen parallel teams after
     a = has_after number seen parallel teams after is.changes
+
+    absent : (region' : ℕ) → after region' ≡ None → (region' ≡ parallel) ⊎ (region' ≢ parallel)
+        → teams region' ≡ None
+    absent region' none (inl e) = absurd (none-some a.team (sym none ∙ ap after e ∙ a.here))
+    absent region' none (inr apart) = sym (is.changes.changes.others region' apart) ∙ none
 
     settled : (region' number' i : ℕ) → i ≡ length rs
         → EndsBarrierAt (rs ++ r ∷ []) region' number' (length rs)
@@ -300,7 +317,7 @@ teams_here rs r own seen parallel number table teams after is = record {
         is.were.each region' team (sym (is.changes.changes.others region' apart) ∙ there)
 
     absent : (region' : ℕ) → after region' ≡ None → (region' ≡ parallel) ⊎ (region' ≢ parallel)
-        → members (rs ++ r ∷ []) region' ≡ []
+        → IsTeamOver (rs ++ r ∷ []) region'
     absent region' none (inl e) = absurd (none-some a.team (sym none ∙ ap after e ∙ a.here))
     absent region' none (inr apart) =
         is.were.absent region' (sym (is.changes.changes.others region' apart) ∙ none)
@@ -376,6 +393,10 @@ initial_barrier rs r own seen table teams kin ends waits is kept free none most 
         | inl before ↦ is.ends.over i region' number team before there found
         | inr least ↦ absurd (outside i region' number less least there)
       ];
+      gone = λ i region' number m less there absent has. elim (cases_lt i (length rs)) [
+        | inl before ↦ is.ends.gone i region' number m before there absent has
+        | inr least ↦ absurd (outside i region' number less least there)
+      ];
     };
   };
   complete = λ task covers. complete task (barrier_covers rs r own seen task ends covers);
@@ -425,23 +446,28 @@ barriers_begun rs table teams is all i own begin member number kind ends barrier
 barriers_begun rs table teams is all i own begin member number kind ends barrier begins
     (together parallel first other has same has_other) = of (teams parallel) refl
   where
+    inside : i < length rs
+    inside =
+        let (endpoint, says) = region_says rs i own kind begin ends in
+        at_within region rs i (own, kind, endpoint) says
+
+    there : EndsBarrierAt rs parallel number i
+    there = record {
+      own = own;
+      begin = begin;
+      kind = kind;
+      ends = ends;
+      barrier = barrier;
+      begins = begins;
+      member = (first, has, same);
+    }
+
     of : (o : Option Team) → teams parallel ≡ o
         → (start : ℕ) × IsBarrierBegin rs other.member number start
     of None none =
-        let (k, low, there) = subst (λ ms. Contains ms first) (is.absent parallel none) has in
-        absurd (omega (arith, low))
+        start_there rs other.member number (is.ends.gone i parallel number other inside there none has_other)
     of (Some team) found =
-        let (endpoint, says) = region_says rs i own kind begin ends in
-        let inside = at_within region rs i (own, kind, endpoint) says in
-        let over = is.ends.over i parallel number team inside (record {
-          own = own;
-          begin = begin;
-          kind = kind;
-          ends = ends;
-          barrier = barrier;
-          begins = begins;
-          member = (first, has, same);
-        }) found in
+        let over = is.ends.over i parallel number team inside there found in
         let reached =
         all parallel team found rs (is_kept table) parallel (is.each parallel team found) other has_other in
         start_there rs other.member number (omega (arith, over, reached))

@@ -1,6 +1,6 @@
 -- What is kept of the ends of barriers where one more record follows.
 use Rattle.std.proofs.Common.{◌≡◌, ◌∙◌, ℕ, zero, suc, ◌<◌, ◌≤◌, true, List, [], ◌∷◌, ◌++◌, length, Option}
-use Rattle.std.proofs.Common.{Some, None, refl, sym, ap, subst, arith, inl, inr}
+use Rattle.std.proofs.Common.{Some, None, refl, sym, ap, subst, arith, inl, inr, ◌⊎◌}
 use Rattle.std.specs.Prelude.{Contains}
 use Rattle.std.proofs.lemmas.Bool.{cases_eq, cases_lt}
 use Rattle.std.proofs.lemmas.Option.{none-some, same_Some}
@@ -20,7 +20,7 @@ use Rattle.ompt_events.proofs.PlaceLemmas.{at_within}
 use Rattle.ompt_events.proofs.RecordLemmas.{member_made}
 use Rattle.online.specs.declared.kin.Kin.{Kin}
 use Rattle.online.specs.declared.team.Team.{Team}
-use Rattle.online.specs.Waits.{IsSettled, MayFollow}
+use Rattle.online.specs.Waits.{IsSettled, IsLive, IsOver, MayFollow}
 use Rattle.online.specs.Teams.{phase_at, IsMemberOf, EndsBarrierAt, AreSettledUpTo, AreEndsOver}
 use Rattle.online.specs.Teams.{AreTeamsBefore, AreTeamsOf}
 use Rattle.online.proofs.ReadLemmas.{IsSameTo, same_append, at_same, seen_same}
@@ -28,7 +28,8 @@ use Rattle.online.proofs.OpenGroupLemmas.{at_last}
 use Rattle.online.proofs.BarrierLemmas.{region_same, region_begin, barrier_begin_back, barrier_runs}
 use Rattle.online.proofs.GrowLemmas.{IsByLive, said_cases, said_grows, settled_grows, created_fresh}
 use Rattle.online.proofs.StayLemmas.{creator_made, runner_made}
-use Rattle.online.proofs.PhaseLemmas.{phase_same, members_stay, members_join}
+use Rattle.online.proofs.PhaseLemmas.{phase_same, phase_rises, members_stay, members_join}
+use Rattle.online.proofs.GoneLemmas.{gone_over}
 
 -- ---- members that were made before
 
@@ -103,36 +104,64 @@ end_before rs r follows i parallel number below is = record {
 
 -- ---- one more record
 
+-- of a team something was kept before, where no more phases were over, or it had no member; where nothing is
+-- kept of it, nothing was, and its members are the same
+pub record TeamsRise (rs : List Record) (r : Record) (teams after : ℕ → Option Team) : Type 0 where
+  pub kept : (parallel : ℕ) (team : Team) → after parallel ≡ Some team
+      → ((was : Team) × (teams parallel ≡ Some was) × (was.over ≤ team.over)) ⊎ (members rs parallel ≡ [])
+  pub none : (parallel : ℕ) → after parallel ≡ None
+      → (teams parallel ≡ None) × (members (rs ++ r ∷ []) parallel ≡ members rs parallel)
+
+-- so where the teams stay
+pub teams_stay : (rs : List Record) (r : Record) (teams : ℕ → Option Team)
+    → ((parallel : ℕ) → members (rs ++ r ∷ []) parallel ≡ members rs parallel) → TeamsRise rs r teams teams
+teams_stay rs r teams same = record {
+  kept = λ parallel team found. inl (team, found, omega arith);
+  none = λ parallel none. (none, same parallel);
+}
+
 pub ends_grow : (rs : List Record) (r : Record) (old : ℕ → Option Kin) (teams after : ℕ → Option Team)
     → MayFollow rs r
     → ((parent child parallel : ℕ) (team : Team) → creation r.body ≡ Some (parent, child)
     → IsMemberOf rs parallel parent → teams parallel ≡ Some team
     → team.over ≤ phase_at rs parent (length rs))
-    → ((parallel : ℕ) (team was : Team) → after parallel ≡ Some team → teams parallel ≡ Some was
-    → was.over ≤ team.over)
-    → AreTeamsOf rs old teams → AreEndsOver (rs ++ r ∷ []) (length rs) after
+    → TeamsRise rs r teams after → AreTeamsOf rs old teams → AreEndsOver (rs ++ r ∷ []) (length rs) after
 ends_grow rs r old teams after follows going rises is = record {
   settled = λ i parallel number below ends child has.
       settled i parallel number below (end_before rs r follows i parallel number below ends) child has;
   over = λ i parallel number team below ends kept.
       let there = end_before rs r follows i parallel number below ends in
-      let (was, found) = team_of parallel there.own there.member in
-      let less = is.ends.over i parallel number was below there found in
-      let more = rises parallel team was kept found in
-      omega (arith, less, more);
+      elim (rises.kept parallel team kept) [
+        | inl (was, found, more) ↦
+            let less = is.ends.over i parallel number was below there found in omega (arith, less, more)
+        | inr empty ↦
+            let (m, (k, low, at_k), e) = there.member in
+            let none = ap length empty in
+            absurd (omega (arith, none, low))
+      ];
+  gone = λ i parallel number m below ends none has.
+      let (absent, same) = rises.none parallel none in
+      let there = end_before rs r follows i parallel number below ends in
+      let h =
+      is.ends.gone i parallel number m below there absent (subst (λ ms. Contains ms m) same has) in
+      let e = ap (phase_at (rs ++ r ∷ []) m.member) (length_push rs r) in
+      let f = phase_rises (rs ++ r ∷ []) m.member (length rs) 1 in
+      let g = phase_same rs r m.member (length rs) (omega arith) in
+      omega (arith, e, f, g, h);
 }
   where
     live : IsByLive rs r
     live parent task creates over = (follows.creates parent task creates).1 over
 
-    -- something is kept of a team that has a member
-    team_of : (parallel task : ℕ) → IsMemberOf rs parallel task
+    -- something is kept of the team of a member that is live
+    team_of : (parallel task : ℕ) → IsMemberOf rs parallel task → IsLive rs task
         → (team : Team) × (teams parallel ≡ Some team)
-    team_of parallel task (m, (k, low, at_k), e) = of (teams parallel) refl
+    team_of parallel task (m, has, e) lives = of (teams parallel) refl
       where
         of : (o : Option Team) → teams parallel ≡ o → (team : Team) × (teams parallel ≡ Some team)
         of None none =
-            let empty = ap length (is.absent parallel none) in absurd (omega (arith, empty, low))
+            let P : ℕ → Type 0 = λ t. IsOver rs t in
+            absurd (lives.1 (subst P e (gone_over rs m.member ((is.absent parallel none).ended m has))))
         of (Some team) found = (team, found)
 
     settled : (i parallel number : ℕ) → i < length rs → EndsBarrierAt rs parallel number i
@@ -154,19 +183,13 @@ ends_grow rs r old teams after follows going rises is = record {
           | inr (last, new) ↦
               let mate =
               member_made_before rs r follows parallel parent (follows.creates parent child new).0 member in
-              let (team, found) = team_of parallel parent mate in
+              let (team, found) = team_of parallel parent mate (follows.creates parent child new) in
               let over = is.ends.over i parallel number team below ends found in
               let late = going parent child parallel team new mate found in
               let here = ap (phase_at (rs ++ r ∷ []) parent) last in
               let same = phase_same rs r parent (length rs) (omega arith) in
               absurd (omega (arith, over, late, here, same, phase))
         ]
-
--- the teams stay
-pub over_same : (teams : ℕ → Option Team) (parallel : ℕ) (team was : Team) → teams parallel ≡ Some team
-    → teams parallel ≡ Some was → was.over ≤ team.over
-over_same teams parallel team was kept found =
-    let same = ap (λ (t : Team). t.over) (same_Some team was (sym kept ∙ found)) in omega (arith, same)
 
 pub ends_last : (rs : List Record) (r : Record) (table : ℕ → Option Kin) (teams : ℕ → Option Team)
     → ((own : ℕ) (kind : SyncKind) (endpoint : Endpoint) → region r.body ≡ Some (own, kind, endpoint)
@@ -181,6 +204,8 @@ ends_last rs r table teams begins is = record {
         is.ends.settled i parallel number (before i parallel number inside ends) ends;
     over = λ i parallel number team inside ends kept.
         is.ends.over i parallel number team (before i parallel number inside ends) ends kept;
+    gone = λ i parallel number m inside ends none has.
+        is.ends.gone i parallel number m (before i parallel number inside ends) ends none has;
   };
 }
   where

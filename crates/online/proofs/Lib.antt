@@ -31,6 +31,8 @@ pub mod ReplayOrder
 pub mod ReplayEnds
 pub mod ReplayFollows
 pub mod ReplayTasks
+mod GoneLemmas
+mod LeaveLemmas
 mod GroupLemmas
 mod GroupSteps
 mod GroupEnds
@@ -74,6 +76,7 @@ mod LengthLemmas
 mod RegionLemmas
 pub mod WatchSteps
 pub mod WatchEnd
+pub mod WatchedLemmas
 mod SpanLemmas
 mod EnrollLemmas
 mod RosterLaw

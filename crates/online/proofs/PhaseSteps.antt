@@ -48,6 +48,14 @@ same_in old new number same = ap (λ o. option_map_or (λ (p : Phase). p) o no_p
 pub ends_phase : (rs : List Record) (is_kept : ℕ → Bool) (parallel : ℕ) (old new : Team)
     → EndsPhase old new → IsTeamOf rs is_kept parallel old → IsTeamOf rs is_kept parallel new
 ends_phase rs is_kept parallel old new ends is = record {
+  actual = λ m has.
+      let e = ends.actual in
+      let h = is.actual m has in
+      omega (arith, e, h);
+  ended =
+      let e = ends.ended in
+      let h = is.ended in
+      omega (arith, e, h);
   joined = ends.joined ∙ is.joined;
   begun = begun;
   going = λ number least.
@@ -126,6 +134,14 @@ ends_phase rs is_kept parallel old new ends is = record {
 pub keeps_phases : (rs : List Record) (is_kept : ℕ → Bool) (parallel : ℕ) (old new : Team)
     → KeepsPhases old new → IsTeamOf rs is_kept parallel old → IsTeamOf rs is_kept parallel new
 keeps_phases rs is_kept parallel old new keeps is = record {
+  actual = λ m has.
+      let e = keeps.keeps.actual in
+      let h = is.actual m has in
+      omega (arith, e, h);
+  ended =
+      let e = keeps.keeps.ended in
+      let h = is.ended in
+      omega (arith, e, h);
   joined = keeps.keeps.joined ∙ is.joined;
   begun = λ number p there.
       let (was, found, scope, begun) = keeps.each number p there in
@@ -152,7 +168,7 @@ keeps_phases rs is_kept parallel old new keeps is = record {
 
 pub keeps_all : (team : Team) → KeepsPhases team team
 keeps_all team = record {
-  keeps = record { joined = refl; over = refl; greatest = refl };
+  keeps = record { actual = refl; joined = refl; ended = refl; over = refl; greatest = refl };
   each = λ number p there. (p, there, refl, refl);
   going = λ number least. refl;
 }

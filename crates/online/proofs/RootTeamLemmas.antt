@@ -22,7 +22,8 @@ use Rattle.online.proofs.GrowLemmas.{said_before, created_fresh}
 use Rattle.online.proofs.StayLemmas.{root_creation, root_region, creator_made, child_made, by_none}
 use Rattle.online.proofs.PhaseLemmas.{phase_stays, members_stay}
 use Rattle.online.proofs.PhaseLemmas.{member_is_made}
-use Rattle.online.proofs.EndedLemmas.{ends_grow, over_same}
+use Rattle.online.proofs.EndedLemmas.{ends_grow, teams_stay}
+use Rattle.online.proofs.GoneLemmas.{team_over_moves}
 use Rattle.online.proofs.RosterLemmas.{Grows, grows_one, team_same, team_moves, tells_moves, told_same}
 use Rattle.online.proofs.UnmadeLemmas.{unmade_phase}
 
@@ -140,12 +141,14 @@ initial_teams rs r root old new kin teams o begins alone is = record {
       (λ e. (length rs, at_last begun_initial rs r ∙ begins)));
   each = λ parallel team there.
       same_team rs r root None old new kin o parallel team (same parallel) (is.each parallel team there);
-  absent = λ parallel none'. same parallel ∙ is.absent parallel none';
+  absent = λ parallel none'.
+      team_over_moves rs (rs ++ r ∷ []) parallel (grows rs r root None old new kin o).gone (same parallel)
+      (is.absent parallel none');
   ends =
       ends_grow rs r old teams teams o.follows
       (λ parent child parallel team creates member found.
       absurd (none-some (parent, child) (sym (none rs r root None old new kin o) ∙ creates)))
-      (λ parallel team was kept found. over_same teams parallel team was kept found) is;
+      (teams_stay rs r teams same) is;
 }
   where
     same : (parallel : ℕ) → members (rs ++ r ∷ []) parallel ≡ members rs parallel

@@ -21,13 +21,14 @@ use Rattle.online.specs.declared.team.Team.{Team}
 use Rattle.online.specs.Waits.{IsScopeOf, IsSettled, KeepsTold, is_kept, MayFollow}
 use Rattle.online.specs.Teams.{no_phase, phase_in, IsSameTeam, phase_at, ahead, IsMemberOf}
 use Rattle.online.specs.Teams.{IsInTeams, IsInPhase, AreSettledUpTo, IsTeamOf, AreEndsOver, AreTeamsBefore}
-use Rattle.online.specs.Teams.{AreTeamsOf}
+use Rattle.online.specs.Teams.{AreTeamsOf, gone_of}
 use Rattle.online.proofs.ScopeLemmas.{scope_same}
 use Rattle.online.proofs.GrowLemmas.{IsByLive, said_grows, said_before}
 use Rattle.online.proofs.KinLemmas.{Moves, moves_same, moves_grows}
 use Rattle.online.proofs.StayLemmas.{by_none}
 use Rattle.online.proofs.PhaseLemmas.{phase_rises, phase_same, phase_stays, members_stay}
-use Rattle.online.proofs.EndedLemmas.{ends_grow, over_same}
+use Rattle.online.proofs.GoneLemmas.{StaysGone, gone_grows, gone_rises, team_over_moves}
+use Rattle.online.proofs.EndedLemmas.{ends_grow, teams_stay}
 
 -- ---- records that grow
 
@@ -36,6 +37,7 @@ pub record Grows (rs more : List Record) : Type 0 where
   pub phases : (task i : ℕ) → i ≤ length rs → phase_at more task i ≡ phase_at rs task i
   pub now : (task : ℕ) → phase_at rs task (length rs) ≤ phase_at more task (length more)
   pub initial : (task : ℕ) → IsInitial rs task → IsInitial more task
+  pub gone : StaysGone rs more
 
 pub grows_same : (rs : List Record) → Grows rs rs
 grows_same rs = record {
@@ -43,6 +45,7 @@ grows_same rs = record {
   phases = λ task i most. refl;
   now = λ task. omega arith;
   initial = λ task is. is;
+  gone = λ task gone. gone;
 }
 
 pub grows_one : (rs : List Record) (r : Record) → IsByLive rs r → Grows rs (rs ++ r ∷ [])
@@ -55,6 +58,7 @@ grows_one rs r live = record {
       let g = phase_same rs r task (length rs) (omega arith) in
       omega (arith, e, f, g);
   initial = λ task is. let (i, says) = is in (i, said_grows begun_initial rs r i task says);
+  gone = λ task gone. gone_grows rs r task gone;
 }
 
 -- ---- how many are ahead
@@ -175,7 +179,7 @@ ahead_all rs (e ∷ ms) number all m k at_k = elim (cases_lt number (phase_at rs
 
 pub team_same : (t : Team) → IsSameTeam t t
 team_same t = record {
-  keeps = record { joined = refl; over = refl; greatest = refl };
+  keeps = record { actual = refl; joined = refl; ended = refl; over = refl; greatest = refl };
   phases = λ number. refl;
 }
 
@@ -240,6 +244,16 @@ pub team_moves : (rs more : List Record) (parallel : ℕ) (old new : ℕ → Boo
     → AreKept rs parallel old new → IsSameTeam was after → IsTeamOf rs old parallel was
     → IsTeamOf more new parallel after
 team_moves rs more parallel old new was after grows same back kept stays is = record {
+  actual = λ m has.
+      let e = stays.keeps.actual in
+      let h = is.actual m (subst (λ ms. Contains ms m) same has) in
+      omega (arith, e, h);
+  ended =
+      let e = stays.keeps.ended in
+      let f = ap (gone_of more) same in
+      let h = is.ended in
+      let k = gone_rises rs more grows.gone (members rs parallel) in
+      omega (arith, e, f, h, k);
   joined = stays.keeps.joined ∙ is.joined ∙ ap length (sym same);
   begun = λ number p kept'.
       let h = is.begun number p (sym (stays.phases number) ∙ kept') in
@@ -325,7 +339,8 @@ teams_move rs more m n old new teams grows same back barriers told kept ends is 
       (λ i parent child member creates.
       record { member = member_back parallel parent member; creates = back i parent child creates })
       (λ i parent child member creates. kept child) (team_same team) (is.each parallel team there);
-  absent = λ parallel none. same parallel ∙ is.absent parallel none;
+  absent = λ parallel none.
+      team_over_moves rs more parallel grows.gone (same parallel) (is.absent parallel none);
   ends = ends;
 }
   where
@@ -358,15 +373,18 @@ pub teams_grow : (rs : List Record) (r : Record) (old new : ℕ → Option Kin) 
     → AreTeamsBefore (rs ++ r ∷ []) (length rs) new teams
 teams_grow rs r old new teams follows silent told kept is =
     teams_move rs (rs ++ r ∷ []) (length rs) (length rs) old new teams
-    (grows_one rs r (by_none rs r silent.creates))
-    (λ parallel. members_stay rs r parallel (λ m joins. absurd (none-some m (sym silent.joins ∙ joins))))
+    (grows_one rs r (by_none rs r silent.creates)) same
     (λ i parent child. said_before creation rs r silent.creates i (parent, child))
     (λ task after there. phase_stays rs r task (λ e. none-some task (sym silent.begins ∙ e))) told kept
     (ends_grow rs r old teams teams follows
     (λ parent child parallel team creates member found.
     absurd (none-some (parent, child) (sym silent.creates ∙ creates)))
-    (λ parallel team was kept' found. over_same teams parallel team was kept' found) is)
+    (teams_stay rs r teams same) is)
     is
+  where
+    same : (parallel : ℕ) → members (rs ++ r ∷ []) parallel ≡ members rs parallel
+    same parallel =
+        members_stay rs r parallel (λ m joins. absurd (none-some m (sym silent.joins ∙ joins)))
 
 pub teams_same : (rs : List Record) (n : ℕ) (old new : ℕ → Option Kin) (teams : ℕ → Option Team)
     → ((task : ℕ) (after : Kin) → new task ≡ Some after → IsToldBefore old task after)

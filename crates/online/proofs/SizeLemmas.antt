@@ -1,5 +1,6 @@
 -- When all members of a team are among the first records.
-use Rattle.std.proofs.Common.{◌≡◌, ◌∙◌, ℕ, zero, suc, ◌<◌, ◌≤◌, ◌+◌, ◌-◌, List, [], ◌∷◌, ◌++◌, length, Option}
+use Rattle.std.proofs.Common.{◌≡◌, ◌≢◌, ◌∙◌, ℕ, zero, suc, ◌<◌, ◌≤◌, ◌+◌, ◌-◌, List, [], ◌∷◌, ◌++◌}
+use Rattle.std.proofs.Common.{length, Option}
 use Rattle.std.proofs.Common.{Some, None, Bool, true, false, cond, refl, sym, ap, subst, arith, inl, inr, map}
 use Rattle.std.proofs.Common.{eqb}
 use Rattle.std.specs.Prelude.{◌==◌, Contains}
@@ -7,8 +8,9 @@ use Rattle.std.specs.List.{list_any, IsDistinct}
 use Rattle.std.proofs.lemmas.Bool.{cases_eq, cases_lt, eqb-true}
 use Rattle.std.proofs.lemmas.Cmp.{nat_eq_equiv}
 use Rattle.std.proofs.lemmas.Option.{same_Some}
-use Rattle.std.proofs.lemmas.List.{append-nil, map-append, length-map, length-append, nil_from_length}
-use Rattle.std.proofs.lemmas.List.Elements.{Contains-append_right, Contains-append_left}
+use Rattle.std.proofs.lemmas.List.{append-nil, map-append, length-map, length-append, length_push}
+use Rattle.std.proofs.lemmas.List.{nil_from_length}
+use Rattle.std.proofs.lemmas.List.Elements.{Contains-append_right, Contains-append_left, Contains-push}
 use Rattle.std.proofs.lemmas.Map.Keys.{IsDistinct-push}
 use Rattle.std.proofs.lemmas.Map.Views.{Contains-from_any}
 use Rattle.std.proofs.lemmas.Map.Steps.{length-le_from_distinct_below}
@@ -21,7 +23,11 @@ use Rattle.ompt_events.specs.declared.cause.Cause.TheVariants.{TeamShort}
 use Rattle.ompt_events.specs.Causes as causes
 use Rattle.ompt_events.specs.Causes.{IsFreeOf, team_short}
 use Rattle.online.specs.Online.{HasWholeTeam}
-use Rattle.online.specs.Rosters.{AreWhole, outside, same_index, other_size, few}
+use Rattle.online.specs.declared.rosters.Rosters.{Rosters}
+use Rattle.online.specs.Rosters.{AreWhole, AreRostersOf, outside, same_index, other_size, few}
+use Rattle.online.specs.Teams.{FindsRoom}
+use Rattle.online.proofs.OpenGroupLemmas.{at_last}
+use Rattle.online.proofs.PhaseLemmas.{members_join}
 use Rattle.online.proofs.ReadLemmas.{same_append}
 use Rattle.online.proofs.NameLemmas.{IsRead, IsMadeBelow, initial_same, whole_long}
 use Rattle.online.proofs.TeamLemmas.{member_place, place_member, added, members_more, members_same}
@@ -35,6 +41,34 @@ whole_of_free rs free i (same_index m e says among same) =
 whole_of_free rs free i (other_size m e says among differ) =
     free i (team_short (causes.other_size m e says among differ))
 whole_of_free rs free i (few m says less) = free i (team_short (causes.few m says less))
+
+-- each member may begin where it does
+pub record AreFitting (rs : List Record) : Type 0 where
+  pub inside : (i : ℕ) (m : Membership) → at joined rs i ≡ Some m → m.index < m.actual
+  pub own_index : (i : ℕ) (m e : Membership) → at joined rs i ≡ Some m
+      → Contains (members_before rs m.parallel i) e → e.index ≢ m.index
+  pub same_size : (i : ℕ) (m e : Membership) → at joined rs i ≡ Some m
+      → Contains (members_before rs m.parallel i) e → e.actual ≡ m.actual
+
+whole_fits : (rs : List Record) → AreWhole rs → AreFitting rs
+whole_fits rs free = record {
+  inside = λ i m joins. elim (cases_lt m.index m.actual) [
+    | inl less ↦ less
+    | inr past ↦ absurd (free i (outside m joins past))
+  ];
+  own_index = λ i m e joins among same. free i (same_index m e joins among same);
+  same_size = λ i m e joins among. elim (cases_eq e.actual m.actual) [
+    | inl same ↦ same
+    | inr apart ↦ absurd (free i (other_size m e joins among apart))
+  ];
+}
+
+rosters_fit : (rs : List Record) (kept : Rosters) → AreRostersOf rs kept → AreFitting rs
+rosters_fit rs kept is = record {
+  inside = is.inside;
+  own_index = is.own_index;
+  same_size = is.same_size;
+}
 
 -- ---- the numbers of members
 
@@ -54,15 +88,15 @@ numbered (m ∷ ms) number (suc k, low, is) =
     (found.0, Contains-append_right (m ∷ []) ms found.0 found.1, found.2)
 
 -- where no team lacks a member, no two members of a team have one number
-numbers_apart : (rs : List Record) → AreWhole rs → (parallel n : ℕ)
+numbers_apart : (rs : List Record) → AreFitting rs → (parallel n : ℕ)
     → IsDistinct eqb (numbers (members_before rs parallel n))
 unfolding numbers index_of IsDistinct
-numbers_apart rs free parallel zero = tt
-numbers_apart rs free parallel (suc n) =
+numbers_apart rs fits parallel zero = tt
+numbers_apart rs fits parallel (suc n) =
     let next : suc n ≡ n + 1 = omega arith in
     subst (λ l. IsDistinct eqb (numbers l))
     (sym (ap (members_before rs parallel) next ∙ members_more rs parallel n))
-    (of (at joined rs n) refl (numbers_apart rs free parallel n))
+    (of (at joined rs n) refl (numbers_apart rs fits parallel n))
   where
     new : (m : Membership) → at joined rs n ≡ Some m → m.parallel ≡ parallel → (b : Bool)
         → list_any (eqb m.index) (numbers (members_before rs parallel n)) ≡ b
@@ -73,7 +107,7 @@ numbers_apart rs free parallel (suc n) =
         numbered (members_before rs parallel n) m.index
         (Contains-from_any eqb-true m.index (numbers (members_before rs parallel n)) some) in
         let before = subst (λ p. Contains (members_before rs p n) found.0) (sym is) found.1 in
-        absurd (free n (same_index m found.0 joins before found.2))
+        absurd (fits.own_index n m found.0 joins before found.2)
 
     with : (m : Membership) → at joined rs n ≡ Some m → (b : Bool) → (m.parallel == parallel) ≡ b
         → IsDistinct eqb (numbers (members_before rs parallel n))
@@ -94,36 +128,31 @@ numbers_apart rs free parallel (suc n) =
     of (Some m) is apart = with m is (m.parallel == parallel) refl apart
 
 -- and all of them name the same size
-size_there : (rs : List Record) → AreWhole rs → (parallel i j : ℕ) (m e : Membership) → i < j
+size_there : (rs : List Record) → AreFitting rs → (parallel i j : ℕ) (m e : Membership) → i < j
     → at joined rs i ≡ Some e → at joined rs j ≡ Some m → e.parallel ≡ parallel → m.parallel ≡ parallel
     → e.actual ≡ m.actual
-size_there rs free parallel i j m e earlier first second in_first in_second =
-    elim (cases_eq e.actual m.actual) [
-      | inl same ↦ same
-      | inr apart ↦
-          let before : Contains (members_before rs m.parallel j) e =
-          place_member rs m.parallel j e (record {
-            place = i;
-            before = earlier;
-            joins = first;
-            same = in_first ∙ sym in_second;
-          }) in
-          absurd (free j (other_size m e second before apart))
-    ]
+size_there rs fits parallel i j m e earlier first second in_first in_second =
+    fits.same_size j m e second
+    (place_member rs m.parallel j e (record {
+      place = i;
+      before = earlier;
+      joins = first;
+      same = in_first ∙ sym in_second;
+    }))
 
-size_same : (rs : List Record) → AreWhole rs → (parallel : ℕ) (m e : Membership)
+size_same : (rs : List Record) → AreFitting rs → (parallel : ℕ) (m e : Membership)
     → Contains (members rs parallel) m → Contains (members rs parallel) e → e.actual ≡ m.actual
-size_same rs free parallel m e has has' =
+size_same rs fits parallel m e has has' =
     let first = member_place rs parallel (length rs) e has' in
     let second = member_place rs parallel (length rs) m has in
     elim (cases_lt first.place second.place) [
       | inl less ↦
-          size_there rs free parallel first.place second.place m e less first.joins second.joins first.same
+          size_there rs fits parallel first.place second.place m e less first.joins second.joins first.same
           second.same
       | inr most ↦ elim (cases_lt second.place first.place) [
         | inl less ↦
             sym
-            (size_there rs free parallel second.place first.place e m less second.joins first.joins
+            (size_there rs fits parallel second.place first.place e m less second.joins first.joins
             second.same first.same)
         | inr least ↦
             let place : first.place ≡ second.place = omega (arith, most, least) in
@@ -133,13 +162,13 @@ size_same rs free parallel m e has has' =
     ]
 
 -- so a team has no more members than its size
-team_small : (rs : List Record) → AreWhole rs → (parallel : ℕ) (m : Membership)
+team_small : (rs : List Record) → AreFitting rs → (parallel : ℕ) (m : Membership)
     → Contains (members rs parallel) m → length (members rs parallel) ≤ m.actual
 unfolding numbers index_of
-team_small rs free parallel m has =
+team_small rs fits parallel m has =
     let most =
     length-le_from_distinct_below (numbers (members rs parallel)) m.actual
-    (numbers_apart rs free parallel (length rs)) below in
+    (numbers_apart rs fits parallel (length rs)) below in
     let count = length-map (members rs parallel) index_of in
     omega (arith, most, count)
   where
@@ -149,13 +178,33 @@ team_small rs free parallel m has =
         numbered (members rs parallel) number
         (Contains-from_any eqb-true number (numbers (members rs parallel)) some) in
         let e = found.0 in
-        let size = size_same rs free parallel m e has found.1 in
+        let size = size_same rs fits parallel m e has found.1 in
         let is = found.2 in
         let there = member_place rs parallel (length rs) e found.1 in
-        elim (cases_lt e.index e.actual) [
-          | inl less ↦ omega (arith, size, is, less)
-          | inr past ↦ absurd (free there.place (outside e there.joins past))
-        ]
+        let less = fits.inside there.place e there.joins in
+        omega (arith, size, is, less)
+
+-- ---- a member that begins
+
+-- by rosters that are right with it, it finds room in its team
+pub finds_room : (rs : List Record) (r : Record) (kept : Rosters) → AreRostersOf (rs ++ r ∷ []) kept
+    → FindsRoom rs r
+finds_room rs r kept is = record {
+  fewer = λ m joins.
+      let here = members_join rs r m joins in
+      let among : Contains (members (rs ++ r ∷ []) m.parallel) m =
+      subst (λ l. Contains l m) (sym here) (Contains-push (members rs m.parallel) m) in
+      let few =
+      team_small (rs ++ r ∷ []) (rosters_fit (rs ++ r ∷ []) kept is) m.parallel m among in
+      let count = ap length here ∙ length_push (members rs m.parallel) m in
+      omega (arith, few, count);
+  same = λ m e joins has.
+      let before : members_before (rs ++ r ∷ []) m.parallel (length rs) ≡ members rs m.parallel =
+      members_same (length rs) (rs ++ r ∷ []) rs (same_append rs (r ∷ [])) m.parallel (length rs)
+      (omega arith) in
+      is.same_size (length rs) m e (at_last joined rs r ∙ joins)
+      (subst (λ l. Contains l e) (sym before) has);
+}
 
 -- ---- a team that is whole among the first records
 
@@ -176,7 +225,7 @@ members_whole before after free parallel m has many =
     (omega arith)) in
     let among : Contains (members (before ++ after) parallel) m =
     subst (λ l. Contains l m) (sym all) (Contains-append_left (members before parallel) grown.0 m has) in
-    let few = team_small (before ++ after) free parallel m among in
+    let few = team_small (before ++ after) (whole_fits (before ++ after) free) parallel m among in
     let sum = ap length all ∙ length-append (members before parallel) grown.0 in
     let none : grown.0 ≡ [] = nil_from_length grown.0 (omega (arith, few, sum, many)) in
     all ∙ ap (λ l. members before parallel ++ l) none ∙ append-nil (members before parallel)

@@ -33,7 +33,8 @@ use Rattle.online.proofs.PhaseLemmas.{phase_few, phase_more, phase_stays, member
 use Rattle.online.proofs.RosterLemmas.{Grows, grows_one, ahead_more, team_moves, team_same, AreBack, AreKept}
 use Rattle.online.proofs.RosterLemmas.{tells_moves, told_same, phase_back}
 use Rattle.online.proofs.EndedLemmas.{ends_grow}
-use Rattle.online.proofs.TeamStepLemmas.{TeamFrom, team_of_from, team_none}
+use Rattle.online.proofs.GoneLemmas.{team_over_moves}
+use Rattle.online.proofs.TeamStepLemmas.{TeamFrom, team_of_from, team_none, changes_rise}
 
 -- ---- a barrier begins
 
@@ -62,6 +63,14 @@ with_begin_is : (rs : List Record) (kept : ℕ → Bool) (parallel number : ℕ)
     → ((p : Phase) → phase_of team number ≡ Some p → p.begun + 1 ≤ ahead rs (members rs parallel) number)
     → 1 ≤ ahead rs (members rs parallel) number → IsTeamOf rs kept parallel after
 with_begin_is rs kept parallel number team after is changed more one = record {
+  actual = λ m has.
+      let e = changed.keeps.actual in
+      let h = is.actual m has in
+      omega (arith, e, h);
+  ended =
+      let e = changed.keeps.ended in
+      let h = is.ended in
+      omega (arith, e, h);
   joined = changed.keeps.joined ∙ is.joined;
   begun = λ other p there. begun_of other p (was_of other p there);
   going = λ other late.
@@ -264,13 +273,14 @@ module _ (rs : List Record) (r : Record) (task : ℕ) (old new : ℕ → Option 
         place_of other after (changed_from CountsBarrier task old new counts other after there);
     each = λ parallel after there. team_is parallel after (from parallel after there);
     absent = λ parallel none'.
-        same_members parallel
-        ∙ is.absent parallel
-        (team_none (CountsBegin was.barriers) was.team teams after_teams changes parallel none');
+        team_over_moves rs (rs ++ r ∷ []) parallel grows.gone (same_members parallel)
+        (is.absent parallel
+        (team_none (CountsBegin was.barriers) was.team teams after_teams changes parallel none'));
     ends =
         ends_grow rs r old teams after_teams follows
         (λ parent child parallel team creates. absurd (none-some (parent, child) (sym none ∙ creates)))
-        (λ parallel after it there before. rises parallel after it before (from parallel after there)) is;
+        (changes_rise (CountsBegin was.barriers) was.team rs r teams after_teams changes
+        (λ before after changed. let e = changed.keeps.over in omega (arith, e)) same_members) is;
   }
     where
       place_of : (other : ℕ) (after : Kin) → IsFrom CountsBarrier (other ≡ task) old other after
@@ -314,22 +324,3 @@ module _ (rs : List Record) (r : Record) (task : ℕ) (old new : ℕ → Option 
           by (inr (apart, same)) =
               subst (λ t. IsTeamOf (rs ++ r ∷ []) (is_kept new) parallel t) same
               (moved parallel it.was it.kept)
-
-      rises : (parallel : ℕ) (after before : Team) → teams parallel ≡ Some before
-          → TeamFrom (CountsBegin was.barriers) (was.team ≡ Some parallel) teams parallel after
-          → before.over ≤ after.over
-      rises parallel after before found' it = by it.how
-        where
-          same_team : it.was ≡ before
-          same_team = same_Some it.was before (sym it.kept ∙ found')
-
-          by : ((was.team ≡ Some parallel) × CountsBegin was.barriers it.was after)
-              ⊎ ((was.team ≡ Some parallel → ⊥) × (it.was ≡ after)) → before.over ≤ after.over
-          by (inl (own, changed)) =
-              let e = changed.keeps.over in
-              let f = ap (λ (t : Team). t.over) same_team in
-              omega (arith, e, f)
-          by (inr (apart, same)) =
-              let e = ap (λ (t : Team). t.over) same in
-              let f = ap (λ (t : Team). t.over) same_team in
-              omega (arith, e, f)

@@ -21,7 +21,7 @@ use Rattle.online.specs.declared.team.Team.{Team}
 use Rattle.online.specs.Waits.{with_task, IsScopeOf, IsSettled, is_kept}
 use Rattle.online.specs.Teams.{IsTold, IsCreatedIn, phase_at, IsMemberOf, IsInTeams, IsInPhase, ahead}
 use Rattle.online.specs.Teams.{no_phase, phase_of, phase_in, with_child, IsTeamOf, AreTeamsBefore, AreTeamsOf}
-use Rattle.online.specs.Teams.{ChangesTeamOf}
+use Rattle.online.specs.Teams.{ChangesTeamOf, gone_of}
 use Rattle.online.proofs.ScopeLemmas.{scope_same, scope_enter}
 use Rattle.online.proofs.StayLemmas.{child_made}
 use Rattle.online.proofs.CreateLemmas.{Creates, unmade, parent_apart, live, kept_here, kept_other, own_back}
@@ -32,8 +32,9 @@ use Rattle.online.proofs.PhaseLemmas.{phase_same, phase_stays, members_stay, mem
 use Rattle.online.proofs.RosterLemmas.{Grows, grows_one, team_moves, team_same, TellsSame, tells_moves}
 use Rattle.online.proofs.RosterLemmas.{told_same, phase_back, IsBack, ahead_rises}
 use Rattle.online.proofs.EndedLemmas.{ends_grow}
+use Rattle.online.proofs.GoneLemmas.{gone_rises, team_over_moves}
 use Rattle.online.proofs.OpenGroupLemmas.{at_last}
-use Rattle.online.proofs.TeamStepLemmas.{TeamFrom, team_of_from, team_none}
+use Rattle.online.proofs.TeamStepLemmas.{TeamFrom, team_of_from, team_none, changes_rise}
 use Rattle.online.proofs.UnmadeLemmas.{unmade_phase}
 
 creation_joined : (parent child : ℕ) (b : Body) → creation b ≡ Some (parent, child) → joined b ≡ None
@@ -201,6 +202,16 @@ module _ (rs : List Record) (r : Record) (parent child : ℕ) (old with_child' n
   team_created : (parallel : ℕ) (team after : Team) → teams parallel ≡ Some team
       → IsCreatedIn above.barriers team after → IsTeamOf (rs ++ r ∷ []) (is_kept new) parallel after
   team_created parallel team after kept changed = record {
+    actual = λ m has.
+        let e = changed.counted.keeps.actual in
+        let h = was.actual m (subst (λ ms. Contains ms m) (same_members parallel) has) in
+        omega (arith, e, h);
+    ended =
+        let e = changed.counted.keeps.ended in
+        let f = ap (gone_of (rs ++ r ∷ [])) (same_members parallel) in
+        let h = was.ended in
+        let k = gone_rises rs (rs ++ r ∷ []) grows.gone (members rs parallel) in
+        omega (arith, e, f, h, k);
     joined = changed.counted.keeps.joined ∙ was.joined ∙ ap length (sym (same_members parallel));
     begun = λ number p there. elim (cases_eq number above.barriers) [
       | inl same ↦
@@ -318,12 +329,13 @@ module _ (rs : List Record) (r : Record) (parent child : ℕ) (old with_child' n
         place_of task after (whose rs r parent child old with_child' new above kin c task after there);
     each = λ parallel after there. team_is parallel after (from parallel after there);
     absent = λ parallel none.
-        same_members parallel
-        ∙ is.absent parallel
-        (team_none (IsCreatedIn above.barriers) above.team teams after_teams changes parallel none);
+        team_over_moves rs (rs ++ r ∷ []) parallel grows.gone (same_members parallel)
+        (is.absent parallel
+        (team_none (IsCreatedIn above.barriers) above.team teams after_teams changes parallel none));
     ends =
         ends_grow rs r old teams after_teams c.follows phase_late
-        (λ parallel after before there kept. rises parallel after before kept (from parallel after there)) is;
+        (changes_rise (IsCreatedIn above.barriers) above.team rs r teams after_teams changes
+        (λ before after changed. let e = changed.counted.keeps.over in omega (arith, e)) same_members) is;
   }
     where
       place_of : (task : ℕ) (after : Kin)
@@ -377,22 +389,3 @@ module _ (rs : List Record) (r : Record) (parent child : ℕ) (old with_child' n
                     apart (parent_place.team parallel (subst P e member)))
                     i task creates;
               }
-
-      rises : (parallel : ℕ) (after before : Team) → teams parallel ≡ Some before
-          → TeamFrom (IsCreatedIn above.barriers) (above.team ≡ Some parallel) teams parallel after
-          → before.over ≤ after.over
-      rises parallel after before kept it = by it.how
-        where
-          same_team : it.was ≡ before
-          same_team = same_Some it.was before (sym it.kept ∙ kept)
-
-          by : ((above.team ≡ Some parallel) × IsCreatedIn above.barriers it.was after)
-              ⊎ ((above.team ≡ Some parallel → ⊥) × (it.was ≡ after)) → before.over ≤ after.over
-          by (inl (here, changed)) =
-              let e = changed.counted.keeps.over in
-              let f = ap (λ (t : Team). t.over) same_team in
-              omega (arith, e, f)
-          by (inr (apart, same)) =
-              let e = ap (λ (t : Team). t.over) same in
-              let f = ap (λ (t : Team). t.over) same_team in
-              omega (arith, e, f)

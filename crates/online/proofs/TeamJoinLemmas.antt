@@ -1,7 +1,7 @@
 -- What is kept of teams where a member joins its team.
-use Rattle.std.proofs.Common.{◌≡◌, ◌≢◌, ◌∙◌, ℕ, ◌<◌, ◌≤◌, ◌+◌, ◌^◌, List, [], ◌∷◌, ◌++◌}
+use Rattle.std.proofs.Common.{◌≡◌, ◌≢◌, ◌∙◌, ℕ, zero, suc, ◌<◌, ◌≤◌, ◌+◌, ◌^◌, List, [], ◌∷◌, ◌++◌}
 use Rattle.std.proofs.Common.{length, Option, Some, None, refl, sym, ap, subst, arith, inl, inr, ◌⊎◌}
-use Rattle.std.specs.Prelude.{Contains}
+use Rattle.std.specs.Prelude.{Contains, slice_get}
 use Rattle.std.specs.Option.{option_map_or}
 use Rattle.std.proofs.lemmas.Bool.{cases_eq}
 use Rattle.std.proofs.lemmas.Option.{none-some, same_Some}
@@ -12,6 +12,7 @@ use Rattle.ompt_events.specs.declared.records.Membership.{Membership}
 use Rattle.ompt_events.specs.Records.{joined, creation}
 use Rattle.ompt_events.specs.Teams.{members}
 use Rattle.ompt_events.specs.Causes.{IsMade}
+use Rattle.ompt_events.proofs.ListLemmas.{contains_get}
 use Rattle.online.specs.declared.scope.Scope.{Scope}
 use Rattle.online.specs.declared.kin.Kin.{Kin}
 use Rattle.online.specs.declared.phase.Phase.{Phase}
@@ -19,7 +20,7 @@ use Rattle.online.specs.declared.team.Team.{Team}
 use Rattle.online.specs.Waits.{IsScopeOf, IsSettled, is_kept}
 use Rattle.online.specs.Teams.{IsFirst, HasJoined, ahead, no_phase, phase_in, IsTeamOf}
 use Rattle.online.specs.Teams.{IsMemberOf, IsInTeams, IsInPhase, AreTeamsBefore, AreTeamsOf}
-use Rattle.online.specs.Teams.{JoinsTeam}
+use Rattle.online.specs.Teams.{JoinsTeam, FindsRoom, gone_of}
 use Rattle.online.proofs.ScopeLemmas.{scope_none}
 use Rattle.online.proofs.GrowLemmas.{said_before}
 use Rattle.online.proofs.StayLemmas.{creator_made}
@@ -27,15 +28,16 @@ use Rattle.online.proofs.PhaseLemmas.{members_stay, members_join, members_few}
 use Rattle.online.proofs.PhaseLemmas.{member_is_made}
 use Rattle.online.proofs.RosterLemmas.{Grows, AreBack, AreKept, ahead_rises, ahead_push, in_phase_back}
 use Rattle.online.proofs.RosterLemmas.{scope_moves, team_moves, team_same}
-use Rattle.online.proofs.EndedLemmas.{ends_grow}
+use Rattle.online.proofs.EndedLemmas.{ends_grow, TeamsRise}
+use Rattle.online.proofs.GoneLemmas.{gone_rises, gone_push, team_over_moves}
 use Rattle.online.proofs.RootTeamLemmas.{Roots, none, unmade, away, grows, kept_child, root_place, places}
 
 -- ---- a member joins its team
 
 module _ (rs : List Record) (r : Record) (m : Membership) (old new : ℕ → Option Kin) (kin : Kin)
     (teams after_teams : ℕ → Option Team) (o : Roots rs r m.member (Some m.parallel) old new kin)
-    (joins : joined r.body ≡ Some m) (enters : JoinsTeam m.parallel teams after_teams)
-    (is : AreTeamsOf rs old teams) where
+    (joins : joined r.body ≡ Some m) (enters : JoinsTeam m.parallel m.actual teams after_teams)
+    (fits : FindsRoom rs r) (is : AreTeamsOf rs old teams) where
   others_same : (parallel : ℕ) → parallel ≢ m.parallel
       → members (rs ++ r ∷ []) parallel ≡ members rs parallel
   others_same parallel apart =
@@ -129,9 +131,23 @@ module _ (rs : List Record) (r : Record) (m : Membership) (old new : ℕ → Opt
   kept_same' parallel i parent child member creates =
       kept_child rs r m.member (Some m.parallel) old new kin o i parent child creates
 
-  joined_team : (team : Team) → teams m.parallel ≡ Some team → HasJoined team enters.after
+  joined_team : (team : Team) → teams m.parallel ≡ Some team → HasJoined m.actual team enters.after
       → IsTeamOf (rs ++ r ∷ []) (is_kept new) m.parallel enters.after
   joined_team team kept changed = record {
+    actual = λ e has.
+        let f = changed.actual in
+        elim
+        (Contains-push_cases (members rs m.parallel) m e (subst (λ ms. Contains ms e) here has)) [
+          | inl early ↦ let h = was.actual e early in omega (arith, f, h)
+          | inr last ↦ let h = ap (λ (x : Membership). x.actual) last in omega (arith, f, h)
+        ];
+    ended =
+        let e = changed.ended in
+        let f = ap (gone_of (rs ++ r ∷ [])) here in
+        let h = was.ended in
+        let k = gone_rises rs (rs ++ r ∷ []) grown.gone (members rs m.parallel) in
+        let l = gone_push (rs ++ r ∷ []) (members rs m.parallel) m in
+        omega (arith, e, f, h, k, l);
     joined =
         let e = was.joined in
         let f = changed.joined in
@@ -182,21 +198,41 @@ module _ (rs : List Record) (r : Record) (m : Membership) (old new : ℕ → Opt
           ap (λ (q : Option Phase). (option_map_or (λ (p : Phase). p) q no_phase).scope)
           (sym (changed.phases number))
 
+  -- where nothing is kept of the team it has no member yet: a team that is over has no room
+  empty_before : teams m.parallel ≡ None → members rs m.parallel ≡ []
+  empty_before absent = of (members rs m.parallel) refl
+    where
+      of : (ms : List Membership) → members rs m.parallel ≡ ms → members rs m.parallel ≡ []
+      of [] e = e
+      of (x ∷ ms) e =
+          let has : Contains (members rs m.parallel) x =
+          subst (λ l. Contains l x) (sym e) (0, omega arith, refl) in
+          let whole = (is.absent m.parallel absent).whole x has in
+          let same = fits.same m x joins has in
+          let fewer = fits.fewer m joins in
+          absurd (omega (arith, whole, same, fewer))
+
   -- of its first member
   first_list : teams m.parallel ≡ None → members (rs ++ r ∷ []) m.parallel ≡ m ∷ []
-  first_list absent = here ∙ ap (λ l. l ++ m ∷ []) (is.absent m.parallel absent)
+  first_list absent = here ∙ ap (λ l. l ++ m ∷ []) (empty_before absent)
 
   first_childless : teams m.parallel ≡ None → (is_phase : ℕ → Type 0) (child : ℕ)
       → IsInPhase (rs ++ r ∷ []) m.parallel is_phase child → ⊥
   first_childless absent is_phase child (i, parent, member, creates, phase) =
       let there = back m.parallel i parent child member creates in
       let (e, has, same_task) = there.member in
-      let (k, low, at_k) = subst (λ ms. Contains ms e) (is.absent m.parallel absent) has in
+      let (k, low, at_k) = subst (λ ms. Contains ms e) (empty_before absent) has in
       omega (arith, low)
 
-  first_team : teams m.parallel ≡ None → IsFirst enters.after
+  first_team : teams m.parallel ≡ None → IsFirst m.actual enters.after
       → IsTeamOf (rs ++ r ∷ []) (is_kept new) m.parallel enters.after
   first_team absent first = record {
+    actual = λ e has.
+        let (k, at_k) = contains_get (m ∷ []) e (subst (λ ms. Contains ms e) (first_list absent) has) in
+        let f = first.actual in
+        let h = ap (λ (x : Membership). x.actual) (only k at_k) in
+        omega (arith, f, h);
+    ended = let e = first.ended in omega (arith, e);
     joined = first.joined ∙ sym (ap length (first_list absent));
     begun = λ number p there. absurd (none-some p (sym (first.none number) ∙ there));
     going = λ number late.
@@ -214,6 +250,10 @@ module _ (rs : List Record) (r : Record) (m : Membership) (old new : ℕ → Opt
     over = λ child has. absurd (first_childless absent (λ k. k < enters.after.over) child has);
     each = λ number p low there. absurd (none-some p (sym (first.none number) ∙ there));
   }
+    where
+      only : {e : Membership} (k : ℕ) → slice_get (m ∷ []) k ≡ Some e → m ≡ e
+      only {e = e} zero here' = same_Some m e here'
+      only {e = e} (suc k) there = absurd (none-some e there)
 
   team_here : (it : Option Team) → teams m.parallel ≡ it
       → IsTeamOf (rs ++ r ∷ []) (is_kept new) m.parallel enters.after
@@ -222,21 +262,30 @@ module _ (rs : List Record) (r : Record) (m : Membership) (old new : ℕ → Opt
 
   -- ---- all teams
 
-  rises : (parallel : ℕ) (after before : Team) → after_teams parallel ≡ Some after
-      → teams parallel ≡ Some before → before.over ≤ after.over
-  rises parallel after before there kept = elim (cases_eq parallel m.parallel) [
-    | inl same ↦
-        let e : enters.after ≡ after =
-        same_Some enters.after after (sym enters.here ∙ ap after_teams (sym same) ∙ there) in
-        let f = ap (λ (t : Team). t.over) e in
-        let g = (enters.further before (ap teams (sym same) ∙ kept)).over in
-        omega (arith, f, g)
-    | inr apart ↦
-        let e : before ≡ after =
-        same_Some before after (sym kept ∙ sym (enters.others parallel apart) ∙ there) in
-        let f = ap (λ (t : Team). t.over) e in
-        omega (arith, f)
-  ]
+  rises : TeamsRise rs r teams after_teams
+  rises = record {
+    kept = λ parallel after there. elim (cases_eq parallel m.parallel) [
+      | inl same ↦ of parallel after there same (teams m.parallel) refl
+      | inr apart ↦ inl (after, sym (enters.others parallel apart) ∙ there, omega arith)
+    ];
+    none = λ parallel none'. elim (cases_eq parallel m.parallel) [
+      | inl same ↦ absurd (none-some enters.after (sym none' ∙ ap after_teams same ∙ enters.here))
+      | inr apart ↦ (sym (enters.others parallel apart) ∙ none', others_same parallel apart)
+    ];
+  }
+    where
+      of : (parallel : ℕ) (after : Team) → after_teams parallel ≡ Some after → parallel ≡ m.parallel
+          → (it : Option Team) → teams m.parallel ≡ it
+          → ((was : Team) × (teams parallel ≡ Some was) × (was.over ≤ after.over))
+          ⊎ (members rs parallel ≡ [])
+      of parallel after there same None e =
+          let P : ℕ → Type 0 = λ t. members rs t ≡ [] in inr (subst P (sym same) (empty_before e))
+      of parallel after there same (Some was) e =
+          let is_after : enters.after ≡ after =
+          same_Some enters.after after (sym enters.here ∙ ap after_teams (sym same) ∙ there) in
+          let f = ap (λ (t : Team). t.over) is_after in
+          let g = (enters.further was e).over in
+          inl (was, ap teams same ∙ e, omega (arith, f, g))
 
   pub join_teams : AreTeamsBefore (rs ++ r ∷ []) (length rs) new after_teams
   join_teams = record {
@@ -260,13 +309,13 @@ module _ (rs : List Record) (r : Record) (m : Membership) (old new : ℕ → Opt
       | inl same ↦
           absurd (none-some enters.after (sym none' ∙ ap after_teams same ∙ enters.here))
       | inr apart ↦
-          others_same parallel apart
-          ∙ is.absent parallel (sym (enters.others parallel apart) ∙ none')
+          team_over_moves rs (rs ++ r ∷ []) parallel grown.gone (others_same parallel apart)
+          (is.absent parallel (sym (enters.others parallel apart) ∙ none'))
     ];
     ends =
         ends_grow rs r old teams after_teams o.follows
         (λ parent child parallel team creates.
         absurd
         (none-some (parent, child) (sym (none rs r m.member (Some m.parallel) old new kin o) ∙ creates)))
-        (λ parallel after before there kept. rises parallel after before there kept) is;
+        rises is;
   }

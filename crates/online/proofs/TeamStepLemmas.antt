@@ -1,5 +1,5 @@
 -- What is kept of teams where a task is settled.
-use Rattle.std.proofs.Common.{◌≡◌, ◌≢◌, ◌∙◌, ℕ, ◌<◌, ◌≤◌, true, false, List, length}
+use Rattle.std.proofs.Common.{◌≡◌, ◌≢◌, ◌∙◌, ℕ, ◌<◌, ◌≤◌, true, false, List, [], ◌∷◌, ◌++◌, length}
 use Rattle.std.proofs.Common.{Option, Some, None, refl, sym, ap, subst, arith, inl, inr, ◌⊎◌}
 use Rattle.std.specs.Option.{option_map_or}
 use Rattle.std.proofs.lemmas.Bool.{cases_eq, cases_lt}
@@ -17,6 +17,7 @@ use Rattle.online.specs.Teams.{no_phase, phase_of, phase_in, without_child, IsSe
 use Rattle.online.specs.Teams.{IsMemberOf, IsInTeams, IsInPhase, IsTeamOf, AreTeamsBefore, ChangesTeam}
 use Rattle.online.specs.Teams.{ChangesTeamOf}
 use Rattle.online.proofs.ScopeLemmas.{scope_same, scope_leave, scope_empty}
+use Rattle.online.proofs.EndedLemmas.{TeamsRise}
 use Rattle.online.proofs.GrowLemmas.{settled_rises}
 use Rattle.online.proofs.SettleLemmas.{Settles, settled, kept_was, kept_here, kept_apart, told_before}
 use Rattle.online.proofs.RosterLemmas.{grows_same, team_same, team_moves, TellsSame, tells_moves}
@@ -87,6 +88,24 @@ team_none change (Some parallel) old new changes other none = elim (cases_eq oth
     of same (Some was) e =
         let there = changes.present was (ap old (sym same) ∙ e) in
         absurd (none-some there.0 (sym none ∙ ap new same ∙ there.1))
+
+-- behind a change of a team by which no fewer phases are over, where the members stay
+pub changes_rise : (change : Team → Team → Type 0) (parallel : Option ℕ) (rs : List Record) (r : Record)
+    (old new : ℕ → Option Team) → ChangesTeamOf change parallel old new
+    → ((was after : Team) → change was after → was.over ≤ after.over)
+    → ((other : ℕ) → members (rs ++ r ∷ []) other ≡ members rs other) → TeamsRise rs r old new
+changes_rise change parallel rs r old new changes rises same = record {
+  kept = λ other after there.
+      let from = team_of_from change parallel old new changes other after there in
+      inl (from.was, from.kept, over from.was after from.how);
+  none = λ other none. (team_none change parallel old new changes other none, same other);
+}
+  where
+    over : {X : Type 0} (was after : Team) → (X × change was after) ⊎ ((X → ⊥) × (was ≡ after))
+        → was.over ≤ after.over
+    over was after (inl (here, changed)) = rises was after changed
+    over was after (inr (apart, stays)) =
+        let e = ap (λ (t : Team). t.over) stays in omega (arith, e)
 
 -- nothing more is said by the same records
 pub tells_same : (rs : List Record) (task : ℕ) → TellsSame rs rs task
@@ -207,6 +226,14 @@ module _ (rs : List Record) (n task : ℕ) (old without new : ℕ → Option Kin
       → teams parallel ≡ Some team → IsSettledIn was.phase was.family.greatest team after
       → IsTeamOf rs (is_kept new) parallel after
   team_settled parallel team after above kept changed = record {
+    actual = λ m has.
+        let e = changed.keeps.actual in
+        let h = it.actual m has in
+        omega (arith, e, h);
+    ended =
+        let e = changed.keeps.ended in
+        let h = it.ended in
+        omega (arith, e, h);
     joined = changed.keeps.joined ∙ it.joined;
     begun = λ number p e. begun number p e (cases_eq number was.phase);
     going = λ number late. going number (omega (arith, late, same_over)) (cases_eq number was.phase);
@@ -286,6 +313,11 @@ module _ (rs : List Record) (n task : ℕ) (old without new : ℕ → Option Kin
           let less = is.ends.over i parallel number it.was below ends it.kept in
           let same = over_is parallel after it in
           omega (arith, less, same);
+      gone = λ i parallel number m below ends none has.
+          is.ends.gone i parallel number m below ends
+          (team_none (IsSettledIn was.phase was.family.greatest) was.parent_team teams after_teams changes
+          parallel none)
+          has;
     };
   }
     where

@@ -26,7 +26,7 @@ use Rattle.online.specs.declared.waits.Waits.{Waits}
 use Rattle.online.specs.Waits.{IsWaitsOf, MayFollow, IsCoverComplete, Follows, KeepsWaits, ChangesNothing}
 use Rattle.online.specs.Waits.{BeginsTaskgroup, EndsTaskgroup, EndsTaskwait}
 use Rattle.online.specs.Teams.{AreTeamsBefore, AreTeamsOf, TeamsFollow, BeginsInitial, Joins}
-use Rattle.online.specs.Teams.{EndsBarrier, HasBarrierEnded}
+use Rattle.online.specs.Teams.{EndsBarrier, HasBarrierEnded, FindsRoom, TeamsJoin}
 use Rattle.online.specs.Kept.{kept_by, teams_by}
 use Rattle.online.specs.WaitSteps.{StepsBefore, TakesStep, TakesRecord, IsOfRegion}
 use Rattle.online.proofs.OpenGroupLemmas.{at_last}
@@ -139,15 +139,15 @@ by_step : (says : Record → Type 0) (r : Record) (old new : Waits) → says r
     → TeamsFollow says (kept_by old) (teams_by old) (kept_by new) (teams_by new) → StepsBefore r old new
 by_step says r old new told tasks teams = record {
   tasks = λ rs follows is. tasks rs r told follows is;
-  teams = λ rs follows waits is. teams rs r told follows waits is;
+  teams = λ rs follows room waits is. teams rs r told follows waits is;
 }
 
 -- where it ends no barrier that is all
 step_whole : (r : Record) (old new : Waits) → EndsNoBarrier r → StepsBefore r old new → TakesStep r old new
 step_whole r old new none step = record {
   tasks = step.tasks;
-  teams = λ rs follows waits is.
-      ends_last rs r (kept_by new) (teams_by new) none (step.teams rs follows waits is);
+  teams = λ rs follows room waits is.
+      ends_last rs r (kept_by new) (teams_by new) none (step.teams rs follows room waits is);
 }
 
 -- so of one that is of no region
@@ -165,6 +165,19 @@ pub root_on_ok : {T E : Type 0} (result : Result T E) (says : Record → Type 0)
 root_on_ok (Ok value) says old new tasks teams = λ r none told. step_task says r old new none told tasks teams
 root_on_ok (Err error) says old new tasks teams = tasks
 
+-- of a member that begins, where it finds room in its team
+pub join_on_ok : {T E : Type 0} (result : Result T E) (root parallel size : ℕ) (old new : Waits)
+    → OnOk result (Follows (Joins root parallel size) (kept_by old) (kept_by new))
+    → OnOk result (TeamsJoin root parallel size (kept_by old) (teams_by old) (kept_by new) (teams_by new))
+    → OnOk result ((r : Record) → region r.body ≡ None → Joins root parallel size r → TakesStep r old new)
+join_on_ok (Ok value) root parallel size old new tasks teams = λ r none told.
+    step_whole r old new (none_ends r none)
+    (record {
+      tasks = λ rs follows is. tasks rs r told follows is;
+      teams = λ rs follows room waits is. teams rs r told follows room waits is;
+    })
+join_on_ok (Err error) root parallel size old new tasks teams = tasks
+
 -- and behind one that may refuse
 pub step_if_ok : {E : Type 0} (result : Result Bool E) (says : Record → Type 0) (r : Record) (old new : Waits)
     → region r.body ≡ None → says r
@@ -180,7 +193,7 @@ quiet : (r : Record) (kept : Waits) → ChangesNothing r → barrier_begun (regi
     → StepsBefore r kept kept
 quiet r kept changes begins = record {
   tasks = λ rs follows is. nothing_then (kept_by kept) rs r changes follows is;
-  teams = λ rs follows waits is.
+  teams = λ rs follows room waits is.
       quiet_teams (kept_by kept) (teams_by kept) rs r (changes.0, begins) follows waits is;
 }
 
@@ -228,9 +241,9 @@ quiet_other r kept task kind endpoint says once other =
 -- an implicit task begins, where the flags have no `initial`
 pub joins : (root parallel size index : ℕ) (flags : TaskFlags) (r : Record)
     → has_flag flags.0 flag.initial ≡ false → r.body ≡ ImplicitTask Begin size index flags parallel root
-    → Joins root parallel r
+    → Joins root parallel size r
 joins root parallel size index flags r off is =
-    (member, ap joined is ∙ ap (λ (b : Bool). if b then None else Some member) off, refl, refl)
+    (member, ap joined is ∙ ap (λ (b : Bool). if b then None else Some member) off, refl, refl, refl)
   where
     member : Membership
     member = record { parallel = parallel; actual = size; index = index; member = root }
@@ -253,7 +266,7 @@ with_endpoint task seen kind endpoint other r is same =
 no_end : (r : Record) (old new : Waits) → TakesStep r old new → EndsNoWait r → TakesRecord r old new
 no_end r old new step none = record {
   step = step;
-  complete = λ rs follows waits is. covers_nothing rs r none;
+  complete = λ rs follows room waits is. covers_nothing rs r none;
 }
 
 pub other_region : (task seen : ℕ) (kind : SyncKind) (endpoint : Endpoint) (r : Record) (kept : Waits)
@@ -284,7 +297,7 @@ pub taskwait_ends : (task seen : ℕ) (endpoint : Endpoint) (r : Record) (kept :
     → TakesRecord r kept kept
 taskwait_ends task seen endpoint r kept is over = record {
   step = taskwait_step task seen endpoint r kept is;
-  complete = λ rs follows waits teams. over rs r ((endpoint, is.says), is.seen_is) waits;
+  complete = λ rs follows room waits teams. over rs r ((endpoint, is.says), is.seen_is) waits;
 }
 
 pub taskgroup_begins : (task seen : ℕ) (r : Record) (old new : Waits) → IsOfRegion task Taskgroup Begin seen r
@@ -307,14 +320,14 @@ taskgroup_ends task seen r old new is tasks teams over = record {
   step =
       step_whole r old new (other_ends r task Taskgroup End is.says refl)
       (by_step (EndsTaskgroup task seen) r old new (is.says, is.seen_is) tasks teams);
-  complete = λ rs follows waits there. over rs r (is.says, is.seen_is) follows waits;
+  complete = λ rs follows room waits there. over rs r (is.says, is.seen_is) follows waits;
 }
 
 pub taskgroup_at_once : (task seen : ℕ) (r : Record) (kept : Waits)
     → IsOfRegion task Taskgroup BeginEnd seen r → TakesRecord r kept kept
 taskgroup_at_once task seen r kept is = record {
   step = quiet_other r kept task Taskgroup BeginEnd is.says (λ same. refl) refl;
-  complete = λ rs follows waits there. at_once_covers rs r task is.says;
+  complete = λ rs follows room waits there. at_once_covers rs r task is.says;
 }
 
 -- ---- a record of a barrier
@@ -344,9 +357,9 @@ pub barrier_ends : (task seen : ℕ) (kind : SyncKind) (endpoint : Endpoint) (r 
 barrier_ends task seen kind endpoint r old step new barrier is steps keeps over = record {
   step = record {
     tasks = λ rs follows waits. keeps (rs ++ r ∷ []) follows.once (steps.tasks rs follows waits);
-    teams = λ rs follows waits there. (ended rs follows waits there).teams_are;
+    teams = λ rs follows room waits there. (ended rs follows room waits there).teams_are;
   };
-  complete = λ rs follows waits there. (ended rs follows waits there).complete;
+  complete = λ rs follows room waits there. (ended rs follows room waits there).complete;
 }
   where
     ends : EndsBarrier task seen r
@@ -358,8 +371,8 @@ barrier_ends task seen kind endpoint r old step new barrier is steps keeps over 
       seen_is = is.seen_is;
     }
 
-    ended : (rs : List Record) → MayFollow rs r → IsWaitsOf rs (kept_by old)
+    ended : (rs : List Record) → MayFollow rs r → FindsRoom rs r → IsWaitsOf rs (kept_by old)
         → AreTeamsOf rs (kept_by old) (teams_by old)
         → HasBarrierEnded rs r (kept_by new) (teams_by new)
-    ended rs follows waits there =
-        over rs r ends follows (steps.tasks rs follows waits) (steps.teams rs follows waits there)
+    ended rs follows room waits there =
+        over rs r ends follows (steps.tasks rs follows waits) (steps.teams rs follows room waits there)

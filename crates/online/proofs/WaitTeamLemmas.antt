@@ -13,6 +13,7 @@ use Rattle.ompt_events.specs.declared.names.SyncKind.TheVariants.{Taskgroup}
 use Rattle.ompt_events.specs.declared.names.Endpoint.TheVariants.{Begin, End}
 use Rattle.ompt_events.specs.Records.{made, joined, creation, region}
 use Rattle.ompt_events.specs.Regions.{barrier_begun}
+use Rattle.ompt_events.specs.Teams.{members}
 use Rattle.ompt_events.proofs.RecordLemmas.{member_made, member_begun, initial_begun}
 use Rattle.online.specs.declared.kin.Kin.{Kin}
 use Rattle.online.specs.declared.kin.Place.{Place}
@@ -22,9 +23,9 @@ use Rattle.online.specs.Waits.{BeginsGroup, EndsGroup, IsNew, Puts, Removes, May
 use Rattle.online.specs.Waits.{KeepsTold, EndsRoot, CreatesTask, CompletesTask, BeginsTaskgroup}
 use Rattle.online.specs.Waits.{EndsTaskgroup, is_kept}
 use Rattle.online.specs.Teams.{IsTold, IsPlaceIn, CountsBarrier, CountsBegin, IsCreatedIn, IsSettledIn}
-use Rattle.online.specs.Teams.{AreTeamsBefore, AreTeamsOf}
-use Rattle.online.specs.Teams.{ChangesTeamOf, JoinsTeam, BeginsInitial, Joins, BeginsBarrier, TeamsFollow}
-use Rattle.online.specs.Teams.{KeepsTeams, SaysNothing}
+use Rattle.online.specs.Teams.{AreTeamsBefore, TeamsFollow}
+use Rattle.online.specs.Teams.{ChangesTeamOf, JoinsTeam, LeavesTeam, BeginsInitial, Joins, BeginsBarrier}
+use Rattle.online.specs.Teams.{KeepsTeams, SaysNothing, TeamsJoin}
 use Rattle.ompt_events.proofs.PlaceLemmas.{some_of}
 use Rattle.online.proofs.ViewLemmas.{IsFrom, changed_from, kept_same}
 use Rattle.online.proofs.StayLemmas.{made_none, by_none, waits_stay, root_waits}
@@ -33,7 +34,8 @@ use Rattle.online.proofs.TaskgroupLemmas.{region_made}
 use Rattle.online.proofs.RosterLemmas.{IsSilent, IsToldBefore, told_same, teams_grow, teams_same}
 use Rattle.online.proofs.RosterLemmas.{teams_move, grows_one}
 use Rattle.online.proofs.PhaseLemmas.{phase_stays, members_stay}
-use Rattle.online.proofs.EndedLemmas.{ends_grow}
+use Rattle.online.proofs.EndedLemmas.{ends_grow, teams_stay}
+use Rattle.online.proofs.LeaveLemmas.{leave_teams}
 use Rattle.online.proofs.GrowLemmas.{said_before}
 use Rattle.online.proofs.TeamStepLemmas.{settle_teams}
 use Rattle.online.proofs.TeamCreateLemmas.{create_teams}
@@ -110,16 +112,16 @@ small_more rs r follows = let e = length_push rs r in let h = follows.few in ome
 
 -- of the records with the new one, by which a task is over
 finished_teams : (rs : List Record) (r : Record) (task n : ℕ) (old marked done new : ℕ → Option Kin)
-    (teams after : ℕ → Option Team) (kin : Kin) → MayFollow rs r → IsSilent r
+    (teams after : ℕ → Option Team) (kin : Kin) → MayFollow rs r
     → Finishes (rs ++ r ∷ []) task n old marked done kin → KeepsTeams done teams new after
-    → AreTeamsOf rs old teams → AreTeamsBefore (rs ++ r ∷ []) (length rs) new after
-finished_teams rs r task n old marked done new teams after kin follows quiet f keeps is =
+    → AreTeamsBefore (rs ++ r ∷ []) (length rs) old teams
+    → AreTeamsBefore (rs ++ r ∷ []) (length rs) new after
+finished_teams rs r task n old marked done new teams after kin follows f keeps is =
     keeps (rs ++ r ∷ []) (length rs) follows.once (small_more rs r follows)
     (finish_waits (rs ++ r ∷ []) task n old marked done kin f)
     (teams_same (rs ++ r ∷ []) (length rs) old done teams
     (told_before (rs ++ r ∷ []) task n old marked done kin f)
-    (kept_all (rs ++ r ∷ []) task n old marked done kin f)
-    (teams_grow rs r old old teams follows quiet (same_told old) (λ other. refl) is))
+    (kept_all (rs ++ r ∷ []) task n old marked done kin f) is)
 
 pub finish_teams_then : (old marked done new : ℕ → Option Kin) (teams after : ℕ → Option Team) (task seen : ℕ)
     (parent : Option ℕ) → ChangesAt (Completes (seen + 1)) task old marked
@@ -130,18 +132,24 @@ finish_teams_then old marked done new teams after task seen parent marks parents
     waits is =
     let ((part, finishes, apart), is_seen) = says in
     let (kin, f) = finish_case old marked done task seen parent marks parents above rs r says follows waits in
-    finished_teams rs r task (seen + 1) old marked done new teams after kin follows
-    (silent r (finish_made task part r.body finishes)
-    (ap barrier_begun (finish_region task part r.body finishes)))
-    f keeps is
+    finished_teams rs r task (seen + 1) old marked done new teams after kin follows f keeps
+    (quiet_teams old teams rs r
+    (finish_made task part r.body finishes, ap barrier_begun (finish_region task part r.body finishes))
+    follows waits is)
 
-pub root_end_teams_then : (old marked new : ℕ → Option Kin) (teams after : ℕ → Option Team) (root : ℕ)
-    → ((kin : Kin) → old root ≡ Some kin → kin.parent ≡ None) → ChangesAt (Completes 0) root old marked
-    → KeepsTeams marked teams new after → TeamsFollow (EndsRoot root) old teams new after
-root_end_teams_then old marked new teams after root rooted marks keeps rs r says follows waits is =
+pub root_end_teams_then : (old marked new : ℕ → Option Kin) (teams left after : ℕ → Option Team) (root : ℕ)
+    (team : Option ℕ) → ((kin : Kin) → old root ≡ Some kin → kin.parent ≡ None)
+    → ((kin : Kin) → old root ≡ Some kin → team ≡ kin.team) → LeavesTeam team teams left
+    → ChangesAt (Completes 0) root old marked → KeepsTeams marked left new after
+    → TeamsFollow (EndsRoot root) old teams new after
+root_end_teams_then old marked new teams left after root team rooted in_team leaves marks keeps rs r says
+    follows waits is =
     let (kin, f) = root_end_case old marked root rooted marks rs r says follows waits in
-    finished_teams rs r root 0 old marked marked new teams after kin follows
-    (silent r (ended_made root r.body says) (ap barrier_begun (ended_region root r.body says))) f keeps is
+    let unmade = ended_made root r.body says in
+    finished_teams rs r root 0 old marked marked new left after kin follows f keeps
+    (leave_teams rs r root old teams left team kin says follows (made_joined r.body unmade) f.found
+    (in_team kin f.found) leaves is
+    (quiet_teams old teams rs r (unmade, ap barrier_begun (ended_region root r.body says)) follows waits is))
 
 pub root_end_teams_never : (table : ℕ → Option Kin) (teams : ℕ → Option Team) (root : ℕ)
     → TeamsFollow (EndsRoot root) table teams table teams
@@ -248,19 +256,21 @@ initial_teams_then old new teams root kin fresh told puts rs r begins follows wa
     alone None e = e
     alone (Some m) e = absurd (initial_joined root m r.body begins e)
 
-pub join_then : (old new : ℕ → Option Kin) (root parallel : ℕ) (kin : Kin) → IsNew None 0 kin
-    → Puts root kin old new → Follows (Joins root parallel) old new
-join_then old new root parallel kin fresh puts rs r (m, joins, is_root, is_parallel) follows is =
+pub join_then : (old new : ℕ → Option Kin) (root parallel size : ℕ) (kin : Kin) → IsNew None 0 kin
+    → Puts root kin old new → Follows (Joins root parallel size) old new
+join_then old new root parallel size kin fresh puts rs r (m, joins, is_root, is_parallel, is_size) follows
+    is =
     root_waits rs r old new root kin follows (member_begun m r.body joins ∙ ap Some is_root) fresh puts is
 
-pub join_teams_then : (old new : ℕ → Option Kin) (teams after : ℕ → Option Team) (root parallel : ℕ)
+pub join_teams_then : (old new : ℕ → Option Kin) (teams after : ℕ → Option Team) (root parallel size : ℕ)
     (kin : Kin) → IsNew None 0 kin → IsTold (Some parallel) None 0 kin → Puts root kin old new
-    → JoinsTeam parallel teams after → TeamsFollow (Joins root parallel) old teams new after
-join_teams_then old new teams after root parallel kin fresh told puts enters rs r
-    (m, joins, is_root, is_parallel) follows waits is =
+    → JoinsTeam parallel size teams after → TeamsJoin root parallel size old teams new after
+join_teams_then old new teams after root parallel size kin fresh told puts enters rs r
+    (m, joins, is_root, is_parallel, is_size) follows room waits is =
     let P : ℕ → Type 0 = λ t. Puts t kin old new in
     let Q : ℕ → Type 0 = λ t. IsTold (Some t) None 0 kin in
-    let R : ℕ → Type 0 = λ t. JoinsTeam t teams after in
+    let R : ℕ → Type 0 = λ t. JoinsTeam t size teams after in
+    let R' : ℕ → Type 0 = λ n. JoinsTeam m.parallel n teams after in
     join_teams rs r m old new kin teams after
     (record {
       begins = member_begun m r.body joins;
@@ -270,7 +280,7 @@ join_teams_then old new teams after root parallel kin fresh told puts enters rs 
       puts = subst P (sym is_root) puts;
       before = waits;
     })
-    joins (subst R (sym is_parallel) enters) is
+    joins (subst R' (sym is_size) (subst R (sym is_parallel) enters)) room is
 
 -- ---- a barrier begins
 
@@ -312,23 +322,21 @@ pub barrier_teams_never : (table : ℕ → Option Kin) (teams : ℕ → Option T
     → TeamsFollow (BeginsBarrier task) table teams table teams
 barrier_teams_never table teams task absent rs r begins follows waits is =
     teams_move rs (rs ++ r ∷ []) (length rs) (length rs) table table teams
-    (grows_one rs r (by_none rs r none))
-    (λ parallel.
-    members_stay rs r parallel
-    (λ m joins. absurd (none-some m (sym (barrier_made task r.body begins).1 ∙ joins))))
+    (grows_one rs r (by_none rs r none)) same
     (λ i parent child. said_before creation rs r none i (parent, child))
     (λ other after there. phase_stays rs r other (λ e. apart other after there (same_Some task other (sym
     begins ∙ e))))
     (same_told table) (λ other. refl)
     (ends_grow rs r table teams teams follows
     (λ parent child parallel team creates. absurd (none-some (parent, child) (sym none ∙ creates)))
-    (λ parallel after before there kept.
-    let e : before ≡ after = same_Some before after (sym kept ∙ there) in
-    let f = ap (λ (t : Team). t.over) e in
-    omega (arith, f))
-    is)
+    (teams_stay rs r teams same) is)
     is
   where
+    same : (parallel : ℕ) → members (rs ++ r ∷ []) parallel ≡ members rs parallel
+    same parallel =
+        members_stay rs r parallel
+        (λ m joins. absurd (none-some m (sym (barrier_made task r.body begins).1 ∙ joins)))
+
     none : creation r.body ≡ None
     none = made_none r.body (barrier_made task r.body begins).0
 

@@ -55,7 +55,7 @@ use Rattle.online.specs.Online.{is_told_at_once}
 use Rattle.online.specs.Replays.{script_of, IsReplayed, IsReplayOf}
 use Rattle.online.specs.Rosters.{AreRostersOf}
 use Rattle.online.specs.Tasks.{value_of}
-use Rattle.online.specs.Teams.{AreTeamsOf}
+use Rattle.online.specs.Teams.{AreTeamsOf, FindsRoom}
 use Rattle.online.specs.Waits.{IsWaitsOf, IsCoverComplete, MayFollow}
 use Rattle.online.specs.Watches.{AreRegionsOf, BeginsNewRegion, dependent_of, parent_in, MayList, IsWatchOf}
 use Rattle.online.proofs.LengthLemmas.{may_follow}
@@ -70,6 +70,7 @@ use Rattle.online.proofs.ReplayRecords.{IsOfStep, of_step, says_call, replayed_n
 use Rattle.online.proofs.ReplayTasks.{IsOneMore, is_parent, goes_on, dependent_value, dependent_untouched}
 use Rattle.online.proofs.ReplayThreads.{replayed_unmoved, replayed_flat, replayed_nested, replayed_on_host}
 use Rattle.online.proofs.ReplayThreads.{replayed_placed}
+use Rattle.online.proofs.SizeLemmas.{finds_room}
 use Rattle.online.proofs.WatchLemmas.{watchable_exactly}
 
 -- each part of what is kept takes the record
@@ -85,10 +86,10 @@ pub record IsWatched (old new : Watch) (r : Record) (parent : Option ℕ) : Type
       → NamesLength rs r × IsLengthsOf (rs ++ r ∷ []) new.lengths
   pub waits : (rs : List Record) → MayFollow rs r → IsWaitsOf rs (kept_by old.waits)
       → IsWaitsOf (rs ++ r ∷ []) (kept_by new.waits)
-  pub teams : (rs : List Record) → MayFollow rs r → IsWaitsOf rs (kept_by old.waits)
+  pub teams : (rs : List Record) → MayFollow rs r → FindsRoom rs r → IsWaitsOf rs (kept_by old.waits)
       → AreTeamsOf rs (kept_by old.waits) (teams_by old.waits)
       → AreTeamsOf (rs ++ r ∷ []) (kept_by new.waits) (teams_by new.waits)
-  pub covers : (rs : List Record) → MayFollow rs r → IsWaitsOf rs (kept_by old.waits)
+  pub covers : (rs : List Record) → MayFollow rs r → FindsRoom rs r → IsWaitsOf rs (kept_by old.waits)
       → AreTeamsOf rs (kept_by old.waits) (teams_by old.waits) → IsCoverComplete rs r
   pub items : Reads old.items new.items r parent
 
@@ -239,10 +240,10 @@ pub watch_more : (rs : List Record) (old new : Watch) (r : Record) (parent : Opt
 watch_more rs old new r parent kept watched = record {
   replay = replay;
   regions = regions.1;
-  rosters = watched.rosters rs kept.rosters;
+  rosters = rosters;
   lengths = named.1;
   waits = watched.waits rs follows kept.waits;
-  teams = watched.teams rs follows kept.waits kept.teams;
+  teams = watched.teams rs follows room kept.waits kept.teams;
   items = read.kept;
   comes = comes;
   passes = each_more PassesAfter rs r kept.passes (record {
@@ -293,6 +294,12 @@ watch_more rs old new r parent kept watched = record {
 
     regions : BeginsNewRegion rs r × AreRegionsOf all new.regions
     regions = watched.regions rs kept.regions
+
+    rosters : AreRostersOf all new.rosters
+    rosters = watched.rosters rs kept.rosters
+
+    room : FindsRoom rs r
+    room = finds_room rs r new.rosters rosters
 
     once_before : IsFreeOf rs CreatedTwice
     once_before = none_twice rs kept.passes
@@ -388,7 +395,7 @@ watch_more rs old new r parent kept watched = record {
     read = watched.items rs may_be_read kept.items
 
     complete : IsCompleteAfter rs r
-    complete task (covered covers) = watched.covers rs follows kept.waits kept.teams task covers
+    complete task (covered covers) = watched.covers rs follows room kept.waits kept.teams task covers
     complete task (preceding {dependent = dependent} explicit starts precedes) =
         read.complete dependent task (inl (explicit, starts)) precedes
     complete task (awaited {dependent = dependent} waits precedes) =

@@ -1,15 +1,17 @@
 -- What is kept of teams for the ends of barriers.
-use Rattle.std.specs.Prelude.{ℕ, ◌≡◌, ◌≢◌, ◌<◌, ◌≤◌, ◌+◌, ◌-◌, ◌^◌, Bool, true, List, [], ◌∷◌, ◌++◌}
+use Rattle.std.specs.Prelude.{ℕ, ◌≡◌, ◌≢◌, ◌<◌, ◌≤◌, ◌+◌, ◌-◌, ◌^◌, ◌==◌, ◌⊎◌, Bool, true, false, List, []}
+use Rattle.std.specs.Prelude.{◌∷◌, ◌++◌}
 use Rattle.std.specs.Prelude.{length, filter, min, max, Option, Some, None, nat_lt, nat_eq, Contains}
 use Rattle.std.specs.Prelude.{if◌then◌else◌}
 use Rattle.std.specs.Option.{option_map_or}
+use Rattle.std.specs.List.{list_any}
 use Rattle.std.specs.HashMap.{get}
 use Rattle.ompt_events.specs.declared.records.Record.{Record}
 use Rattle.ompt_events.specs.declared.records.Membership.{Membership}
 use Rattle.ompt_events.specs.declared.names.SyncKind.{SyncKind}
 use Rattle.ompt_events.specs.declared.names.Endpoint.{Endpoint}
 use Rattle.ompt_events.specs.declared.cause.Cause.TheVariants.{CreatedTwice}
-use Rattle.ompt_events.specs.Records.{made, joined, begun_initial, region}
+use Rattle.ompt_events.specs.Records.{made, joined, begun_initial, ended_root, region}
 use Rattle.ompt_events.specs.Places.{own_before, seen_at}
 use Rattle.ompt_events.specs.Tree.{IsCreatedAt}
 use Rattle.ompt_events.specs.Teams.{members, IsInitial, IsTeammate}
@@ -83,9 +85,11 @@ over_from length p = record {
   ended = p.ended;
 }
 
--- how many members have begun, and which phases are over, stays
+-- how many members there are, have begun and have ended, and which phases are over, stays
 pub record KeepsTeam (old new : Team) : Type 0 where
+  pub actual : new.actual ≡ old.actual
   pub joined : new.joined ≡ old.joined
+  pub ended : new.ended ≡ old.ended
   pub over : new.over ≡ old.over
   pub greatest : new.greatest ≡ old.greatest
 
@@ -100,15 +104,28 @@ pub record PutsPhase (number : ℕ) (phase : Phase) (old new : Team) : Type 0 wh
   pub here : phase_of new number ≡ Some phase
   pub others : (other : ℕ) → other ≢ number → phase_of new other ≡ phase_of old other
 
--- the team of a first member
-pub record IsFirst (team : Team) : Type 0 where
+-- the team of this size, of a first member
+pub record IsFirst (size : ℕ) (team : Team) : Type 0 where
+  pub actual : team.actual ≡ size
   pub joined : team.joined ≡ 1
+  pub ended : team.ended ≡ 0
   pub over : team.over ≡ 0
   pub none : (number : ℕ) → phase_of team number ≡ None
 
--- a further member begins
-pub record HasJoined (old new : Team) : Type 0 where
+-- a further member begins, by which the team has this size
+pub record HasJoined (size : ℕ) (old new : Team) : Type 0 where
+  pub actual : new.actual ≡ max old.actual size
   pub joined : new.joined ≡ min (old.joined + 1) (2 ^ 64 - 1)
+  pub ended : new.ended ≡ old.ended
+  pub over : new.over ≡ old.over
+  pub greatest : new.greatest ≡ old.greatest
+  pub phases : (number : ℕ) → phase_of new number ≡ phase_of old number
+
+-- a member has ended
+pub record HasLeft (old new : Team) : Type 0 where
+  pub actual : new.actual ≡ old.actual
+  pub joined : new.joined ≡ old.joined
+  pub ended : new.ended ≡ min (old.ended + 1) (2 ^ 64 - 1)
   pub over : new.over ≡ old.over
   pub greatest : new.greatest ≡ old.greatest
   pub phases : (number : ℕ) → phase_of new number ≡ phase_of old number
@@ -145,7 +162,9 @@ pub record KeepsPhases (old new : Team) : Type 0 where
 
 -- the next phase is over, in which no child is left: what is kept of it tells of all phases up to it
 pub record EndsPhase (old new : Team) : Type 0 where
+  pub actual : new.actual ≡ old.actual
   pub joined : new.joined ≡ old.joined
+  pub ended : new.ended ≡ old.ended
   pub over : new.over ≡ old.over + 1
   pub none_left : (phase_in old old.over).scope.left ≡ 0
   pub greatest : new.greatest ≡ max old.greatest (phase_in old old.over).scope.greatest
@@ -168,6 +187,18 @@ abbrev pub ahead : List Record → List Membership → ℕ → ℕ
 ahead rs [] number = 0
 ahead rs (m ∷ ms) number =
     (if nat_lt number (phase_at rs m.member (length rs)) then 1 else 0) + ahead rs ms number
+
+-- the record ends the task as a root
+abbrev pub ends_task : ℕ → Record → Bool
+ends_task task r = option_map_or (λ t. t == task) (ended_root r.body) false
+
+-- one of the records does
+abbrev pub is_gone : List Record → ℕ → Bool
+is_gone rs task = list_any (ends_task task) rs
+
+-- how many of the members have ended
+abbrev pub gone_of : List Record → List Membership → ℕ
+gone_of rs ms = length (filter (λ (m : Membership). is_gone rs m.member) ms)
 
 -- the task is a member of the team
 abbrev pub IsMemberOf : List Record → ℕ → ℕ → Type 0
@@ -208,7 +239,9 @@ AreSettledUpTo rs parallel number length =
 
 -- this is what the records leave of a team
 pub record IsTeamOf (rs : List Record) (is_kept : ℕ → Bool) (parallel : ℕ) (team : Team) : Type 0 where
+  pub actual : (m : Membership) → Contains (members rs parallel) m → m.actual ≤ team.actual
   pub joined : team.joined ≡ length (members rs parallel)
+  pub ended : team.ended ≤ gone_of rs (members rs parallel)
   pub begun : (number : ℕ) (p : Phase) → phase_of team number ≡ Some p
       → p.begun ≤ ahead rs (members rs parallel) number
   -- the children of each phase that is not over
@@ -220,13 +253,20 @@ pub record IsTeamOf (rs : List Record) (is_kept : ℕ → Bool) (parallel : ℕ)
   pub each : (number : ℕ) (p : Phase) → number < team.over → phase_of team number ≡ Some p
       → AreSettledUpTo rs parallel number p.scope.greatest
 
+-- all members of the team have begun, and each of them has ended
+pub record IsTeamOver (rs : List Record) (parallel : ℕ) : Type 0 where
+  pub whole : (m : Membership) → Contains (members rs parallel) m → m.actual ≤ length (members rs parallel)
+  pub ended : (m : Membership) → Contains (members rs parallel) m → is_gone rs m.member ≡ true
+
 -- where a barrier ended before the place n, its phase is over, and all is settled that was created in it or
--- before it, by whichever record
+-- before it, by whichever record; where nothing is kept of its team, each member has begun it
 pub record AreEndsOver (rs : List Record) (n : ℕ) (teams : ℕ → Option Team) : Type 0 where
   pub settled : (i parallel number : ℕ) → i < n → EndsBarrierAt rs parallel number i
       → AreSettledUpTo rs parallel number (seen_at rs i)
   pub over : (i parallel number : ℕ) (team : Team) → i < n → EndsBarrierAt rs parallel number i
       → teams parallel ≡ Some team → number < team.over
+  pub gone : (i parallel number : ℕ) (m : Membership) → i < n → EndsBarrierAt rs parallel number i
+      → teams parallel ≡ None → Contains (members rs parallel) m → number < phase_at rs m.member (length rs)
 
 -- this is what the records leave of all teams; of the ends of barriers those before the place n are looked at
 pub record AreTeamsBefore (rs : List Record) (n : ℕ) (table : ℕ → Option Kin) (teams : ℕ → Option Team)
@@ -234,8 +274,8 @@ pub record AreTeamsBefore (rs : List Record) (n : ℕ) (table : ℕ → Option K
   pub places : (task : ℕ) (kin : Kin) → table task ≡ Some kin → IsInTeams rs task kin
   pub each : (parallel : ℕ) (team : Team) → teams parallel ≡ Some team
       → IsTeamOf rs (is_kept table) parallel team
-  -- nothing is kept of a team that has no member yet
-  pub absent : (parallel : ℕ) → teams parallel ≡ None → members rs parallel ≡ []
+  -- nothing is kept of a team that has no member yet, and of one that is over
+  pub absent : (parallel : ℕ) → teams parallel ≡ None → IsTeamOver rs parallel
   pub ends : AreEndsOver rs n teams
 
 abbrev pub AreTeamsOf : List Record → (ℕ → Option Kin) → (ℕ → Option Team) → Type 0
@@ -260,6 +300,12 @@ abbrev pub HasBegunAll : Team → Type 0
 HasBegunAll team =
     (rs : List Record) (is_kept : ℕ → Bool) (parallel : ℕ) → IsTeamOf rs is_kept parallel team
     → (m : Membership) → Contains (members rs parallel) m → team.over ≤ phase_at rs m.member (length rs)
+
+-- all members have begun, each has ended, and all have begun the barrier behind each phase that is over
+pub record IsTeamDone (team : Team) : Type 0 where
+  pub whole : team.actual ≤ team.ended
+  pub all : team.joined ≤ team.ended
+  pub begun : HasBegunAll team
 
 -- for each barrier that ends, each teammate has one with its number
 abbrev pub AreBarriersBegun : List Record → Type 0
@@ -289,12 +335,25 @@ pub record EndsIn (number length parallel : ℕ) (old new : ℕ → Option Team)
   pub found : old parallel ≡ Some was
   pub changes : ChangesTeam (HasEnded number length) parallel old new
 
--- a member of the team begins
-pub record JoinsTeam (parallel : ℕ) (old new : ℕ → Option Team) : Type 0 where
+-- of some teams nothing is kept any more: all is done there
+pub record DropsTeams (old new : ℕ → Option Team) : Type 0 where
+  pub each : (parallel : ℕ) (team : Team) → new parallel ≡ Some team → old parallel ≡ Some team
+  pub gone : (parallel : ℕ) → new parallel ≡ None
+      → (old parallel ≡ None) ⊎ ((team : Team) × (old parallel ≡ Some team) × IsTeamDone team)
+
+-- a member of the team has ended, where the task is one; then nothing is kept of the team if all is done
+-- there
+pub record LeavesTeam (parallel : Option ℕ) (old new : ℕ → Option Team) : Type 0 where
+  pub between : ℕ → Option Team
+  pub counts : ChangesTeamOf HasLeft parallel old between
+  pub drops : DropsTeams between new
+
+-- a member of the team begins, by which the team has this size
+pub record JoinsTeam (parallel size : ℕ) (old new : ℕ → Option Team) : Type 0 where
   pub after : Team
   pub here : new parallel ≡ Some after
-  pub first : old parallel ≡ None → IsFirst after
-  pub further : (team : Team) → old parallel ≡ Some team → HasJoined team after
+  pub first : old parallel ≡ None → IsFirst size after
+  pub further : (team : Team) → old parallel ≡ Some team → HasJoined size team after
   pub others : (other : ℕ) → other ≢ parallel → new other ≡ old other
 
 -- ---- what a record says, for each step
@@ -303,10 +362,17 @@ pub record JoinsTeam (parallel : ℕ) (old new : ℕ → Option Team) : Type 0 w
 abbrev pub BeginsInitial : ℕ → Record → Type 0
 BeginsInitial root r = begun_initial r.body ≡ Some root
 
--- it begins this member of the team of a parallel region
-abbrev pub Joins : ℕ → ℕ → Record → Type 0
-Joins root parallel r =
+-- it begins this member of the team of a parallel region, which has this size
+abbrev pub Joins : ℕ → ℕ → ℕ → Record → Type 0
+Joins root parallel size r =
     (m : Membership) × (joined r.body ≡ Some m) × (m.member ≡ root) × (m.parallel ≡ parallel)
+    × (m.actual ≡ size)
+
+-- a member that it begins finds fewer members of its team than the size that it names, and these name it too
+pub record FindsRoom (rs : List Record) (r : Record) : Type 0 where
+  pub fewer : (m : Membership) → joined r.body ≡ Some m → length (members rs m.parallel) < m.actual
+  pub same : (m e : Membership) → joined r.body ≡ Some m → Contains (members rs m.parallel) e
+      → e.actual ≡ m.actual
 
 -- it begins a barrier of the task
 abbrev pub BeginsBarrier : ℕ → Record → Type 0
@@ -330,6 +396,13 @@ abbrev pub TeamsFollow : (Record → Type 0) → (ℕ → Option Kin) → (ℕ �
 TeamsFollow says old teams new after =
     (rs : List Record) (r : Record) → says r → MayFollow rs r → IsWaitsOf rs old → AreTeamsOf rs old teams
     → AreTeamsBefore (rs ++ r ∷ []) (length rs) new after
+
+-- the same where it begins a member that finds room in its team
+abbrev pub TeamsJoin : ℕ → ℕ → ℕ → (ℕ → Option Kin) → (ℕ → Option Team) → (ℕ → Option Kin) → (ℕ → Option Team)
+    → Type 0
+TeamsJoin root parallel size old teams new after =
+    (rs : List Record) (r : Record) → Joins root parallel size r → MayFollow rs r → FindsRoom rs r
+    → IsWaitsOf rs old → AreTeamsOf rs old teams → AreTeamsBefore (rs ++ r ∷ []) (length rs) new after
 
 -- what the records left of teams is still so for them
 abbrev pub KeepsTeams : (ℕ → Option Kin) → (ℕ → Option Team) → (ℕ → Option Kin) → (ℕ → Option Team) → Type 0

@@ -10,6 +10,7 @@ use Rattle.ompt_events.specs.declared.names.Status.TheVariants.{TaskwaitComplete
 use Rattle.ompt_events.specs.declared.deps.Dep.{Dep}
 use Rattle.ompt_events.specs.Records.{forked, region_named, dependences, started, next_turn}
 use Rattle.ompt_events.specs.Causes.{IsForked}
+use Rattle.ompt_events.specs.Ends.{AreSameButForEnds}
 use Rattle.ompt_events.specs.Places.{at}
 use Rattle.callbacks.specs.Tasks.{TaskView, parent_of, is_running}
 use Rattle.online.specs.declared.regions.Regions.{Regions}
@@ -87,3 +88,7 @@ pub record IsWatchOf (rs : List Record) (w : Watch) : Type 0 where
   pub comes : EachRecord ComesAfter rs
   pub passes : EachRecord PassesAfter rs
   pub settled : EachRecord IsSettledAfter rs
+
+-- it is what these records leave, but for what ends of roots say of their teams
+abbrev pub HasWatched : List Record → Watch → Type 0
+HasWatched records w = (rs : List Record) × AreSameButForEnds records rs × IsWatchOf rs w

@@ -109,6 +109,16 @@ pub fn is_root(table: &Table, task: u64) -> bool
     }
 }
 
+/// Returns the parallel region of whose team the task is a member, if anything is kept of the task.
+pub fn team_in(table: &Table, task: u64) -> Option<u64>
+    ensures { (kin : Kin) → get nat_eq table.now task ≡ Some kin → result ≡ kin.team }
+{
+    match table.get(&task) {
+        Some(kin) => kin.team,
+        None => None,
+    }
+}
+
 /// Returns where a child stands that the task creates now, if anything is kept of the task.
 pub fn place_in(table: &Table, task: u64) -> Option<Place>
     ensures none { IsNone result → get nat_eq table.now task ≡ None }

@@ -5,7 +5,9 @@ ghost use Rattle.ompt_events.specs.Records.{made};
 ghost use Rattle.ompt_events.specs.Limits.{max_records};
 ghost use Rattle.callbacks.specs.Standing.{allows};
 ghost use Rattle.callbacks.specs.Logs.{IsLeft};
-ghost use Rattle.callbacks.specs.Tasks.{TaskView, parent_of, is_running};
+ghost use Rattle.ompt_events.specs.declared.records.Body.TheVariants.{ImplicitTask};
+ghost use Rattle.ompt_events.specs.declared.names.Endpoint.TheVariants.{End};
+ghost use Rattle.callbacks.specs.Tasks.{TaskView, parent_of, is_running, end_of_root};
 ghost use Rattle.online.specs.Tasks.{value_of};
 ghost use Rattle.online.specs.Replays.{IsReplayOf, IsNoted, IsNextOf, IsNextThere, IsCalled, IsAdvanced};
 
@@ -76,6 +78,17 @@ impl Replay {
         ensures { result ≡ option_and_then (λ t. parent_of t.origin) (value_of self.now.tasks task) }
     {
         self.tasks.get(task)?.parent()
+    }
+
+    /// Returns the size of the team of a root and its number there, with which a recorder ends it, if it is live.
+    pub(crate) fn place_in_team(&self, root: u64) -> Option<(u32, u32)>
+        ensures { IfSome result (λ place. (t : TaskView) × (value_of self.now.tasks root ≡ Some t)
+            × (end_of_root t 0 ≡ ImplicitTask End place.0 place.1 t.flags 0 t.id)) }
+    {
+        match self.tasks.get(root)?.end_of_root(0) {
+            Body::ImplicitTask { actual, index, .. } => Some((actual, index)),
+            _ => None,
+        }
     }
 
     /// Returns whether the task is live and runs.

@@ -1,7 +1,7 @@
 //! What is kept of a team for the ends of its barriers.
 ghost use Rattle.std.specs.Prelude.{◌≡◌, ◌≤◌, ◌<◌, IsTrue, IfOk, OnOk};
-ghost use Rattle.online.specs.Teams.{phase_in, PutsPhase, IsFirst, HasJoined, IsCreatedIn, IsSettledIn, CountsBegin};
-ghost use Rattle.online.specs.Teams.{EndsPhase, EndsPhases, IsSettledAt, KeepsPhases, HasEnded, HasBegunAll};
+ghost use Rattle.online.specs.Teams.{phase_in, PutsPhase, IsFirst, HasJoined, HasLeft, IsCreatedIn, IsSettledIn, CountsBegin};
+ghost use Rattle.online.specs.Teams.{EndsPhase, EndsPhases, IsSettledAt, KeepsPhases, HasEnded, HasBegunAll, IsTeamDone};
 
 use crate::phase::Phase;
 use std::alloc::{AllocError, Global};
@@ -15,6 +15,8 @@ pub struct Team {
     pub actual: u64,
     /// How many members have begun.
     pub joined: u64,
+    /// How many members have ended.
+    pub ended: u64,
     /// How many phases are over: those with smaller numbers.
     pub over: u64,
     /// From this length on all children created in them are settled.
@@ -27,11 +29,12 @@ pub struct Team {
 impl Team {
     /// Returns what is kept of a team of this size with its first member.
     pub fn new(alloc: Global, actual: u32) -> Self
-        ensures { IsFirst result }
+        ensures { IsFirst actual result }
     {
         Team {
             actual: actual as u64,
             joined: 1,
+            ended: 0,
             over: 0,
             greatest: 0,
             phases: HashMap::new(alloc),
@@ -40,10 +43,32 @@ impl Team {
 
     /// Counts a further member, by which the team has this size.
     pub fn join(&mut self, actual: u32)
-        ensures { HasJoined self.old self.new }
+        ensures { HasJoined actual self.old self.new }
     {
         self.actual = self.actual.max(actual as u64);
         self.joined = self.joined.saturating_add(1);
+    }
+
+    /// Counts a member that has ended.
+    pub fn leave(&mut self)
+        ensures { HasLeft self.old self.new }
+    {
+        self.ended = self.ended.saturating_add(1);
+    }
+
+    /// Returns true only if all members have begun, each has ended, and all have begun the barrier behind each phase
+    /// that is over: then no later record says anything of the team.
+    pub fn is_over(&self) -> bool
+        ensures { IsTrue result → IsTeamDone self.now }
+    {
+        let ended = self.ended;
+        if ended < self.actual {
+            return false;
+        }
+        if ended < self.joined {
+            return false;
+        }
+        self.has_begun_all()
     }
 
     /// Counts a child that a member creates in the phase. Returns false if the phase is over.

@@ -1,8 +1,8 @@
-//! What is kept of teams, by their parallel regions.
+//! What is kept of teams, by their parallel regions. A team is taken out when all is done there.
 ghost use Rattle.std.specs.Prelude.{◌≡◌, ◌<◌, IsTrue, IfOk, OnOk, nat_eq, ℕ, Some};
 ghost use Rattle.std.specs.HashMap.{get};
 ghost use Rattle.online.specs.declared.team.Team.{Team};
-ghost use Rattle.online.specs.Teams.{ChangesTeamOf, JoinsTeam, IsCreatedIn, IsSettledIn, CountsBegin, EndsIn, HasBegunAll};
+ghost use Rattle.online.specs.Teams.{ChangesTeam, ChangesTeamOf, JoinsTeam, LeavesTeam, HasLeft, IsCreatedIn, IsSettledIn, CountsBegin, EndsIn, HasBegunAll, IsTeamDone};
 
 use crate::team::Team;
 use std::alloc::{AllocError, Global};
@@ -13,7 +13,7 @@ pub type Teams = HashMap<u64, Team>;
 
 /// Counts a member of the team, by which it has this size.
 pub fn join(teams: &mut Teams, alloc: Global, parallel: u64, size: u32) -> Result<(), AllocError>
-    ensures { OnOk result (JoinsTeam parallel (get nat_eq teams.old) (get nat_eq teams.new)) }
+    ensures { OnOk result (JoinsTeam parallel size (get nat_eq teams.old) (get nat_eq teams.new)) }
 {
     if let Some(team) = teams.get_mut(&parallel) {
         team.join(size);
@@ -21,6 +21,31 @@ pub fn join(teams: &mut Teams, alloc: Global, parallel: u64, size: u32) -> Resul
     }
     let _ = teams.insert(parallel, Team::new(alloc, size))?;
     Ok(())
+}
+
+/// Counts a member of the team that has ended. Returns true only if all is done there.
+fn count_end(teams: &mut Teams, parallel: u64) -> bool
+    ensures changed { ChangesTeam HasLeft parallel (get nat_eq teams.old) (get nat_eq teams.new) }
+    ensures over { IsTrue result → (team : Team) × (get nat_eq teams.new parallel ≡ Some team) × IsTeamDone team }
+{
+    match teams.get_mut(&parallel) {
+        Some(team) => {
+            team.leave();
+            team.is_over()
+        }
+        None => false,
+    }
+}
+
+/// Counts a member of the team, where there is a team, that has ended, and takes the team out if all is done there.
+pub fn leave(teams: &mut Teams, parallel: Option<u64>)
+    ensures { LeavesTeam parallel (get nat_eq teams.old) (get nat_eq teams.new) }
+{
+    if let Some(region) = parallel {
+        if count_end(teams, region) {
+            let _ = teams.remove(&region);
+        }
+    }
 }
 
 /// Counts a child that a member of the team, where there is a team, creates in the phase. Returns false if the phase

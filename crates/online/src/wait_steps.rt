@@ -11,7 +11,7 @@ ghost use Rattle.ompt_events.specs.declared.names.Endpoint.TheVariants.{Begin};
 ghost use Rattle.ompt_events.specs.Records.{made, region};
 ghost use Rattle.ompt_events.specs.Regions.{is_barrier};
 ghost use Rattle.online.specs.Waits.{IsWaitsOf, MayFollow, IsCoverComplete};
-ghost use Rattle.online.specs.Teams.{AreTeamsOf};
+ghost use Rattle.online.specs.Teams.{AreTeamsOf, FindsRoom};
 ghost use Rattle.online.specs.Kept.{kept_by, teams_by};
 ghost use Rattle.online.specs.WaitSteps.{StepsBefore, TakesStep, TakesRecord, IsOfRegion};
 
@@ -24,15 +24,15 @@ impl Waits {
     /// Does the record's step, and returns true only if all that must be complete for a taskwait, taskgroup
     /// or barrier that ends there is complete below the length that the record names; for a barrier of a
     /// team also all that it may come to cover. Where it returns false, or fails, what is kept is of no use for
-    /// later records. Fails only when out of memory.
+    /// later records. A member of a team that begins there finds room in the team. Fails only when out of memory.
     pub fn take(&mut self, record: &Record) -> Result<bool, AllocError>
         ensures tasks { IfOk result (λ taken. IsTrue taken → (rs : List Record) → MayFollow rs «record».now
             → IsWaitsOf rs (kept_by self.old) → IsWaitsOf (rs ++ «record».now ∷ []) (kept_by self.new)) }
         ensures teams { IfOk result (λ taken. IsTrue taken → (rs : List Record) → MayFollow rs «record».now
-            → IsWaitsOf rs (kept_by self.old) → AreTeamsOf rs (kept_by self.old) (teams_by self.old)
+            → FindsRoom rs «record».now → IsWaitsOf rs (kept_by self.old) → AreTeamsOf rs (kept_by self.old) (teams_by self.old)
             → AreTeamsOf (rs ++ «record».now ∷ []) (kept_by self.new) (teams_by self.new)) }
         ensures complete { IfOk result (λ taken. IsTrue taken → (rs : List Record) → MayFollow rs «record».now
-            → IsWaitsOf rs (kept_by self.old) → AreTeamsOf rs (kept_by self.old) (teams_by self.old)
+            → FindsRoom rs «record».now → IsWaitsOf rs (kept_by self.old) → AreTeamsOf rs (kept_by self.old) (teams_by self.old)
             → IsCoverComplete rs «record».now) }
     {
         match record.body.region() {

@@ -4,15 +4,15 @@ ghost use Rattle.std.specs.HashMap.{get, hash_map_len};
 ghost use Rattle.ompt_events.specs.declared.records.Record.{Record};
 ghost use Rattle.online.specs.Waits.{IsWaitsOf, KeepsWaits, Follows, EndsRoot, CreatesTask, CompletesTask};
 ghost use Rattle.online.specs.Waits.{BeginsTaskgroup, EndsTaskgroup, EndsTaskwait, MayFollow, IsCoverComplete};
-ghost use Rattle.online.specs.Teams.{AreTeamsBefore, AreTeamsOf, AreBarriersBegun, HasBarrierEnded, KeepsTeams, TeamsFollow, BeginsInitial, Joins, BeginsBarrier, EndsBarrier};
+ghost use Rattle.online.specs.Teams.{AreTeamsBefore, AreTeamsOf, AreBarriersBegun, HasBarrierEnded, KeepsTeams, TeamsFollow, BeginsInitial, Joins, BeginsBarrier, EndsBarrier, TeamsJoin};
 ghost use Rattle.online.specs.Kept.{kept_by, teams_by};
 
 use crate::kin::Kin;
 use crate::kins::{
     Table, are_children_over, begin_barrier, begin_group, complete, complete_child, count_child,
-    end_group, is_family_over, is_root, is_settled, place_in, put, settle_child,
+    end_group, is_family_over, is_root, is_settled, place_in, put, settle_child, team_in,
 };
-use crate::teams::{Teams, begin_in, create_in, end_in, have_begun_all, join, settle_in};
+use crate::teams::{Teams, begin_in, create_in, end_in, have_begun_all, join, leave, settle_in};
 use std::alloc::{AllocError, Global};
 use std::collections::HashMap;
 
@@ -43,8 +43,8 @@ fn settle(table: &mut Table, teams: &mut Teams, task: u64)
 }
 
 /// What the ends of taskwaits, taskgroups and barriers need of the records so far. It is kept of the tasks that are
-/// not settled (of a task, or of a descendant, it is not known that it is complete), and of the teams. Where a step
-/// is refused for memory, what is kept is of no use for later records.
+/// not settled (of a task, or of a descendant, it is not known that it is complete), and of the teams of which some
+/// member may still do something. Where a step is refused for memory, what is kept is of no use for later records.
 #[derive(Drop)]
 pub struct Waits {
     table: Table,
@@ -73,10 +73,11 @@ impl Waits {
         put(&mut self.table, root, Kin::of_root(self.alloc, None))
     }
 
-    /// Notes the begin of an implicit task: a member of the team of the parallel region, which has this size.
+    /// Notes the begin of an implicit task: a member of the team of the parallel region, which has this size and room
+    /// for the member.
     pub(crate) fn join(&mut self, root: u64, parallel: u64, size: u32) -> Result<(), AllocError>
-        ensures tasks { OnOk result (Follows (Joins root parallel) (kept_by self.old) (kept_by self.new)) }
-        ensures teams { OnOk result (TeamsFollow (Joins root parallel) (kept_by self.old) (teams_by self.old) (kept_by self.new) (teams_by self.new)) }
+        ensures tasks { OnOk result (Follows (Joins root parallel size) (kept_by self.old) (kept_by self.new)) }
+        ensures teams { OnOk result (TeamsJoin root parallel size (kept_by self.old) (teams_by self.old) (kept_by self.new) (teams_by self.new)) }
     {
         put(
             &mut self.table,
@@ -86,12 +87,13 @@ impl Waits {
         join(&mut self.teams, self.alloc, parallel, size)
     }
 
-    /// Notes the end of an initial or implicit task.
+    /// Notes the end of an initial or implicit task. Where that was all for its team, nothing is kept of the team.
     pub(crate) fn end_root(&mut self, root: u64)
         ensures tasks { Follows (EndsRoot root) (kept_by self.old) (kept_by self.new) }
         ensures teams { TeamsFollow (EndsRoot root) (kept_by self.old) (teams_by self.old) (kept_by self.new) (teams_by self.new) }
     {
         if is_root(&self.table, root) {
+            leave(&mut self.teams, team_in(&self.table, root));
             let _ = complete(&mut self.table, root, 0);
             settle(&mut self.table, &mut self.teams, root);
         }

@@ -1,14 +1,15 @@
 //! The audit of records that come one after another.
-ghost use Rattle.std.specs.Prelude.{ℕ, List, Some, None, ◌≡◌, ◌++◌, ◌∷◌, [], IsTrue, IfOk};
+ghost use Rattle.std.specs.Prelude.{ℕ, List, Some, None, ◌≡◌, ◌++◌, ◌∷◌, [], IsTrue, IfOk, IfSome};
 ghost use Rattle.ompt_events.specs.declared.records.Record.{Record};
 ghost use Rattle.ompt_events.specs.declared.cause.Cause.{Cause};
 ghost use Rattle.ompt_events.specs.Causes.{HasCause};
 ghost use Rattle.ompt_events.specs.Completion.{IsCompleteAt};
+ghost use Rattle.ompt_events.specs.Ends.{ending_alone};
 ghost use Rattle.ompt_events.specs.Linearization.{IsLinearization, IsGreedy};
 ghost use Rattle.ompt_events.specs.Places.{places};
 ghost use Rattle.ompt_events.specs.Violations.{IsRequired};
 ghost use Rattle.scripts.specs.Scripts.{ended};
-ghost use Rattle.online.specs.Watches.{IsWatchOf, dependent_of, parent_in, MayList};
+ghost use Rattle.online.specs.Watches.{IsWatchOf, HasWatched, dependent_of, parent_in, MayList};
 
 use crate::items::Items;
 use crate::lengths::Lengths;
@@ -16,14 +17,14 @@ use crate::regions::Regions;
 use crate::replay::Replay;
 use crate::rosters::Rosters;
 use crate::waits::Waits;
-use ompt_events::{Body, Part, Record, Status, finish};
+use ompt_events::{Body, Endpoint, Part, Record, Status, finish};
 use std::alloc::{AllocError, Global};
 
 /// A test that records may fail.
 #[derive(Clone, Copy, Debug, PartialEq, Eq)]
 pub enum Test {
     /// Recorders that are given the calls of the records make them.
-    Calls,
+    Calls = 1,
     /// A parallel region begins once.
     Regions,
     /// The members of a team have numbers of their own below its size, and all name this size.
@@ -34,6 +35,8 @@ pub enum Test {
     Waits,
     /// Where a task starts, or a taskwait with dependences is complete, all its predecessors are complete.
     Predecessors,
+    /// The records end where they may, see [`Watch::may_end`].
+    End,
 }
 
 /// What is kept of the records so far.
@@ -51,7 +54,8 @@ impl Watch {
     /// Returns what no records leave, in a trace where regions may lie inside others or not. Fails only when out
     /// of memory.
     pub fn new(alloc: Global, nests: bool) -> Result<Watch, AllocError>
-        ensures { IfOk result (IsWatchOf []) }
+        ensures none { IfOk result (IsWatchOf []) }
+        ensures watched { IfOk result (HasWatched []) }
     {
         Ok(Watch {
             replay: Replay::new(alloc, nests)?,
@@ -64,9 +68,53 @@ impl Watch {
     }
 
     /// Takes one more record, and returns none, only if it passes the tests by those before it: with them it shows no
-    /// cause, and all is complete there that must be. Else returns the test that it fails; then what is kept is of no
-    /// use for later records. Fails only when out of memory.
+    /// cause, and all is complete there that must be. What the end of a root says of its team is not tested. Else
+    /// returns the test that it fails; then what is kept is of no use for later records. Fails only when out of memory.
     pub fn take(&mut self, record: &Record) -> Result<Option<Test>, AllocError>
+        ensures { IfOk result (λ failed. failed ≡ None → (records : List Record) → HasWatched records self.old
+            → HasWatched (records ++ «record».now ∷ []) self.new) }
+    {
+        match self.end_made(record) {
+            Some(made) => self.take_made(&made),
+            None => self.take_made(record),
+        }
+    }
+
+    /// Returns, of a record that ends a live root, the one that a recorder makes there: it says of the team what the
+    /// begin of the root says.
+    fn end_made(&self, record: &Record) -> Option<Record>
+        ensures { IfSome result (λ made. ending_alone «record».now ≡ ending_alone made) }
+    {
+        let Body::ImplicitTask {
+            endpoint: Endpoint::End,
+            flags,
+            parallel,
+            task,
+            ..
+        } = &record.body
+        else {
+            return None;
+        };
+        let (actual, index) = self.replay.place_in_team(*task)?;
+        Some(Record {
+            thread: record.thread,
+            nests: record.nests,
+            seq: record.seq,
+            seen: record.seen,
+            body: Body::ImplicitTask {
+                endpoint: Endpoint::End,
+                actual,
+                index,
+                flags: *flags,
+                parallel: *parallel,
+                task: *task,
+            },
+        })
+    }
+
+    /// Takes one more record, and returns none, only if it passes the tests; see [`Watch::take`]. What the end of a root
+    /// says of its team is what its begin says.
+    fn take_made(&mut self, record: &Record) -> Result<Option<Test>, AllocError>
         ensures { IfOk result (λ failed. failed ≡ None → (rs : List Record) → IsWatchOf rs self.old
             → IsWatchOf (rs ++ «record».now ∷ []) self.new) }
     {

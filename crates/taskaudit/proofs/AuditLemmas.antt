@@ -4,7 +4,7 @@ use Rattle.std.proofs.Common.{IfOk, IfErr, OnOk, take, refl, sym}
 use Rattle.std.specs.Io.KnownBytes.{Appends}
 use Rattle.ompt_events.specs.Traces.{TraceView}
 use Rattle.certificate.specs.declared.faults.WriteFault.TheVariants as write
-use Rattle.certificate.specs.Counts.{count_more}
+use Rattle.certificate.specs.Counts.{TakesTurns, count_more}
 use Rattle.certificate.specs.ReadingOn.{ReadsAhead}
 use Rattle.checker.specs.declared.verdict.CheckFault.{CheckFault}
 use Rattle.checker.specs.declared.verdict.CheckFault.TheVariants as check
@@ -13,7 +13,8 @@ use Rattle.checker.specs.declared.verdict.Verdict.TheVariants.{Yes, No}
 use Rattle.checker.specs.declared.verdict.Verdict.TheVariants as found
 use Rattle.checker.specs.Gate.{HaveAllPassed, HavePassedFor}
 use Rattle.taskaudit.specs.declared.work.AuditFault.{AuditFault}
-use Rattle.taskaudit.specs.declared.work.AuditFault.TheVariants.{Read, Write, Check, Call, Upgrade, Memory}
+use Rattle.taskaudit.specs.declared.work.AuditFault.TheVariants.{Read, Write, Check, Call, Upgrade}
+use Rattle.taskaudit.specs.declared.work.AuditFault.TheVariants.{Undecided, Memory}
 use Rattle.taskaudit.specs.declared.work.Outcome.{Outcome}
 use Rattle.taskaudit.specs.declared.work.Outcome.TheVariants.{Malformed}
 use Rattle.taskaudit.specs.Audits.{BreaksOff, IsJudged, IsOfCrew, IsWriteFault, Leaves, LeavesOn, Reports}
@@ -60,6 +61,7 @@ module _ (shown : Shown) (bytes old new : Option (List ℕ)) (trace : TraceView)
   leaves_by (Check f) h = absurd h
   leaves_by (Call line f) h = absurd h
   leaves_by (Upgrade line f) h = absurd h
+  leaves_by (Undecided line test) h = absurd h
   leaves_by Memory h = absurd h
 
   pub leaves_of : (r : Result Outcome AuditFault)
@@ -120,6 +122,7 @@ leaves_on shown workers may_refuse passed bytes old new trace verdict text judge
     of (Err (Check f)) h = absurd h
     of (Err (Call line f)) h = absurd h
     of (Err (Upgrade line f)) h = absurd h
+    of (Err (Undecided line test)) h = absurd h
     of (Err Memory) h = absurd h
 
 -- where a yes or a no is told the workers have passed the gate
@@ -131,23 +134,20 @@ passed_by passed workers (Yes order) (Ok outcome) have kind = λ other. have
 passed_by passed workers (No i why) (Ok outcome) have kind = λ other. have
 passed_by passed workers (found.Malformed i cause) (Ok outcome) have kind = λ other. absurd (other kind)
 
--- at a source that is not read nothing is met
-pub nothing_met : (agains breaks : ℕ) → (turns : ℕ) × ReadsAhead None 0 turns agains agains breaks breaks
+-- a source that is not read asks for no turn
+pub no_turns : (agains : ℕ) → TakesTurns None 0 0 agains agains
 unfolding count_more
-nothing_met agains breaks = (
-  0,
-  record {
-    met = None;
-    taken = record {
-      later = omega arith;
-      within = omega arith;
-      counted = refl;
-      spent = (λ told. cc, λ last. absurd (omega arith));
-    };
-    broken = refl;
-    told_after = refl;
-  },
-)
+no_turns agains = record {
+  later = omega arith;
+  within = omega arith;
+  counted = refl;
+  spent = (λ told. cc, λ last. absurd (omega arith));
+}
+
+-- and nothing is met there
+pub nothing_met : (agains breaks : ℕ) → (turns : ℕ) × ReadsAhead None 0 turns agains agains breaks breaks
+nothing_met agains breaks =
+    (0, record { met = None; taken = no_turns agains; broken = refl; told_after = refl })
 
 -- what ends with the writing reports no cause of reading
 pub no_read_cause : {X : Type 0} (part : ℕ → Type 0) (result : Result X AuditFault)
@@ -158,6 +158,7 @@ no_read_cause part (Err (Read f)) fault = absurd fault
 no_read_cause part (Err (Check f)) fault = refl
 no_read_cause part (Err (Call line f)) fault = refl
 no_read_cause part (Err (Upgrade line f)) fault = refl
+no_read_cause part (Err (Undecided line test)) fault = refl
 no_read_cause part (Err Memory) fault = refl
 
 -- nor is it a fault of the input
@@ -170,4 +171,5 @@ read_rightly part bytes left (Err (Read f)) fault = absurd fault
 read_rightly part bytes left (Err (Check f)) fault = tt
 read_rightly part bytes left (Err (Call line f)) fault = tt
 read_rightly part bytes left (Err (Upgrade line f)) fault = tt
+read_rightly part bytes left (Err (Undecided line test)) fault = tt
 read_rightly part bytes left (Err Memory) fault = tt

@@ -17,7 +17,7 @@ use Rattle.clap.specs.declared.parser.matches.Found.{Found}
 use Rattle.clap.proofs.ValueTestLemmas.{accepts-Accepts}
 use Rattle.clap.proofs.WalkLemmas.{one_text-rows}
 use Rattle.std.specs.Str.Parse.{ParsesUnsigned}
-use Rattle.taskaudit.specs.declared.work.Job.TheVariants.{Check, Record, Upgrade}
+use Rattle.taskaudit.specs.declared.work.Job.TheVariants.{Check, Record, Upgrade, Watch}
 use Rattle.clap.specs.ValueTests.{is_unsigned_in}
 use Rattle.clap.specs.Walk.{nothing_held, rows_after, stop_after, walk_from}
 use Rattle.clap.specs.Matches.{has_subcommand}
@@ -56,33 +56,40 @@ shows_version words (name, inr e) = ap (fault_of command_line) e
 abbrev own_fault : Shape → List Text → Kinds
 own_fault s rest = level_fault s [] nothing_held rest false []
 
+-- what the tests find, of these
+abbrev picked : {X : Type 0} → Bool → Bool → Bool → Bool → Bool → X → X → X → X → X → Option X
+picked first second third fourth fifth s t u v w =
+    cond first (Some s)
+    (cond second (Some t) (cond third (Some u) (cond fourth (Some v) (cond fifth (Some w) None))))
+
 -- what a subcommand comes to, where the tests say which one is named
-named_if : (first second third fourth : Bool) (s t u v : Shape) (rest : List Text)
+named_if : (first second third fourth fifth : Bool) (s t u v w : Shape) (rest : List Text)
     → s.name ≡ codes "check" → t.name ≡ codes "order" → u.name ≡ codes "record" → v.name ≡ codes "upgrade"
+    → w.name ≡ codes "watch"
     → (own_fault s rest ≡ []
     → is_some (check_in (rows_after s.rules [] rest)) ≡ true)
     → (own_fault v rest ≡ []
     → is_some (upgrade_to (one_of (codes "to") (rows_after v.rules [] rest))) ≡ true)
     → option_map_or (λ (it : Shape). own_fault it rest)
-    (cond first (Some s) (cond second (Some t) (cond third (Some u) (cond fourth (Some v) None)))) []
+    (picked first second third fourth fifth s t u v w) []
     ≡ []
     → is_some
-    (option_map (λ (it : Shape). rows_at it rest)
-    (cond first (Some s) (cond second (Some t) (cond third (Some u) (cond fourth (Some v) None)))))
-    ≡ true
+    (option_map (λ (it : Shape). rows_at it rest) (picked first second third fourth fifth s t u v w)) ≡ true
     → is_some
     (option_and_then job_named
-    (option_map (λ (it : Shape). rows_at it rest)
-    (cond first (Some s)
-    (cond second (Some t) (cond third (Some u) (cond fourth (Some v) None))))))
+    (option_map (λ (it : Shape). rows_at it rest) (picked first second third fourth fifth s t u v w)))
     ≡ true
-named_if true second third fourth s t u v rest check order recording upgrading fits fit passed e =
+named_if true _ _ _ _ s t u v w rest check order recording upgrading watch fits fit passed e =
     rw check (fits passed)
-named_if false true third fourth s t u v rest check order recording upgrading fits fit passed e = rw order
-named_if false false true fourth s t u v rest check order recording upgrading fits fit passed e = rw recording
-named_if false false false true s t u v rest check order recording upgrading fits fit passed e =
+named_if false true _ _ _ s t u v w rest check order recording upgrading watch fits fit passed e = rw order
+named_if false false true _ _ s t u v w rest check order recording upgrading watch fits fit passed e =
+    rw recording
+named_if false false false true _ s t u v w rest check order recording upgrading watch fits fit passed e =
     rw upgrading (fit passed)
-named_if false false false false s t u v rest check order recording upgrading fits fit passed e = cc
+named_if false false false false true s t u v w rest check order recording upgrading watch fits fit passed e =
+    rw watch
+named_if false false false false false s t u v w rest check order recording upgrading watch fits fit
+    passed e = cc
 
 -- values in their ranges name a check, or an upgrade
 check_named : (workers most : Option Text) (all : Bool)
@@ -106,7 +113,7 @@ names_at : (stop : Option (Text × List Text)) → entered_fault (built command_
 unfolding command_line
 names_at None passed e = cc
 names_at (Some (name, rest)) passed e =
-    named_if _ _ _ _ _ _ _ _ rest refl refl refl refl
+    named_if _ _ _ _ _ _ _ _ _ _ rest refl refl refl refl refl
     (λ own.
     check_named _ _ _
     (number_fits (codes "workers") 1 256 (omega arith) (omega arith) _ (
@@ -257,21 +264,23 @@ job_numbered : (o : Option (Text × List Row)) (job : Job) → option_and_then j
 job_numbered None job e = cc
 job_numbered (Some (name, rows)) job e =
     go (bytes_eq name (codes "check")) (bytes_eq name (codes "order")) (bytes_eq name (codes "record"))
-    (bytes_eq name (codes "upgrade")) e
+    (bytes_eq name (codes "upgrade")) (bytes_eq name (codes "watch")) e
   where
-    go : (check order recording upgrading : Bool)
+    go : (check order recording upgrading watch : Bool)
         → cond check (check_in rows)
         (cond order (Some (order_in rows))
-        (cond recording (Some Record) (cond upgrading (upgrade_to (one_of (codes "to") rows)) None)))
+        (cond recording (Some Record)
+        (cond upgrading (upgrade_to (one_of (codes "to") rows)) (cond watch (Some Watch) None))))
         ≡ Some job
         → HasItsNumber job
-    go true order recording upgrading named =
+    go true order recording upgrading watch named =
         check_numbered _ _ _ job (number_within 1 256 (one_of (codes "workers") rows)) named
-    go false true recording upgrading named = subst HasItsNumber (same_Some _ job named) tt
-    go false false true upgrading named = subst HasItsNumber (same_Some _ job named) tt
-    go false false false true named =
+    go false true recording upgrading watch named = subst HasItsNumber (same_Some _ job named) tt
+    go false false true upgrading watch named = subst HasItsNumber (same_Some _ job named) tt
+    go false false false true watch named =
         upgrade_numbered _ job (number_within 2 3 (one_of (codes "to") rows)) named
-    go false false false false named = cc
+    go false false false false true named = subst HasItsNumber (same_Some _ job named) tt
+    go false false false false false named = cc
 
 pub number_asked : (words : List Text) (job : Job) → AsksFor words job → HasItsNumber job
 number_asked words job asked = job_numbered (subcommand_of command_line words) job asked

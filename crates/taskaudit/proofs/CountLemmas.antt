@@ -1,8 +1,8 @@
 -- Counts of records, one record on.
-use Rattle.std.proofs.Common.{◌≡◌, ◌∙◌, ◌<◌, ◌+◌, ℕ, List, Bool, true, false, length, take, get_or, refl, sym}
-use Rattle.std.proofs.Common.{ap, arith, cond, Option, Some, None}
+use Rattle.std.proofs.Common.{◌≡◌, ◌∙◌, ◌<◌, ◌+◌, ℕ, List, Bool, true, false, length, take, get_or, refl}
+use Rattle.std.proofs.Common.{ap, arith, cond, Some, None}
 use Rattle.std.proofs.lemmas.List.Sums.{count_by_more_yes, count_by_more_no}
-use Rattle.std.proofs.lemmas.Option.{get_or_from_slice_get, slice_get_within}
+use Rattle.std.proofs.lemmas.Option.{get_or_from_slice_get}
 use Rattle.std.specs.Prelude.{count_by, is_some, option_and_then, slice_get}
 use Rattle.std.specs.Int.{from_bool}
 use Rattle.ompt_events.specs.declared.records.Record.{Record}

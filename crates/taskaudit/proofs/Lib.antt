@@ -11,3 +11,4 @@ mod OrderingLemmas
 mod FindingLemmas
 mod RecordingLemmas
 mod UpgradingLemmas
+mod WatchingLemmas

@@ -20,7 +20,8 @@ use Rattle.taskaudit.specs.declared.work.Printed.TheVariants.{Report, Findings, 
 use Rattle.taskaudit.specs.declared.work.Outcome.{Outcome}
 use Rattle.taskaudit.specs.declared.work.Outcome.TheVariants.{Yes}
 use Rattle.taskaudit.specs.declared.work.AuditFault.{AuditFault}
-use Rattle.taskaudit.specs.declared.work.AuditFault.TheVariants.{Read, Write, Check, Call, Upgrade, Memory}
+use Rattle.taskaudit.specs.declared.work.AuditFault.TheVariants.{Read, Write, Check, Call, Upgrade}
+use Rattle.taskaudit.specs.declared.work.AuditFault.TheVariants.{Undecided, Memory}
 use Rattle.taskaudit.specs.Headline.{IsSynchronised}
 use Rattle.taskaudit.specs.FindingTexts.{findings_text}
 use Rattle.taskaudit.specs.Orders.{in_order, order_lines}
@@ -95,13 +96,15 @@ IsWriteFault part (Write f) = (count : ℕ) × part count
 IsWriteFault part _ = ⊥
 
 -- what a fault leaves: a prefix of such a text where the sink failed, or memory ran out while it was written,
--- and else nothing. An audit on one thread starts no thread, makes no call of a script and upgrades nothing
+-- and else nothing. An audit on one thread starts no thread, makes no call of a script and upgrades nothing,
+-- and it decides each file
 abbrev pub Leaves : Shown → Option (List ℕ) → Option (List ℕ) → Option (List ℕ) → AuditFault → Type 0
 Leaves shown bytes old new (Write f) = BreaksOff shown bytes old new
 Leaves shown bytes old new (Check check.Memory) = Keeps old new
 Leaves shown bytes old new (Check f) = ⊥
 Leaves shown bytes old new (Call line f) = ⊥
 Leaves shown bytes old new (Upgrade line f) = ⊥
+Leaves shown bytes old new (Undecided line test) = ⊥
 Leaves shown bytes old new _ = Keeps old new
 
 -- no workers, or more than 256

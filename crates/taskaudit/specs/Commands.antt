@@ -9,7 +9,7 @@ use Rattle.clap.specs.ValueTests.{is_unsigned_in}
 use Rattle.clap.specs.declared.builder.action.ArgAction.TheVariants.{Set, SetTrue}
 use Rattle.clap.specs.declared.builder.value_parser.ValueParser.TheVariants.{Signed}
 use Rattle.taskaudit.specs.declared.work.Job.{Job}
-use Rattle.taskaudit.specs.declared.work.Job.TheVariants.{Check, Order, Record, Upgrade}
+use Rattle.taskaudit.specs.declared.work.Job.TheVariants.{Check, Order, Record, Upgrade, Watch}
 use Rattle.taskaudit.specs.declared.work.Input.{Input}
 use Rattle.taskaudit.specs.declared.work.Input.TheVariants.{Unnamed, Standard, Named}
 
@@ -70,7 +70,7 @@ order_app = with_rule (file_app (codes "order")) records_rule
 abbrev pub upgrade_app : App
 upgrade_app = with_rule (file_app (codes "upgrade")) version_rule
 
--- what clap reads of the command: it has a version, and wants a subcommand, of which there are four, each
+-- what clap reads of the command: it has a version, and wants a subcommand, of which there are five, each
 -- with a word for a file
 unfoldable pub command_line : App
 command_line = record {
@@ -80,7 +80,8 @@ command_line = record {
     subcommand_required = true;
     disable_help_subcommand = true;
   };
-  subs = check_app.top ∷ order_app.top ∷ (file_app (codes "record")).top ∷ upgrade_app.top ∷ [];
+  subs = check_app.top ∷ order_app.top ∷ (file_app (codes "record")).top ∷ upgrade_app.top
+      ∷ (file_app (codes "watch")).top ∷ [];
 }
 
 -- behind the name of the program stands what asks for the version, and nothing else
@@ -136,7 +137,8 @@ abbrev pub job_named : Text × List Row → Option Job
 job_named (name, rows) = if bytes_eq name (codes "check") then check_in rows
     else (if bytes_eq name (codes "order") then Some (order_in rows)
     else (if bytes_eq name (codes "record") then Some Record
-    else (if bytes_eq name (codes "upgrade") then upgrade_to (one_of (codes "to") rows) else None)))
+    else (if bytes_eq name (codes "upgrade") then upgrade_to (one_of (codes "to") rows)
+    else (if bytes_eq name (codes "watch") then Some Watch else None))))
 
 -- the words ask for the job
 abbrev pub AsksFor : List Text → Job → Type 0

@@ -1,7 +1,7 @@
 -- What is printed where a file that the words name is not read, to the byte.
 use Rattle.std.specs.Prelude.{ℕ, ◌++◌, List, codes}
 use Rattle.taskaudit.specs.declared.work.Job.{Job}
-use Rattle.taskaudit.specs.declared.work.Job.TheVariants.{Check, Order, Record, Upgrade}
+use Rattle.taskaudit.specs.declared.work.Job.TheVariants.{Check, Order, Record, Upgrade, Watch}
 use Rattle.taskaudit.specs.declared.work.OpenFault.{OpenFault}
 use Rattle.taskaudit.specs.declared.work.OpenFault.TheVariants.{Missing, Denied, Folder, Other}
 use Rattle.taskaudit.specs.declared.work.Packing.{Packing}
@@ -34,6 +34,7 @@ job_name (Check workers most) = codes "check"
 job_name (Order records) = codes "order"
 job_name Record = codes "record"
 job_name (Upgrade to) = codes "upgrade"
+job_name Watch = codes "watch"
 
 -- the file of this name is not opened
 abbrev pub unopened_line : List ℕ → OpenFault → List ℕ

@@ -12,7 +12,7 @@ use Rattle.taskaudit.specs.declared.work.AuditFault.TheVariants as fault
 use Rattle.taskaudit.specs.declared.work.Done.{Done}
 use Rattle.taskaudit.specs.declared.work.Done.TheVariants.{Judged, Written}
 use Rattle.taskaudit.specs.declared.work.Job.{Job}
-use Rattle.taskaudit.specs.declared.work.Job.TheVariants.{Check, Order, Record, Upgrade}
+use Rattle.taskaudit.specs.declared.work.Job.TheVariants.{Check, Order, Record, Upgrade, Watch}
 use Rattle.taskaudit.specs.declared.work.Refusal.{Refusal}
 use Rattle.taskaudit.specs.declared.work.Refusal.TheVariants.{NotText, Words, File, Audit}
 use Rattle.taskaudit.specs.declared.work.FileFault.TheVariants.{Unopened, Compressed}
@@ -27,6 +27,7 @@ use Rattle.taskaudit.specs.Reports.{fault_text_of}
 use Rattle.taskaudit.specs.Statuses.{exit_status_of}
 use Rattle.taskaudit.specs.Tellings.{Call, IsAwaited, IsTold, print, write}
 use Rattle.taskaudit.specs.Upgradings.{Upgrades, LeavesUpgrade, version_to}
+use Rattle.taskaudit.specs.Watchings.{Watches, LeavesWatch}
 
 -- how a run ends by how its job does
 abbrev pub ending_of : Result Done AuditFault → Result Done Refusal
@@ -41,6 +42,7 @@ Does (Order false) bytes old new (Judged outcome) = Reports (Prints shown.Order)
 Does (Order true) bytes old new (Judged outcome) = Reports WritesRecords bytes old new outcome
 Does Record bytes old new Written = Records bytes old new
 Does (Upgrade to) bytes old new Written = Upgrades (version_to to) bytes old new
+Does Watch bytes old new (Judged outcome) = Watches bytes old new outcome
 Does _ bytes old new _ = ⊥
 
 -- what the fault leaves of the job. A check by workers has as many as the words say, 1 to 256, and its gate
@@ -51,6 +53,7 @@ LeavesOfJob (Order false) bytes old new fault = Leaves (Prints shown.Order) byte
 LeavesOfJob (Order true) bytes old new fault = Leaves WritesRecords bytes old new fault
 LeavesOfJob Record bytes old new fault = LeavesRecording bytes old new fault
 LeavesOfJob (Upgrade to) bytes old new fault = LeavesUpgrade (version_to to) bytes old new fault
+LeavesOfJob Watch bytes old new fault = LeavesWatch bytes old new fault
 
 -- what the program has around it: the calls of the console, the files that were tried to open, the answers to
 -- whether standard input is a terminal, and the bytes that a file has left where they are known

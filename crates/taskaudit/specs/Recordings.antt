@@ -13,7 +13,8 @@ use Rattle.scripts.specs.Runs.{IsRunOf, IsRunFault}
 use Rattle.scripts.specs.declared.run_fault.RunFault.{RunFault}
 use Rattle.scripts.specs.declared.run_fault.RunFault.TheVariants as run
 use Rattle.taskaudit.specs.declared.work.AuditFault.{AuditFault}
-use Rattle.taskaudit.specs.declared.work.AuditFault.TheVariants.{Read, Write, Check, Call, Upgrade, Memory}
+use Rattle.taskaudit.specs.declared.work.AuditFault.TheVariants.{Read, Write, Check, Call, Upgrade}
+use Rattle.taskaudit.specs.declared.work.AuditFault.TheVariants.{Undecided, Memory}
 
 -- the bytes that were read, where they are known, are this script
 abbrev pub ReadsAs : Option (List ℕ) → ScriptView → Type 0
@@ -45,13 +46,14 @@ pub record IsRefusedAt (bytes : Option (List ℕ)) (line : ℕ) (fault : CallFau
   pub first : IsRunFault script (run.Call line fault)
 
 -- what a fault leaves: a prefix of that text where the sink failed, or memory ran out while it was written,
--- and else nothing. A recording checks and upgrades no trace
+-- and else nothing. A recording checks, watches and upgrades no trace
 abbrev pub LeavesRecording : Option (List ℕ) → Option (List ℕ) → Option (List ℕ) → AuditFault → Type 0
 LeavesRecording bytes old new (Write f) = BreaksOffRecording bytes old new
 LeavesRecording bytes old new (Call line f) = IsRefusedAt bytes line f × Keeps old new
 LeavesRecording bytes old new (Check check.Thread) = Keeps old new
 LeavesRecording bytes old new (Check f) = ⊥
 LeavesRecording bytes old new (Upgrade line f) = ⊥
+LeavesRecording bytes old new (Undecided line test) = ⊥
 LeavesRecording bytes old new _ = Keeps old new
 
 -- a fault of the input is the script's first one, or one of the source or of memory while the line was read;

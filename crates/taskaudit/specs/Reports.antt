@@ -23,6 +23,8 @@ use Rattle.certificate.specs.FaultNames.{write_fault_name, upgrade_fault_number,
 use Rattle.checker.specs.declared.verdict.CheckFault.TheVariants as check
 use Rattle.callbacks.specs.declared.fault.CallFault.{CallFault}
 use Rattle.callbacks.specs.declared.fault.CallFault.TheVariants as call
+use Rattle.online.specs.declared.watch.Test.{Test}
+use Rattle.online.specs.declared.watch.Test.TheVariants as test
 use Rattle.taskaudit.specs.declared.work.Outcome.{Outcome}
 use Rattle.taskaudit.specs.declared.work.Outcome.TheVariants as outcome
 use Rattle.taskaudit.specs.declared.work.AuditFault.{AuditFault}
@@ -140,6 +142,31 @@ not_upgraded_line line f =
     codes "not upgraded: line " ++ (decimal line
     ++ (codes ": " ++ (decimal (upgrade_fault_number f) ++ (codes " " ++ upgrade_fault_name f))))
 
+-- what the test of a watch is called in a report
+abbrev pub test_number : Test → ℕ
+test_number test.Calls = 1
+test_number test.Regions = 2
+test_number test.Teams = 3
+test_number test.Lengths = 4
+test_number test.Waits = 5
+test_number test.Predecessors = 6
+test_number test.End = 7
+
+abbrev pub test_name : Test → List ℕ
+test_name test.Calls = codes "Calls"
+test_name test.Regions = codes "Regions"
+test_name test.Teams = codes "Teams"
+test_name test.Lengths = codes "Lengths"
+test_name test.Waits = codes "Waits"
+test_name test.Predecessors = codes "Predecessors"
+test_name test.End = codes "End"
+
+-- a watch has no verdict: the record on this line, or the end of the file there, fails the test
+abbrev pub undecided_line : ℕ → Test → List ℕ
+undecided_line line test =
+    codes "undecided: line " ++ (decimal line
+    ++ (codes ": " ++ (decimal (test_number test) ++ (codes " " ++ test_name test))))
+
 abbrev pub fault_line : AuditFault → List ℕ
 fault_line (fault.Read f) = unreadable_line f.line f.cause
 fault_line (fault.Write f) = unwritten_line f
@@ -147,6 +174,7 @@ fault_line (fault.Check check.Memory) = no_memory_line
 fault_line (fault.Check f) = codes "no thread"
 fault_line (fault.Call line f) = refused_line line f
 fault_line (fault.Upgrade line f) = not_upgraded_line line f
+fault_line (fault.Undecided line test) = undecided_line line test
 fault_line fault.Memory = no_memory_line
 
 -- what is printed of a fault

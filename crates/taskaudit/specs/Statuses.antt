@@ -58,6 +58,7 @@ fault_status_of (fault.Write f) = write_status f
 fault_status_of (fault.Check f) = 5
 fault_status_of (fault.Call line f) = refused_status f
 fault_status_of (fault.Upgrade line f) = upgrade_status f
+fault_status_of (fault.Undecided line test) = 6
 fault_status_of fault.Memory = 5
 
 -- the command line names nothing to do: help or the version was asked for, memory ran out, or it is wrong

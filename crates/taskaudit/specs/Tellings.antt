@@ -11,7 +11,7 @@ use Rattle.taskaudit.specs.declared.work.Refusal.{Refusal}
 use Rattle.taskaudit.specs.declared.work.Refusal.TheVariants.{NotText, Words, File, Audit}
 use Rattle.taskaudit.specs.declared.work.FileFault.{FileFault}
 use Rattle.taskaudit.specs.declared.work.Job.{Job}
-use Rattle.taskaudit.specs.declared.work.Job.TheVariants.{Check, Order, Record, Upgrade}
+use Rattle.taskaudit.specs.declared.work.Job.TheVariants.{Check, Order, Record, Upgrade, Watch}
 use Rattle.taskaudit.specs.declared.version.TheConstants.{VERSION_TEXT}
 use Rattle.taskaudit.specs.FileFaults.{file_fault_text_of}
 use Rattle.taskaudit.specs.Reports.{fault_text_of}
@@ -77,6 +77,8 @@ reading_text_of Record =
     codes "taskaudit: reading a script from this terminal (Ctrl-D ends it); see taskaudit record --help\n"
 reading_text_of (Upgrade to) =
     codes "taskaudit: reading a trace from this terminal (Ctrl-D ends it); see taskaudit upgrade --help\n"
+reading_text_of Watch =
+    codes "taskaudit: reading a trace from this terminal (Ctrl-D ends it); see taskaudit watch --help\n"
 
 -- it was asked whether somebody sits at a terminal, and if so, that was told
 pub record IsAwaited (made : Call → Type 0) (sits : Bool → Type 0) (job : Job) : Type 0 where

@@ -10,7 +10,8 @@ use Rattle.certificate.specs.Upgrading.{IsUpgradedTo}
 use Rattle.certificate.specs.declared.faults.UpgradeFault.{UpgradeFault}
 use Rattle.certificate.specs.declared.faults.UpgradeFault.TheVariants as upgrade
 use Rattle.taskaudit.specs.declared.work.AuditFault.{AuditFault}
-use Rattle.taskaudit.specs.declared.work.AuditFault.TheVariants.{Read, Write, Check, Call, Upgrade, Memory}
+use Rattle.taskaudit.specs.declared.work.AuditFault.TheVariants.{Read, Write, Check, Call, Upgrade}
+use Rattle.taskaudit.specs.declared.work.AuditFault.TheVariants.{Undecided, Memory}
 
 -- the bytes that were read, where they are known, are a file for the trace
 abbrev pub AreFile : Option (List ℕ) → TraceView → Type 0
@@ -49,13 +50,14 @@ pub record IsMovedAt (bytes : Option (List ℕ)) (line : ℕ) (fault : UpgradeFa
   pub place : line ≡ at + 2
 
 -- what a fault leaves: a prefix of that text where the sink failed, or memory ran out while it was written,
--- and else nothing. An upgrade checks no trace and makes no call of a script
+-- and else nothing. An upgrade checks and watches no trace and makes no call of a script
 abbrev pub LeavesUpgrade : ℕ → Option (List ℕ) → Option (List ℕ) → Option (List ℕ) → AuditFault → Type 0
 LeavesUpgrade version bytes old new (Read f) = Keeps old new
 LeavesUpgrade version bytes old new (Write f) = BreaksOffUpgrade version bytes old new
 LeavesUpgrade version bytes old new (Check f) = ⊥
 LeavesUpgrade version bytes old new (Call line f) = ⊥
 LeavesUpgrade version bytes old new (Upgrade line f) = IsMovedAt bytes line f × Keeps old new
+LeavesUpgrade version bytes old new (Undecided line test) = ⊥
 LeavesUpgrade version bytes old new Memory = Keeps old new
 
 -- the fault that tells why a trace is not upgraded

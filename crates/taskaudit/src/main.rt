@@ -1,10 +1,10 @@
 //! Judges recorded runs of OpenMP tasks: whether each wait ended, and each dependent task started, only when
 //! it was allowed to. Read `audit` first (`auditing.rt`): its clause `reports` is the headline; then `record`
 //! (`record.rt`), which writes a trace, `upgrade` (`upgrading.rt`), which writes one with turns, and
-//! `order_records` (`ordering.rt`), which writes one with its records in another order. Then `run`
-//! (`program.rt`), from the words of the command line to the exit status, `tell` (`telling.rt`) and the texts
-//! (`report.rt`, `finding_texts.rt` for all findings, `order.rt` for an order, and `version.rt` for the
-//! version).
+//! `order_records` (`ordering.rt`), which writes one with its records in another order, and `watch`
+//! (`watching.rt`), which audits a file record by record. Then `run` (`program.rt`), from the words of the
+//! command line to the exit status, `tell` (`telling.rt`) and the texts (`report.rt`, `finding_texts.rt` for all
+//! findings, `order.rt` for an order, and `version.rt` for the version).
 #![tactic(auto)]
 
 mod auditing;
@@ -19,6 +19,7 @@ mod report;
 mod telling;
 mod upgrading;
 mod version;
+mod watching;
 mod words;
 mod work;
 

@@ -15,6 +15,7 @@ use crate::record::record;
 use crate::report::{NOT_REPORTED, WRONG_WORDS, fault_status, usage_status};
 use crate::telling::{Console, tell, tell_reading};
 use crate::upgrading::{upgrade, version_to};
+use crate::watching::watch;
 use crate::words::asked;
 use crate::work::{Asked, AuditFault, Done, FileFault, Input, Job, Outcome, Printed, Refusal};
 use certificate::{ReadFault, Sink, Source};
@@ -175,6 +176,7 @@ fn do_job<R: Threads + Wait + Sync, I: Source, O: Sink>(
         Job::Order { records: true } => order_records(alloc, source, sink).map(Done::Judged),
         Job::Record => record(rt, alloc, source, sink).map(|()| Done::Written),
         Job::Upgrade(to) => { upgrade(alloc, version_to(to), source, sink).map(|()| Done::Written) }
+        Job::Watch => watch(alloc, source, sink).map(Done::Judged),
     }
 }
 

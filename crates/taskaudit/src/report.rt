@@ -1,5 +1,6 @@
 //! What is printed of a verdict or a fault, and the exit statuses.
-ghost use Rattle.std.specs.Prelude.{◌≡◌, ◌<◌, IfOk, IfSome, IsOkUnless, Some, length, string_bytes};
+ghost use Rattle.std.specs.Prelude.{◌≡◌, ◌<◌, ◌++◌, ◌∷◌, [], List, IfOk, IfSome, IsOkUnless, Some, length, string_bytes};
+ghost use Rattle.ompt_events.specs.declared.records.Record.{Record};
 ghost use Rattle.ompt_events.specs.Places.{at as says_at};
 ghost use Rattle.ompt_events.specs.Records.{started, wait_completed};
 ghost use Rattle.clap.specs.Words.{kind_of};
@@ -12,7 +13,7 @@ use callbacks::CallFault;
 use certificate::{ReadCause, UpgradeFault, WriteFault};
 use checker::{Verdict, Why};
 use clap::error::ErrorKind;
-use ompt_events::{Cause, Trace};
+use ompt_events::{Cause, Record, Trace, finish};
 use packed_trace::PackedTrace;
 use std::alloc::{AllocError, Global};
 use std::fmt;
@@ -31,6 +32,9 @@ pub const WRONG_WORDS: u8 = 4;
 
 /// The exit status where memory ran out, or a thread could not be started.
 const NO_MEMORY: u8 = 5;
+
+/// The exit status where a watch has no verdict.
+const UNDECIDED: u8 = 6;
 
 /// Returns the report of a verdict on the trace: one line, with its line feed. Where the verdict names a place
 /// past the end of the trace, thread and seq are 0.
@@ -76,7 +80,14 @@ fn yes_text(alloc: Global, trace: &PackedTrace, counts: Counts) -> Result<String
     requires { AreCounts trace.now.records counts }
     ensures { IfOk result (λ text. string_bytes text ≡ yes_text trace.now.records) }
 {
-    let count = trace.len();
+    yes_line(alloc, trace.len(), counts)
+}
+
+/// Returns the report of a yes on so many records, which are counted so.
+pub(crate) fn yes_line(alloc: Global, count: usize, counts: Counts) -> Result<String, AllocError>
+    ensures { IfOk result (λ text. (rs : List Record) → length rs ≡ count → AreCounts rs counts
+        → string_bytes text ≡ yes_text rs) }
+{
     let Counts {
         entries,
         tasks,
@@ -92,6 +103,34 @@ pub(crate) struct Counts {
     entries: usize,
     tasks: usize,
     waits: usize,
+}
+
+impl Counts {
+    /// Returns the counts of no records.
+    pub(crate) fn none() -> Counts
+        ensures { AreCounts [] result }
+    {
+        Counts {
+            entries: 0,
+            tasks: 0,
+            waits: 0,
+        }
+    }
+
+    /// Returns the counts with one more record; none where a number would be too great.
+    pub(crate) fn with(self, record: &Record) -> Option<Counts>
+        ensures { IfSome result (λ counts. (rs : List Record) → AreCounts rs self
+            → AreCounts (rs ++ «record».now ∷ []) counts) }
+    {
+        let finishes = finish(record).is_some();
+        let creates = record.body.creation().is_some();
+        let ends_wait = record.body.ends_wait();
+        Some(Counts {
+            entries: self.entries.checked_add(usize::from(finishes))?,
+            tasks: self.tasks.checked_add(usize::from(creates))?,
+            waits: self.waits.checked_add(usize::from(ends_wait))?,
+        })
+    }
 }
 
 /// Returns the counts that are given, or makes them.
@@ -268,6 +307,7 @@ pub fn fault_status(fault: &AuditFault) -> u8
         AuditFault::Call { .. } => NO_MEMORY,
         AuditFault::Upgrade { fault, .. } if *fault != UpgradeFault::Memory => NOT_UPGRADED,
         AuditFault::Upgrade { .. } => NO_MEMORY,
+        AuditFault::Undecided { .. } => UNDECIDED,
         AuditFault::Check(_) | AuditFault::Memory => NO_MEMORY,
     }
 }

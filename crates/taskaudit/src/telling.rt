@@ -27,6 +27,10 @@ const RECORD_READS: &str =
 const UPGRADE_READS: &str =
     "taskaudit: reading a trace from this terminal (Ctrl-D ends it); see taskaudit upgrade --help\n";
 
+/// What `watch` tells at a terminal.
+const WATCH_READS: &str =
+    "taskaudit: reading a trace from this terminal (Ctrl-D ends it); see taskaudit watch --help\n";
+
 /// Where the program tells why there is no verdict or no trace.
 pub trait Console {
     ghost use Rattle.taskaudit.specs.Tellings.{Call, text_of, text_of_file, show, write, print};
@@ -176,5 +180,6 @@ fn reading_text(job: Job) -> &'static str
         Job::Order { .. } => ORDER_READS,
         Job::Record => RECORD_READS,
         Job::Upgrade(_) => UPGRADE_READS,
+        Job::Watch => WATCH_READS,
     }
 }

@@ -30,6 +30,9 @@ const RECORD_ABOUT: &str = "Runs a script with recorders, and writes the trace t
 /// What `upgrade` is for.
 const UPGRADE_ABOUT: &str = "Writes a trace file in a newer version of its format";
 
+/// What `watch` is for.
+const WATCH_ABOUT: &str = "Checks a trace file record by record, in the memory of its live tasks";
+
 /// What the word for the file is for.
 const TRACE_HELP: &str = "The trace file, or - for standard input; without it standard input";
 
@@ -72,7 +75,7 @@ const EXPLANATION: &str = r#"Answers of check, one line on standard output:
 
 Exit status: 0 yes, 1 no, 2 malformed, 3 input not read or answer not written,
   4 wrong arguments, 5 out of memory. Errors go to standard error.
-  Those of record and upgrade: in the help of each.
+  Those of record, upgrade and watch: in the help of each.
 
 Input: one JSON object a line, in UTF-8. The first line is
   {"format":"task-credit-audit","version":2}
@@ -176,6 +179,32 @@ Exit status: 0 written, 2 not upgraded, 3 input not read or trace not written,
 
 taskaudit check --help says what the input is."#;
 
+/// What stands below the options in the help of `watch`.
+const WATCH_EXPLANATION: &str =
+    r#"Takes the events one after another, as they were written, and keeps only what is
+alive: so it can read from a pipe while the program runs, and needs memory for the
+live tasks alone. The events must stand in an order in which they can have happened:
+so the recorder of ompt/ writes them, and taskaudit order --records FILE.
+
+Answer, one line on standard output:
+  yes: 6 records, 1 entries, 1 tasks, 1 waits
+      as check says it of the same file
+Else nothing is claimed: check decides. One line on standard error:
+  undecided: line 5: 5 Waits
+      the first event that fails a test of watch: 1 Calls, its thread or task cannot
+      make it there; 2 Regions, its parallel region began before; 3 Teams, its number
+      in the team is taken, or the team has another size; 4 Lengths, its seen does not
+      fit those before it; 5 Waits, a taskwait, taskgroup or barrier ends and a task
+      that it waits for is not complete; 6 Predecessors, a task starts and a
+      predecessor is not complete; 7 End, the file ends too early, past this line
+  unreadable: line 3: 6 Field
+      the first faulty line, and why it is none of a trace file
+
+Exit status: 0 yes, 3 input not read or answer not written, 4 wrong arguments,
+  5 out of memory, 6 undecided.
+
+taskaudit check --help says what the answer means and what the input is."#;
+
 /// What the command line asks for; its first word is the program's name.
 pub fn asked<'a, S: AsStr>(alloc: Global, words: &'a [S]) -> Result<Asked<'a>, Error>
     ensures job { IfOk result (λ asked. AsksFor (map S.text words.entry.now) asked.job) }
@@ -238,6 +267,7 @@ fn job_of(name: &str, found: &ArgMatches) -> Job
         "order" => order_of(found),
         "record" => Job::Record,
         "upgrade" => Job::Upgrade(version_found(found)),
+        "watch" => Job::Watch,
         _ => check_of(found),
     }
 }
@@ -322,6 +352,7 @@ fn command<'a>(alloc: Global) -> Result<Command<'a>, AllocError>
         SCRIPT_HELP,
     )?;
     let upgrade = upgrading(alloc)?;
+    let watch = reading(alloc, "watch", WATCH_ABOUT, WATCH_EXPLANATION, TRACE_HELP)?;
     Command::new(alloc, "taskaudit")
         .version(VERSION_TEXT)
         .about(ABOUT)
@@ -331,7 +362,8 @@ fn command<'a>(alloc: Global) -> Result<Command<'a>, AllocError>
         .subcommand(check)?
         .subcommand(order)?
         .subcommand(recording)?
-        .subcommand(upgrade)
+        .subcommand(upgrade)?
+        .subcommand(watch)
 }
 
 /// The subcommand `check`, with its options and its file.

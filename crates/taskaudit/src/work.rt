@@ -1,12 +1,13 @@
 //! What the program is asked to do, and what comes of it.
 ghost use Rattle.std.specs.Prelude.{◌≡◌};
-ghost use Rattle.taskaudit.specs.Reports.{call_fault_name, call_fault_number};
+ghost use Rattle.taskaudit.specs.Reports.{call_fault_name, call_fault_number, test_name, test_number};
 ghost use Rattle.taskaudit.specs.FileFaults.{open_fault_name, packing_name, unpacker, job_name};
 ghost use Rattle.taskaudit.specs.Statuses.{done_status, outcome_status};
 
 use callbacks::CallFault;
 use certificate::{ReadCause, ReadFault, UpgradeFault, WriteFault};
 use checker::{CheckFault, Verdict};
+use online::Test;
 use std::error::Error;
 use std::fmt;
 
@@ -29,6 +30,8 @@ pub enum Job {
     /// To write the trace in this version of its format, or in version 2 where none is given, unless it has that
     /// version or a newer one.
     Upgrade(Option<u32>),
+    /// To judge the trace record by record, in the memory of its live tasks.
+    Watch,
 }
 
 impl Job {
@@ -41,6 +44,7 @@ impl Job {
             Job::Order { .. } => "order",
             Job::Record => "record",
             Job::Upgrade(_) => "upgrade",
+            Job::Watch => "watch",
         }
     }
 }
@@ -160,6 +164,8 @@ pub enum AuditFault {
     Call { line: u32, fault: CallFault },
     /// The trace is not upgraded, by the record on this line.
     Upgrade { line: u32, fault: UpgradeFault },
+    /// A watch has no verdict: the record on this line, or the end of the file there, fails the test.
+    Undecided { line: u32, test: Test },
     /// Out of memory for the report, for the run of the script or for the upgrade.
     Memory,
 }
@@ -193,6 +199,11 @@ impl fmt::Display for AuditFault {
                 let name = fault.name();
                 write!(f, "not upgraded: line {line}: {number} {name}")
             }
+            AuditFault::Undecided { line, test } => {
+                let number = test_number(*test);
+                let name = test_name(*test);
+                write!(f, "undecided: line {line}: {number} {name}")
+            }
             AuditFault::Check(fault) if *fault != CheckFault::Memory => write!(f, "no thread"),
             _ => write!(f, "out of memory"),
         }
@@ -218,6 +229,28 @@ fn call_fault_name(fault: CallFault) -> &'static str
         CallFault::WrongState => "WrongState",
         CallFault::TooDeep => "TooDeep",
         CallFault::Overlap => "Overlap",
+    }
+}
+
+/// The number of the test in a report, from 1 to 7.
+fn test_number(test: Test) -> u8
+    ensures { result ≡ test_number test }
+{
+    test as u8
+}
+
+/// The name of the test in a report.
+fn test_name(test: Test) -> &'static str
+    ensures { result.now ≡ test_name test }
+{
+    match test {
+        Test::Calls => "Calls",
+        Test::Regions => "Regions",
+        Test::Teams => "Teams",
+        Test::Lengths => "Lengths",
+        Test::Waits => "Waits",
+        Test::Predecessors => "Predecessors",
+        Test::End => "End",
     }
 }
 

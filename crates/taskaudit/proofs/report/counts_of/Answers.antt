@@ -1,4 +1,4 @@
-use Rattle.std.proofs.Common.{◌≡◌, ◌<◌, ◌∙◌, arith, ap, length, sym}
+use Rattle.std.proofs.Common.{◌<◌, ◌∙◌, arith, ap, length, sym}
 use Rattle.std.specs.Prelude.{is_some}
 use Rattle.ompt_events.specs.Records.{finish, creation}
 use Rattle.ompt_events.specs.Regions.{ends_wait}

@@ -35,11 +35,14 @@ returns-clause-app c =
     let with_record =
     c.in_ok-subcommand-3.ensures.shape c.in_ok-recording.ensures.local
     ∙ ap₂ with_subcommand with_order c.in_ok-recording.ensures.shape in
-    IfOk-weaker c.subcommand-4.result _ _
+    let with_upgrade =
+    c.in_ok-subcommand-4.ensures.shape c.in_ok-upgrade.ensures.local
+    ∙ ap₂ with_subcommand with_record c.in_ok-upgrade.ensures.shape in
+    IfOk-weaker c.subcommand-5.result _ _
     (λ r h.
-    h.shape c.in_ok-upgrade.ensures.local
-    ∙ ap₂ with_subcommand with_record c.in_ok-upgrade.ensures.shape)
-    c.subcommand-4.ensures
+    h.shape c.in_ok-watch.ensures.local
+    ∙ ap₂ with_subcommand with_upgrade c.in_ok-watch.ensures.shape)
+    c.subcommand-5.ensures
 
 abbrev either : Bool → Bool → Bool
 either x y = x || y
@@ -52,5 +55,7 @@ returns-clause-local c =
     c.in_ok-subcommand-2.ensures.globals ∙ ap₂ either with_check c.in_ok-order.ensures.local in
     let with_record =
     c.in_ok-subcommand-3.ensures.globals ∙ ap₂ either with_order c.in_ok-recording.ensures.local in
-    IfOk-weaker c.subcommand-4.result _ _
-    (λ r h. h.globals ∙ ap₂ either with_record c.in_ok-upgrade.ensures.local) c.subcommand-4.ensures
+    let with_upgrade =
+    c.in_ok-subcommand-4.ensures.globals ∙ ap₂ either with_record c.in_ok-upgrade.ensures.local in
+    IfOk-weaker c.subcommand-5.result _ _
+    (λ r h. h.globals ∙ ap₂ either with_upgrade c.in_ok-watch.ensures.local) c.subcommand-5.ensures

@@ -12,6 +12,7 @@ returns-in_default c =
     (record {
       actual = team.actual;
       joined = team.joined;
+      ended = team.ended;
       over = team.over;
       greatest = team.greatest;
       phases = m;

@@ -2,9 +2,9 @@ use Rattle.std.proofs.Common.{◌≡◌, ◌∙◌, true, false, sym, ap}
 use Rattle.ompt_events.specs.Flags as flag
 use Rattle.ompt_events.specs.Flags.{has_flag}
 use Rattle.ompt_events.specs.Records.{region}
-use Rattle.online.specs.Teams.{BeginsInitial, Joins}
+use Rattle.online.specs.Teams.{BeginsInitial}
 use Rattle.online.proofs.TableLemmas.{ok_weaker}
-use Rattle.online.proofs.WaitStepLemmas.{root_on_ok, begins_initial, joins}
+use Rattle.online.proofs.WaitStepLemmas.{root_on_ok, join_on_ok, begins_initial, joins}
 use Rattle.online.proofs.waits.Waits.begin_root.Goals as goal
 
 pub returns-then-contains : goal.returns-then-contains
@@ -25,5 +25,5 @@ returns-else-contains c =
     ok_weaker c.join.result _ _
     (λ steps r index is.
     steps r (ap region is) (joins c.args.root c.args.parallel c.args.size index c.args.flags r off is))
-    (root_on_ok c.join.result (Joins c.args.root c.args.parallel) c.args.self.now c.join.new.self
+    (join_on_ok c.join.result c.args.root c.args.parallel c.args.size c.args.self.now c.join.new.self
     c.join.ensures.tasks c.join.ensures.teams)

@@ -1,31 +1,20 @@
-use Rattle.std.proofs.Common.{◌++◌, ◌∷◌, [], refl}
-use Rattle.online.proofs.WatchSteps.{watch_more}
+use Rattle.std.proofs.Common.{refl}
+use Rattle.std.proofs.lemmas.Result.{IfOk-weaker}
+use Rattle.online.proofs.WatchedLemmas.{watched_more}
 use Rattle.online.proofs.watch.Watch.take.Goals as goal
 
-pub returns : goal.returns
-returns c passed rs kept =
-    let r = c.args.«record».now in
-    c.forget.ensures (rs ++ r ∷ []) (watch_more rs c.args.self.now (record {
-      replay = c.take.new.self;
-      regions = c.take-2.new.self;
-      rosters = c.take-3.new.self;
-      lengths = c.take-4.new.self;
-      waits = c.take-5.new.self;
-      items = c.take-6.new.self;
-    }) r c.parent-parent.result kept (record {
-      parent_is = c.parent-parent.ensures;
-      may_list = c.may_list.ensures c.if-not-may_list.false;
-      nests = c.in_ok-take.ensures.kind c.if-not-branch.false;
-      replay = c.in_ok-take.ensures.made c.if-not-branch.false;
-      regions = λ before. c.in_ok-take-2.ensures c.if-not-branch-2.false before r refl;
-      rosters = c.in_ok-take-3.ensures c.if-not-branch-3.false;
-      lengths = c.in_ok-take-4.ensures c.if-not-branch-4.false;
-      waits = c.in_ok-take-5.ensures.tasks c.if-not-branch-5.false;
-      teams = c.in_ok-take-5.ensures.teams c.if-not-branch-5.false;
-      covers = c.in_ok-take-5.ensures.complete c.if-not-branch-5.false;
-      items = λ before may_be items. record {
-        kept = c.in_ok-take-6.ensures.kept c.if-not-branch-6.false before may_be items;
-        listed = c.in_ok-take-6.ensures.listed c.if-not-branch-6.false before may_be items;
-        complete = c.in_ok-take-6.ensures.complete c.if-not-branch-6.false before may_be items;
-      };
-    }))
+pub returns-in-Some : goal.returns-in-Some
+returns-in-Some c =
+    IfOk-weaker c.take_made.result _ _
+    (λ failed taken none.
+    watched_more c.args.self.now c.take_made.new.self c.args.«record».now c.in-Some.made c.in-Some.ensures
+    (taken none))
+    c.take_made.ensures
+
+pub returns-in-None : goal.returns-in-None
+returns-in-None c =
+    IfOk-weaker c.take_made-in-None.result _ _
+    (λ failed taken none.
+    watched_more c.args.self.now c.take_made-in-None.new.self c.args.«record».now c.args.«record».now refl
+    (taken none))
+    c.take_made-in-None.ensures

@@ -1,0 +1,21 @@
+-- A watch of records that say of teams at the ends of roots what they like.
+use Rattle.std.proofs.Common.{◌≡◌, ◌∙◌, List, [], ◌∷◌, ◌++◌, sym, ap}
+use Rattle.std.specs.Prelude.{map}
+use Rattle.std.proofs.lemmas.List.{map_push}
+use Rattle.ompt_events.specs.declared.records.Record.{Record}
+use Rattle.ompt_events.specs.Ends.{ending_alone, AreSameButForEnds}
+use Rattle.online.specs.declared.watch.Watch.{Watch}
+use Rattle.online.specs.Watches.{IsWatchOf, HasWatched}
+
+alike_more : (records rs : List Record) (r made : Record) → AreSameButForEnds records rs
+    → ending_alone r ≡ ending_alone made → AreSameButForEnds (records ++ r ∷ []) (rs ++ made ∷ [])
+alike_more records rs r made alike same =
+    map_push ending_alone records r ∙ ap (λ before. before ++ ending_alone r ∷ []) alike
+    ∙ ap (λ last. map ending_alone rs ++ last ∷ []) same ∙ sym (map_push ending_alone rs made)
+
+-- a record more is watched, as this one is made there
+pub watched_more : (old new : Watch) (r made : Record) → ending_alone r ≡ ending_alone made
+    → ((rs : List Record) → IsWatchOf rs old → IsWatchOf (rs ++ made ∷ []) new)
+    → (records : List Record) → HasWatched records old → HasWatched (records ++ r ∷ []) new
+watched_more old new r made same taken records (rs, alike, kept) =
+    (rs ++ made ∷ [], alike_more records rs r made alike same, taken rs kept)

@@ -1,0 +1,142 @@
+//! The audit of a file record by record, in the memory of what is alive.
+ghost use Rattle.std.specs.Prelude.{◌≡◌, ◌≢◌, ◌≤◌, ℕ, List, Option, ◌++◌, ◌∷◌, [], IfOk, IfErr, Err, true, IsTrue, length};
+ghost use Rattle.std.specs.Result.{result_map_both};
+ghost use Rattle.ompt_events.specs.Limits.{max_records};
+ghost use Rattle.certificate.specs.Counts.{breaks_written};
+ghost use Rattle.taskaudit.specs.Audits.{IsReadRightly};
+ghost use Rattle.taskaudit.specs.Devices.{TellsDevices, AsksForTurns, read_cause_of, written_of};
+ghost use Rattle.taskaudit.specs.Watchings.{CountsOne, IsTaken, IsWatching, LeavesWatch, Watches};
+
+use crate::report::{Counts, yes_line};
+use crate::work::{AuditFault, Outcome};
+use certificate::{Sink, Source, Taken, Taker, WriteFault, read_each, write_bytes};
+use ompt_events::Record;
+use online::{Test, Watch};
+use std::alloc::{AllocError, Global};
+
+/// What is kept of the records so far.
+#[derive(Drop)]
+pub(crate) struct Watching {
+    alloc: Global,
+    watch: Watch,
+    count: usize,
+    counts: Counts,
+    /// The test that the last record failed.
+    failed: Option<Test>,
+}
+
+/// Reads a trace file record by record, to its end or to the first record that fails a test of [`Watch`], and
+/// writes the report of a yes. Keeps no record. Where a record, or the end of the file, fails a test there is no
+/// verdict: then [`audit`](crate::auditing::audit) has one.
+pub fn watch<I: Source, O: Sink>(
+    alloc: Global,
+    source: &mut I,
+    sink: &mut O,
+) -> Result<Outcome, AuditFault>
+    ensures reports { IfOk result
+        (Watches (I.remaining source.old) (O.contents sink.old) (O.contents sink.new)) }
+    ensures leaves { IfErr result
+        (LeavesWatch (I.remaining source.old) (O.contents sink.old) (O.contents sink.new)) }
+    ensures unreadable { IfErr result (IsReadRightly (I.remaining source.old) (I.remaining source.new)) }
+
+    // A fault of the source or of the sink is told exactly where it occurs.
+    ensures devices { TellsDevices result
+        (record { turns = I.agains source.old; breaks = I.breaks source.old })
+        (record { turns = I.agains source.new; breaks = I.breaks source.new })
+        (record { turns = O.stalls sink.old; breaks = O.breaks sink.old })
+        (record { turns = O.stalls sink.new; breaks = O.breaks sink.new }) }
+    ensures memory { result ≢ Err (AuditFault.Write WriteFault.Memory) }
+{
+    let Ok(mut watching) = Watching::new(alloc) else {
+        return Err(AuditFault::Memory);
+    };
+    match read_each(alloc, source, &mut watching) {
+        Ok(Taken::All) => watching.conclude(sink),
+        Ok(Taken::Until(line)) => Err(watching.undecided(line)),
+        Err(fault) => Err(AuditFault::Read(fault)),
+    }
+}
+
+impl Watching {
+    /// Returns what no records leave. Fails only when out of memory.
+    fn new(alloc: Global) -> Result<Watching, AllocError>
+        ensures { IfOk result (IsWatching []) }
+    {
+        Ok(Watching {
+            alloc,
+            watch: Watch::new(alloc, false)?,
+            count: 0,
+            counts: Counts::none(),
+            failed: None,
+        })
+    }
+
+    /// Counts one more record, and returns true; false where there are too many to count.
+    fn count_one(&mut self, event: &Record) -> bool
+        ensures { IsTrue result → CountsOne self.old self.new event.now }
+    {
+        let Some(count) = self.count.checked_add(1) else {
+            return false;
+        };
+        let Some(counts) = self.counts.with(event) else {
+            return false;
+        };
+        self.count = count;
+        self.counts = counts;
+        true
+    }
+
+    /// Returns why there is no verdict, where the record on this line was not taken.
+    fn undecided(&self, line: u32) -> AuditFault
+        ensures { (test : Test) × (result ≡ AuditFault.Undecided line test) }
+    {
+        AuditFault::Undecided {
+            line,
+            test: self.failed.unwrap_or(Test::Calls),
+        }
+    }
+
+    /// Writes the report of a yes, where the records so far may be all.
+    fn conclude<O: Sink>(&self, sink: &mut O) -> Result<Outcome, AuditFault>
+        requires { self.now.count ≤ max_records }
+        ensures reports { IfOk result (λ outcome. (bytes : Option (List ℕ)) → IsTaken bytes self.now
+            → Watches bytes (O.contents sink.old) (O.contents sink.new) outcome) }
+        ensures leaves { IfErr result (λ fault. (bytes : Option (List ℕ)) → IsTaken bytes self.now
+            → LeavesWatch bytes (O.contents sink.old) (O.contents sink.new) fault) }
+        ensures unread { read_cause_of result ≡ None }
+        ensures rightly { (bytes left : Option (List ℕ)) → IfErr result (IsReadRightly bytes left) }
+        ensures breaks { O.breaks sink.new ≡ breaks_written (written_of result) (O.breaks sink.old) }
+        ensures turns { AsksForTurns result (O.stalls sink.old) (O.stalls sink.new) }
+        ensures memory { result ≢ Err (AuditFault.Write WriteFault.Memory) }
+    {
+        if !self.watch.may_end() {
+            return Err(AuditFault::Undecided {
+                line: self.count as u32 + 2,
+                test: Test::End,
+            });
+        }
+        let Ok(text) = yes_line(self.alloc, self.count, self.counts) else {
+            return Err(AuditFault::Memory);
+        };
+        match write_bytes(text.as_bytes(), sink) {
+            Ok(()) => Ok(Outcome::Yes),
+            Err(fault) => Err(AuditFault::Write(fault)),
+        }
+    }
+}
+
+impl Taker for Watching {
+    ghost has_taken = { λ version rs watching. IsWatching rs watching };
+
+    fn begin(&mut self, version: u32) -> Result<(), AllocError> {
+        self.watch = Watch::new(self.alloc, version >= 3)?;
+        self.count = 0;
+        self.counts = Counts::none();
+        Ok(())
+    }
+
+    fn take(&mut self, event: &Record) -> Result<bool, AllocError> {
+        self.failed = self.watch.take(event)?;
+        Ok(self.failed.is_none() && self.count_one(event))
+    }
+}
