@@ -8,8 +8,9 @@ from collections import namedtuple
 # A process that began to record: its number and its program, by its path; the file if it is whole, or why there is none.
 Process = namedtuple('Process', 'number program file reason')
 
-# The words of a list by which a process begins its file: one that it writes at the end, or while it runs.
-BEGINS = 'begin', 'live'
+# The words of a list by which a process begins its file: one that it writes at the end, or while it runs. The words by
+# which it ends it.
+BEGINS, ENDS = ('begin', 'live'), ('end', 'failed')
 # What the file beside one that was written while the process ran has behind the name (tools/recording.py).
 ENDING = '.end'
 # No line of a file is longer.
@@ -45,7 +46,7 @@ def wait_for_others(path):
     ends = time.monotonic() + SECONDS
     while time.monotonic() < ends:
         lines = lines_of(path)
-        done = {part for word, _, part, _ in lines if word != 'begin'}
+        done = {part for word, _, part, _ in lines if word in ENDS}
         if not any(is_running(number) for word, number, part, _ in lines if word in BEGINS and part not in done):
             return
         time.sleep(0.01)
