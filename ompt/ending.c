@@ -5,7 +5,6 @@
 
 #include <pthread.h>
 #include <signal.h>
-#include <stdlib.h>
 #include <sys/prctl.h>
 #include <sys/syscall.h>
 #include <time.h>
@@ -155,8 +154,7 @@ static void begin_again(void) {
 
 /* A program that taskaudit-run itself started ends with it, even where that is killed. */
 static void follow_parent(void) {
-    const char *parent = getenv("TASKAUDIT_PARENT");
-    if (parent && atol(parent) == getppid()) prctl(PR_SET_PDEATHSIG, SIGTERM);
+    if (settings.parent && settings.parent == getppid()) prctl(PR_SET_PDEATHSIG, SIGTERM);
 }
 
 void watch_ending(void) {

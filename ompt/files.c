@@ -6,11 +6,13 @@
 
 #include <errno.h>
 #include <fcntl.h>
+#include <signal.h>
 #include <stdio.h>
 #include <stdlib.h>
 #include <string.h>
 #include <sys/stat.h>
 #include <sys/syscall.h>
+#include <time.h>
 #include <unistd.h>
 
 #define DEFAULT_FILE "taskaudit.%n.%p.jsonl"
@@ -166,8 +168,8 @@ static bool make_part(void) {
     return false;
 }
 
-/* A live file is written under the name that it keeps: into a new file, or a pipe or device that is there. Beside it is,
-   at the end, a file with this behind the name. */
+/* A live file is written under the name that it keeps: into a new file, or a pipe or device that is there; or where
+   the run is watched, into a pipe that is made here. Beside it is, at the end, a file with this behind the name. */
 
 #define ENDING ".end"
 /* From this number on a program hardly has files of its own. */
@@ -199,23 +201,57 @@ static int open_pipe(const char *name) {
     return opened;
 }
 
-/* Makes a file of this name; where there is one already, with the number of the process behind it, or a count. */
-static int open_new(void) {
+/* Makes a file of its name, and opens it; or where the run is watched a pipe, for taskaudit-run alone. Returns -1 if
+   that cannot be, as where the name is taken. */
+static int make_named(void) {
+    return settings.is_watched ? mkfifo(whole_name, 0600)
+                               : open(whole_name, O_WRONLY | O_CREAT | O_EXCL | O_CLOEXEC, 0666);
+}
+
+/* The same; where the name is taken, with the number of the process behind it, or a count. */
+static int make_new(void) {
     struct text text = {whole_name, strlen(whole_name), sizeof whole_name};
-    int made = open(whole_name, O_WRONLY | O_CREAT | O_EXCL | O_CLOEXEC, 0666);
+    int made = make_named();
     if (made < 0 && errno == EEXIST && !names_process) {
         put_text(&text, ".");
         put_digits(&text, (uint64_t)getpid());
-        made = open(whole_name, O_WRONLY | O_CREAT | O_EXCL | O_CLOEXEC, 0666);
+        made = make_named();
     }
     size_t length = text.length;
     for (uint64_t count = 2; made < 0 && errno == EEXIST && count < MOST_NAMES; count++) {
         text.length = length;
         put_text(&text, ".");
         put_digits(&text, count);
-        made = open(whole_name, O_WRONLY | O_CREAT | O_EXCL | O_CLOEXEC, 0666);
+        made = make_named();
     }
     return made;
+}
+
+/* How often a process looks in any case whether taskaudit-run reads its pipe, since from within a container it may not
+   see that process; and how many nanoseconds lie between. In all some ten seconds. */
+enum { SURE_LOOKS = 10000, BETWEEN_LOOKS = 1000000 };
+
+/* Whether taskaudit-run still runs. */
+static bool is_run_there(void) {
+    return settings.parent > 0 && (kill(settings.parent, 0) == 0 || errno == EPERM);
+}
+
+/* Makes a pipe, tells taskaudit-run its name, and opens it when that reads it. Returns -1 if it cannot be made, or will
+   not be read: an open that blocks would do so for ever where taskaudit-run is killed. */
+static int open_watched(void) {
+    int opened = -1;
+    if (make_new() < 0) return -1;
+    tell_run("pipe", whole_name, program());
+    for (int looks = 1; (opened = open(whole_name, O_WRONLY | O_APPEND | O_NONBLOCK | O_CLOEXEC)) < 0; looks++) {
+        int why = errno;
+        if ((why != ENXIO && why != EINTR) || (looks > SURE_LOOKS && !is_run_there())) {
+            errno = why;
+            return -1;
+        }
+        nanosleep(&(struct timespec){.tv_nsec = BETWEEN_LOOKS}, NULL);
+    }
+    fcntl(opened, F_SETFL, O_APPEND);
+    return opened;
 }
 
 /* The file that says how the process ended. */
@@ -233,8 +269,8 @@ static bool has_ending(void) {
 }
 
 static bool make_live(void) {
-    int opened = open_pipe(whole_name);
-    if (opened < 0 && errno == 0) opened = open_new();
+    int opened = settings.is_watched ? open_watched() : open_pipe(whole_name);
+    if (opened < 0 && errno == 0) opened = make_new();
     if (opened < 0) return refuse(whole_name, strerror(errno));
     live = fcntl(opened, F_DUPFD_CLOEXEC, FIRST_DESCRIPTOR);
     if (live < 0) live = opened; /* so many are not allowed */
@@ -274,10 +310,13 @@ static bool take_setting(char *to, const char *name) {
     return true;
 }
 
-/* A name from this folder on is made one from the root, since the program may go elsewhere. */
+/* Takes the pattern of the name, of a file or of the pipes of a run that is watched. A name from this folder on is made
+   one from the root, since the program may go elsewhere. */
 static bool take_file(void) {
     char given[LONGEST_NAME];
-    if (!take_setting(given, "TASKAUDIT_FILE")) return false;
+    if (!take_setting(given, "TASKAUDIT_WATCH")) return false;
+    settings.is_watched = given[0] != 0;
+    if (!settings.is_watched && !take_setting(given, "TASKAUDIT_FILE")) return false;
     if (!given[0]) strcpy(given, DEFAULT_FILE);
     struct text text = {settings.file, 0, sizeof settings.file};
     if (given[0] != '/') {
@@ -310,9 +349,10 @@ static bool is_set(const char *name) {
 
 /* Takes from the environment what else the recorder is to do. */
 static bool take_wishes(void) {
-    const char *shaking = getenv("TASKAUDIT_SHAKE");
+    const char *shaking = getenv("TASKAUDIT_SHAKE"), *parent = getenv("TASKAUDIT_PARENT");
+    settings.parent = parent ? atoi(parent) : 0;
     settings.has_times = is_set("TASKAUDIT_TIME");
-    settings.is_live = is_set("TASKAUDIT_LIVE");
+    settings.is_live = settings.is_watched || is_set("TASKAUDIT_LIVE");
     if (settings.is_live && settings.version < NESTING_VERSION)
         return refuse("TASKAUDIT_LIVE", "a file that is written while the program runs has version 3, not the one that"
                                         " TASKAUDIT_VERSION names");

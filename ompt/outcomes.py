@@ -31,7 +31,7 @@ def outcome_of(asked, ended, came):
     word = next((it for it in FINDINGS if came[it]), None)
     if ended.is_late:
         return Outcome(LATE, word or TOO_LONG, f'the time limit of {asked.timeout:g} s ended it')
-    if ended.status:
+    if ended.status and not ended.is_early:
         return Outcome(ended.status, word or FAILED, "the program's own")
     if sum(came.values()) == came[LOST]:
         told = 'nothing was recorded' + ', which --allow-none allows' * asked.allow_none

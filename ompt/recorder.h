@@ -274,9 +274,11 @@ enum way { AS_IT_IS, YIELDS, DELAYS_AT_BEGINS, DELAYS_AT_ENDS, FEWER_CORES, WAYS
 struct settings {
     char file[LONGEST_NAME];    /* the pattern of the file's name, from the root */
     char run[LONGEST_NAME];     /* the list of a run's files that taskaudit-run reads, or nothing */
+    int parent;                 /* the process of taskaudit-run, or 0 */
     int version;
     bool has_times;             /* each record has a time */
     bool is_live;               /* the file is written while the program runs */
+    bool is_watched;            /* into a pipe that is made for taskaudit-run, of the name of the file */
     bool is_shaken;             /* in this way, by numbers that are drawn from the seed and the number of the run */
     enum way way;
     uint64_t seed, run_number;

@@ -101,7 +101,7 @@ class Repetition:
         """Takes the outcome of a run. Only of one that has to be looked at all is said, and the files are kept."""
         outcome, name = ran.outcome, f'run {number} of {self.asked.repeat}'
         if ran.shaken:
-            name += f' ({in_words(ran.shaken, ran.files)})'
+            name += f' ({ran.shaken})'
         self.log.say(f'{name}: {outcome.word}')
         self.counts[outcome.word] += 1
         if outcome.is_finding:

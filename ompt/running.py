@@ -3,24 +3,28 @@ and the program gets the terminal once it reads it."""
 import os
 import signal
 import subprocess
+import time
 
 # What ends a run: it is for the program, which then writes its file.
 PASSED_ON = (signal.SIGINT, signal.SIGTERM, signal.SIGHUP, signal.SIGQUIT)
 # How long after the time limit a program may take to end, in seconds, before it is killed.
 GRACE = 5
+# How long lies between looks, where there is something to do while the program runs, in seconds.
+BETWEEN = 0.01
 # Why a process behind others stops: it reads the terminal, or writes to it where that is set up so.
 WANTS_TERMINAL = (signal.SIGTTIN, signal.SIGTTOU)
 
 
 class Ended:
-    """How a program ended: its exit status, where a signal counts as 128 and its number, and that in words; whether it took
-    too long; whether this process was told to end; and whether all processes that it started were."""
+    """How a program ended: its exit status, where a signal counts as 128 and its number, and that in words; whether
+    this process was told to end; whether the program took too long, or was ended early; and whether all processes that
+    it started were told to end."""
 
-    def __init__(self, code, was_told, is_late):
+    def __init__(self, code, was_told, is_late, is_early):
         self.status = 128 - code if code < 0 else code
         self.words = f'by {name_of_signal(-code)}' if code < 0 else f'with status {code}'
-        self.was_told, self.is_late = was_told, is_late
-        self.are_all_told = was_told or is_late or -code in PASSED_ON
+        self.was_told, self.is_late, self.is_early = was_told, is_late, is_early
+        self.are_all_told = was_told or is_late or is_early or -code in PASSED_ON
 
 
 def name_of_signal(number):
@@ -45,7 +49,7 @@ class Run:
 
     def __init__(self, words, environment, seconds=None, kept=()):
         self.terminal, self.group, self.seconds = terminal(), os.getpgrp(), seconds
-        self.was_told = self.has_terminal = self.is_late = False
+        self.was_told = self.has_terminal = self.is_late = self.is_early = False
         self.before = {it: signal.getsignal(it) for it in (*PASSED_ON, signal.SIGTSTP, signal.SIGTTOU, signal.SIGALRM)}
         signal.pthread_sigmask(signal.SIG_BLOCK, PASSED_ON)
         try:
@@ -66,10 +70,25 @@ class Run:
             signal.setitimer(signal.ITIMER_REAL, self.seconds, GRACE)
 
     def end_late(self, _number, _frame):
-        """The time is over: the first time all of the program get time to write their files, the second time none."""
-        self.send(signal.SIGKILL if self.is_late else signal.SIGTERM)
+        """The time is over, first that of the run, and then that to end in."""
+        is_ending = self.is_late or self.is_early
+        self.is_late |= not self.is_early
+        self.end(signal.SIGKILL if is_ending else signal.SIGTERM)
+
+    def end_early(self):
+        """Ends the run for what was found, unless it is being ended already. Returns whether it does."""
+        if self.is_late or self.is_early:
+            return False
+        signal.signal(signal.SIGALRM, self.end_late)
+        signal.setitimer(signal.ITIMER_REAL, GRACE, GRACE)
+        self.is_early = True
+        self.end(signal.SIGTERM)
+        return True
+
+    def end(self, number):
+        """All of the program are to end, first in their own way, and then at once."""
+        self.send(number)
         self.send(signal.SIGCONT)
-        self.is_late = True
 
     def pass_on(self, number, _frame):
         self.was_told = True
@@ -82,10 +101,11 @@ class Run:
         except ProcessLookupError:
             pass
 
-    def wait(self):
-        """Waits for the program's end, and returns how it ended. From then on signals are for this process again."""
+    def wait(self, meanwhile=None):
+        """Waits for the program's end, and returns how it ended. From then on signals are for this process again.
+        `meanwhile` is called with this run again and again, where it is given."""
         try:
-            while os.WIFSTOPPED(status := os.waitpid(self.program.pid, os.WUNTRACED)[1]):
+            while os.WIFSTOPPED(status := self.next_status(meanwhile)):
                 self.on_stopped(os.WSTOPSIG(status))
         finally:
             signal.setitimer(signal.ITIMER_REAL, 0)
@@ -93,7 +113,16 @@ class Run:
             for number, handler in self.before.items():
                 signal.signal(number, handler)
         self.program.returncode = os.waitstatus_to_exitcode(status)
-        return Ended(self.program.returncode, self.was_told, self.is_late)
+        return Ended(self.program.returncode, self.was_told, self.is_late, self.is_early)
+
+    def next_status(self, meanwhile):
+        """Waits until the program stops or ends, and returns that."""
+        if not meanwhile:
+            return os.waitpid(self.program.pid, os.WUNTRACED)[1]
+        while not (found := os.waitpid(self.program.pid, os.WUNTRACED | os.WNOHANG))[0]:
+            meanwhile(self)
+            time.sleep(BETWEEN)
+        return found[1]
 
     def is_in_front(self, group):
         try:

@@ -5,12 +5,9 @@ import subprocess
 import time
 from collections import namedtuple
 
-# A process that began to record: its number and its program, by its path; the file if it is whole, or why there is none.
-Process = namedtuple('Process', 'number program file reason')
-
-# The words of a list by which a process begins its file: one that it writes at the end, or while it runs. The words by
-# which it ends it.
-BEGINS, ENDS = ('begin', 'live'), ('end', 'failed')
+# The words of a list by which a process begins its file: one that it writes at the end, or while it runs, or a pipe
+# that it opens when it is read. The words by which it ends it.
+BEGINS, ENDS = ('begin', 'live', 'pipe'), ('end', 'failed')
 # What the file beside one that was written while the process ran has behind the name (tools/recording.py).
 ENDING = '.end'
 # No line of a file is longer.
@@ -25,6 +22,19 @@ STATIC = ('the program is linked statically, with OpenMP in it, so no recorder c
 LACKING = re.compile(r"version [`']([^']+)' not found|undefined symbol: (\w+)")
 
 
+class Process(namedtuple('Process', 'number program file reason')):
+    """A process that began to record: its number and its program, by its path; the file if it is whole, or why there is
+    none."""
+
+    @property
+    def name(self):
+        return f'process {self.number} ({os.path.basename(self.program)})'
+
+    def prefix(self, is_only):
+        """What stands before a sentence on it, where it is not the only one."""
+        return '' if is_only else f'{self.name}: '
+
+
 def is_running(number):
     """Whether there is such a process that has not ended."""
     try:
@@ -34,11 +44,18 @@ def is_running(number):
         return False
 
 
+def lines_from(path, begin):
+    """The lines of the list from this byte on, each a word, the process and two texts; and where they end."""
+    with open(path, 'rb') as it:
+        it.seek(begin)
+        told = it.read()
+    whole = told[:told.rfind(b'\n') + 1]
+    lines = [line.split('\t') for line in whole.decode('utf-8', 'surrogateescape').split('\n')]
+    return [it for it in lines if len(it) == 4], begin + len(whole)
+
+
 def lines_of(path):
-    """The lines of the list: a word, the process and two texts."""
-    with open(path, encoding='utf-8', errors='surrogateescape') as it:
-        lines = [line.rstrip('\n').split('\t') for line in it]
-    return [it for it in lines if len(it) == 4]
+    return lines_from(path, 0)[0]
 
 
 def wait_for_others(path):

@@ -46,15 +46,18 @@ def preloaded(first):
 
 
 class Place:
-    """A folder that is there while a program runs, and the environment of that: the list of its files; and where the program
-    has to find them, LLVM's runtime, or the recorder that stands in front of GCC's."""
+    """A folder that is there while a program runs and is audited, and the environment of that: the list of its files;
+    if it is watched, the pipes of its processes; and where the program has to find them, LLVM's runtime, or the
+    recorder that stands in front of GCC's."""
 
-    def __init__(self, told, runtime, is_front=False):
+    def __init__(self, told, runtime, is_front=False, is_watched=False):
         self.folder = tempfile.TemporaryDirectory(prefix='taskaudit-', ignore_cleanup_errors=True)
         self.list = os.path.join(self.folder.name, 'list')
         self.told = {**told, 'TASKAUDIT_RUN': self.list}
         with open(self.list, 'wb'):
             pass
+        if is_watched:
+            self.told['TASKAUDIT_WATCH'] = os.path.join(self.folder.name.replace('%', '%%'), 'pipe.%p')
         if runtime:
             os.symlink(os.path.abspath(runtime), os.path.join(self.folder.name, 'libgomp.so.1'))
             path = filter(None, [self.folder.name, os.environ.get('LD_LIBRARY_PATH')])
@@ -81,12 +84,16 @@ class Surroundings:
     """What all runs of the program have."""
 
     def __init__(self, asked, program, log):
-        self.log = log
+        self.log, self.is_watched = log, asked.watch
         self.told = {**os.environ, 'OMP_TOOL': 'enabled', 'OMP_TOOL_LIBRARIES': library(RECORDER),
-                     'TASKAUDIT_FILE': from_the_root(asked.o), 'TASKAUDIT_PARENT': str(os.getpid())}
+                     'TASKAUDIT_PARENT': str(os.getpid())}
+        # that of a taskaudit-run around this one
+        self.told.pop('TASKAUDIT_WATCH', None)
         if asked.time:
             self.told['TASKAUDIT_TIME'] = '1'
-        if asked.live:
+        if not asked.watch:
+            self.told['TASKAUDIT_FILE'] = from_the_root(asked.o)
+        if asked.live and not asked.watch:
             self.told['TASKAUDIT_LIVE'] = '1'
         if os.environ.get('OMP_TOOL') == 'disabled':
             log.say('OMP_TOOL=disabled is set to enabled for this run')
@@ -130,4 +137,5 @@ class Surroundings:
 
     def place(self, shaking=None):
         """A place for one run, which is shaken so."""
-        return Place({**self.told, 'TASKAUDIT_SHAKE': shaking} if shaking else self.told, self.runtime, self.is_front)
+        told = {**self.told, 'TASKAUDIT_SHAKE': shaking} if shaking else self.told
+        return Place(told, self.runtime, self.is_front, self.is_watched)

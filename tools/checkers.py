@@ -6,6 +6,8 @@ TOP = os.path.dirname(os.path.dirname(os.path.realpath(__file__)))
 SCRIPT = os.path.join(TOP, 'taskaudit')
 PROGRAM = os.path.join(TOP, 'crates/taskaudit/out/taskaudit')
 SOURCES = ('src', 'specs')
+NOT_READY = ('there is no program to audit with: none is on the PATH, and that of this checkout is not built;'
+             ' `./taskaudit check FILE` builds it')
 
 
 class NoChecker(Exception):
@@ -53,12 +55,12 @@ def ready_checker():
         return [SCRIPT]
     if installed():
         return [installed()]
-    raise NoChecker('there is no program to audit with: none is on the PATH, and that of this checkout is not built;'
-                    ' `./taskaudit check FILE` builds it')
+    raise NoChecker(NOT_READY)
 
 
-def find_checker(is_unproved):
-    """The words that start the program that audits, and what is to be said of it before, or None."""
+def find_checker(is_unproved, is_at_once=False):
+    """The words that start the program that audits, and what is to be said of it before, or None. Where it has to audit
+    at once it must be built already."""
     is_checkout = os.path.exists(SCRIPT)
     if is_unproved and is_checkout and shutil.which('rt'):
         return [SCRIPT, '--unproved'], 'the audit is by a program that is compiled without proofs: NOT PROVED'
@@ -67,6 +69,8 @@ def find_checker(is_unproved):
     if installed():
         told = f'the program of this checkout is not built: {installed()} audits'
         return [installed()], told if is_checkout else None
+    if is_checkout and is_at_once:
+        raise NoChecker(NOT_READY)
     if is_checkout and shutil.which('rt'):
         return [SCRIPT], ('the program that audits is not built yet: behind this run it is proved and built, which takes'
                           ' 20 to 50 minutes; --unproved compiles it without proofs in two, --no-check only records')

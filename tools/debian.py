@@ -45,11 +45,11 @@ exec "${script%/*}/../lib/taskaudit/bin/taskaudit" "$@"
 SCRIPTS = {'taskaudit-run': 'ompt/taskaudit-run', 'taskaudit-explain': 'tools/explain', 'taskaudit-audit': 'tools/audit'}
 # What the scripts import and read.
 NEEDED = ('ompt/outcomes.py', 'ompt/repeating.py', 'ompt/running.py', 'ompt/runs.py', 'ompt/surroundings.py',
-          'tools/answers.py', 'tools/arrows.py', 'tools/checkers.py', 'tools/chosen.py', 'tools/contents.py',
-          'tools/explanations.py', 'tools/fields.py', 'tools/judging.py', 'tools/junit.py', 'tools/orders.py',
-          'tools/page.py', 'tools/progress.py', 'tools/recording.py', 'tools/sheet.py', 'tools/summary.py',
-          'tools/timeline.py', 'tools/traces.py', 'tools/walks.py', 'tools/texts/version', 'tests/model.py',
-          'docs/trace.schema.json')
+          'ompt/watching.py', 'tools/answers.py', 'tools/arrows.py', 'tools/checkers.py', 'tools/chosen.py',
+          'tools/contents.py', 'tools/explanations.py', 'tools/fields.py', 'tools/judging.py',
+          'tools/junit.py', 'tools/orders.py', 'tools/page.py', 'tools/progress.py', 'tools/recording.py',
+          'tools/sheet.py', 'tools/summary.py', 'tools/timeline.py', 'tools/traces.py', 'tools/walks.py',
+          'tools/texts/version', 'tests/model.py', 'docs/trace.schema.json')
 LIBRARIES = ('libtaskaudit_ompt.so', 'libtaskaudit_beside.so', 'libtaskaudit_gomp.so')
 # The scripts have match statements.
 OLDEST_PYTHON = (3, 10)

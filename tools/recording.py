@@ -49,8 +49,8 @@ PARTIAL = {
     'late_list': '{count} lists of dependences that did not follow the creation of their task are left out',
     'no_task': '{count} callbacks that named no task are left out',
     'unknown': '{count} callbacks or dependences of a kind that this recorder does not know are left out',
-    'signal': 'the program ended by a signal ({ending}); the file has what was recorded until then',
-    'open_region': 'the program ended inside a parallel region; the file has what was recorded until then',
+    'signal': 'the program ended by a signal ({ending}); {file} what was recorded until then',
+    'open_region': 'the program ended inside a parallel region; {file} what was recorded until then',
 }
 # In a live file there is no limit that a program reaches soon.
 PARTIAL_OF_LIVE = {
@@ -60,8 +60,10 @@ PARTIAL_OF_LIVE = {
 }
 # Behind the name of a live file is this in the name of the one that says how the process ended.
 ENDING = '.end'
-NOT_ENDED = ('it does not say how the process ended: that still runs, or it was killed, or left by _exit or exec; the file has'
-             ' what was written until then')
+NOT_ENDED = ('it does not say how the process ended: that still runs, or it was killed, or left by _exit or exec;'
+             ' {file} what was written until then')
+# Reasons that come with the end. Where the reader of a pipe left before, they say nothing of what was read.
+AT_THE_END = ('signal', 'open_region', 'unwritten')
 WAITED = ('threads waited {waits} times, {seconds:.3f} seconds in all, until older records were written: this changed the'
           ' timing of the program')
 UNTOLD = 'its header does not say how much was recorded: it was cut or changed, or an early recorder wrote it'
@@ -74,6 +76,7 @@ class Recording:
 
     def __init__(self, path):
         self.path, self.is_pipe = path, is_pipe(path)
+        self.has = 'the pipe had' if self.is_pipe else 'the file has'
         header = {'recorder': {'live': True}} if self.is_pipe else value_of(first_line(path))
         told = header.get('recorder')
         self.version, self.is_ours = header.get('version'), isinstance(told, dict)
@@ -88,7 +91,13 @@ class Recording:
         """A sentence on a note, with the code of the first time where that is known."""
         note = self.notes.get(name, {})
         place = f" (first at {note['codeptr']})" if 'codeptr' in note else ''
-        return text.format(count=note.get('count'), ending=self.told.get('ending')) + place
+        return text.format(count=note.get('count'), ending=self.told.get('ending'), file=self.has) + place
+
+    def counts(self):
+        """How many ends of waits and starts of dependent tasks there are, in words; none where it is not known."""
+        if 'waits' not in self.told:
+            return ''
+        return f"{self.told['waits']} ends of waits and {self.told.get('dependent_starts')} starts of dependent tasks"
 
     def extent(self):
         """How many records the header says that there are, and by which names not all of the run; or None where it does
@@ -101,22 +110,29 @@ class Recording:
             return None
         return sum(counts), [str(it) for it in partial]
 
-    def partial(self, count=None):
+    def is_unwritten(self):
+        """Whether it could not be written to the end, as where the reader of a pipe left."""
+        extent = self.extent()
+        return extent is not None and 'unwritten' in extent[1]
+
+    def partial(self, count=None, is_cut=False):
         """Why the file has a part of the run only, in sentences; none where it has the whole. `count` is how many records
-        are in the file, where that is known already."""
+        are in the file, where that is known already. Where the reader of a pipe left before its end (`is_cut`), only
+        what the part that was read may lack."""
         if not self.is_ours:
             return []
         extent = self.extent()
-        if not extent and self.is_pipe and self.path.startswith('/dev/'):
-            return []  # it has no place for a file beside it
+        if not extent and (is_cut or self.is_pipe and not has_ending(self.path)):
+            return []
         if not extent:
-            return [NOT_ENDED if self.is_live else UNTOLD]
+            return [self.sentence(NOT_ENDED, '') if self.is_live else UNTOLD]
         wanted, names = extent
         if count is None:
             count = wanted if self.is_pipe else self.count()
-        cut = [f'the file has {count:,} of {wanted:,} records: it was cut or changed'] * (count != wanted)
+        cut = [f'{self.has} {count:,} of {wanted:,} records: it was cut or changed'] * (count != wanted)
         sentences = PARTIAL_OF_LIVE if self.is_live else PARTIAL
-        return cut + [self.sentence(sentences[it], it) if it in sentences else it for it in names]
+        return cut + [self.sentence(sentences[it], it) if it in sentences else it for it in names
+                      if not (is_cut and it in AT_THE_END)]
 
     def count(self):
         """How many lines follow the header."""
@@ -141,6 +157,12 @@ def is_pipe(path):
         return not stat.S_ISREG(os.stat(path).st_mode)
     except OSError:
         return False
+
+
+def has_ending(path):
+    """Whether this pipe or device has a file beside it in the end: a pipe that is named by a number has none."""
+    is_number = path.startswith(('/dev/', '/proc/')) and os.path.islink(path)
+    return stat.S_ISFIFO(os.stat(path).st_mode) and not is_number
 
 
 def first_line(path):
