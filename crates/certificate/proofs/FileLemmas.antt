@@ -1,13 +1,14 @@
 -- How a file is read line by line, whatever its format.
-use Rattle.std.proofs.Common.{◌≡◌, ◌≢◌, ℕ, ◌+◌, ◌<◌, ◌≤◌, List, [], ◌∷◌, ◌++◌, length, take, drop, get_or}
-use Rattle.std.proofs.Common.{Some, None, Result, Ok, Err, true, false, cond, arith, refl, sym, ap, ◌∙◌}
-use Rattle.std.proofs.Common.{eqb-true, eq-eqb, suc, append-nil, length-append, length-take}
-use Rattle.std.specs.Prelude.{◌==◌}
+use Rattle.std.proofs.Common.{Bool, ◌≡◌, ◌≢◌, ℕ, ◌+◌, ◌<◌, ◌≤◌, List, [], ◌∷◌, ◌++◌, length, take, drop}
+use Rattle.std.proofs.Common.{get_or, Some, None, Result, Ok, Err, true, false, cond, arith, refl, sym, ap}
+use Rattle.std.proofs.Common.{◌∙◌}
+use Rattle.std.proofs.Common.{eqb-true, eq-eqb, suc, append-nil, length-append, length-take, inl, inr}
+use Rattle.std.specs.Prelude.{◌==◌, ◌⊎◌}
 use Rattle.lines.specs.declared.cause.ReadCause.{ReadCause}
 use Rattle.certificate.specs.declared.faults.ReadFault.{ReadFault}
 use Rattle.lines.specs.declared.cause.ReadCause.TheVariants.{LineTooLong}
 use Rattle.std.proofs.lemmas.List.{take-append-drop, get_or-take, drop_more}
-use Rattle.std.proofs.lemmas.List.Sums.{sum_by-cons}
+use Rattle.std.proofs.lemmas.List.Sums.{sum_by-append, sum_by-cons}
 use Rattle.lines.specs.Limits.{max_line}
 use Rattle.certificate.specs.Windows.{LineFeedAt}
 use Rattle.lines.proofs.JsonLemmas.{IsUnbroken}
@@ -133,6 +134,36 @@ line_feeds-lines (b ∷ bytes) =
     by_lines : (lines : List (List ℕ)) (rest : List ℕ) → length (with_byte b lines rest).lines ≡ length lines
     by_lines [] rest = refl
     by_lines (line ∷ lines) rest = refl
+
+-- ---- the lines of bytes that are put together
+
+-- the lines of bytes that end with a line feed, and of what comes after them
+cut-append : (front bytes : List ℕ)
+    → (cut ((front ++ (10 ∷ [])) ++ bytes)).lines ≡ (cut (front ++ (10 ∷ []))).lines ++ (cut bytes).lines
+unfolding cut
+cut-append [] bytes = refl
+cut-append (b ∷ front) bytes =
+    let ended = sum_by-append (λ (b : ℕ). cond (b == 10) 1 0) front (10 ∷ []) in
+    let some : 0 < length (cut (front ++ (10 ∷ []))).lines =
+    omega (arith, line_feeds-lines (front ++ (10 ∷ [])), ended) in
+    rw (cut-append front bytes)
+    (by (b == 10) (cut (front ++ (10 ∷ []))).lines (cut bytes).lines
+    (cut ((front ++ (10 ∷ [])) ++ bytes)).rest (cut (front ++ (10 ∷ []))).rest some)
+  where
+    by : (t : Bool) (first more : List (List ℕ)) (rest rest' : List ℕ) → 0 < length first
+        → (cond t (record { lines = [] ∷ (first ++ more); rest = rest })
+        (with_byte b (first ++ more) rest)).lines
+        ≡ (cond t (record { lines = [] ∷ first; rest = rest' }) (with_byte b first rest')).lines ++ more
+    by true first more rest rest' some = refl
+    by false [] more rest rest' some = absurd (omega arith)
+    by false (line ∷ first) more rest rest' some = refl
+
+-- the same where there may be none before
+pub cut-after : (before bytes : List ℕ) → (before ≡ []) ⊎ ((front : List ℕ) × (before ≡ front ++ 10 ∷ []))
+    → (cut (before ++ bytes)).lines ≡ (cut before).lines ++ (cut bytes).lines
+unfolding cut
+cut-after before bytes (inl none) = rw none refl
+cut-after before bytes (inr (front, is)) = rw is (cut-append front bytes)
 
 -- ---- the first fault
 

@@ -14,15 +14,17 @@ use Rattle.ompt_events.specs.Traces.{TraceView}
 use Rattle.lines.specs.declared.cause.ReadCause.{ReadCause}
 use Rattle.lines.specs.declared.cause.ReadCause.TheVariants.{LineTooLong, Unended, Header, Limit}
 use Rattle.certificate.specs.declared.faults.ReadFault.{ReadFault}
+use Rattle.lines.specs.Limits.{max_line}
 use Rattle.lines.specs.RecordLines.{line_says, header_says}
-use Rattle.certificate.specs.Formats.{cut, is_long, line_adds, end_adds, from_line, go_on, fault_in}
+use Rattle.certificate.specs.Formats.{Cut, cut, is_long, line_adds, end_adds, from_line, go_on, fault_in}
 use Rattle.certificate.specs.Files.{has_room, no_trace, with_record, with_header, text_adds, traces}
-use Rattle.certificate.specs.Files.{line_fault}
+use Rattle.certificate.specs.Files.{line_fault, trace_before}
 use Rattle.certificate.specs.Files.{file_says_to, trace_said, records_said, file_version, cause_in, trace_of}
 use Rattle.certificate.specs.Files.{StandsFor, IsFaultlessBefore, IsFirstFault}
-use Rattle.certificate.specs.Reading.{IsLineReached}
+use Rattle.certificate.specs.Reading.{IsFromLine, IsLineReached}
+use Rattle.lines.proofs.JsonLemmas.{IsUnbroken}
 use Rattle.lines.proofs.RecordLemmas.{ok_not_err}
-use Rattle.certificate.proofs.FileLemmas.{line_feeds-lines}
+use Rattle.certificate.proofs.FileLemmas.{cut-after, cut-line, line_feeds-lines}
 use Rattle.certificate.proofs.ReadingLemmas.{IsLineReached-within, IsLineReached-later}
 
 -- what is said from place k on
@@ -321,3 +323,54 @@ faultless-before newest n bytes reached = by_said (trace_said newest bytes) refl
         λ k below.
         (said_first newest bytes f e).earlier k
         (omega (arith, below, IsLineReached-later (traces newest) n bytes f reached e))
+
+-- ---- the trace of the lines that were read
+
+-- the lines before the one of number n, that line, and those after it
+lines_from : (n : ℕ) (bytes line rest : List ℕ) → IsUnbroken line
+    → (from : IsFromLine n bytes (line ++ (10 ∷ rest)))
+    → (cut bytes).lines ≡ (cut from.before).lines ++ (line ∷ (cut rest).lines)
+lines_from n bytes line rest all from =
+    ap (λ (whole : List ℕ). (cut whole).lines) from.parts
+    ∙ cut-after from.before (line ++ (10 ∷ rest)) from.lines.ended
+    ∙ ap (λ (c : Cut). (cut from.before).lines ++ c.lines) (cut-line line rest all)
+
+-- one line more stands for what it makes of the trace before it
+pub trace_before-line : (newest n k : ℕ) (bytes line rest : List ℕ) (before after : TraceView)
+    → IsUnbroken line → length line ≤ max_line → IsFromLine n bytes (line ++ (10 ∷ rest)) → n ≡ k + 1
+    → trace_before newest (cut bytes).lines k ≡ before → Ok after ≡ text_adds newest n before line
+    → trace_before newest (cut bytes).lines n ≡ after
+trace_before-line newest n k bytes line rest before after all short from next is adds =
+    ap (trace_of newest) with_line
+    ∙ sym (records_of-more newest done before after line (sym is ∙ ap (trace_of newest) first) line_is)
+  where
+    done : List (List ℕ)
+    done = (cut from.before).lines
+
+    count : k ≡ length done
+    count = omega (arith, line_feeds-lines from.before, from.lines.count, next)
+
+    whole : (cut bytes).lines ≡ done ++ (line ∷ (cut rest).lines)
+    whole = lines_from n bytes line rest all from
+
+    first : take k (cut bytes).lines ≡ done
+    first =
+        ap (take k) whole ∙ ap (λ (j : ℕ). take j (done ++ (line ∷ (cut rest).lines))) count
+        ∙ take-append_seam done (line ∷ (cut rest).lines)
+
+    one_more : n ≡ length (done ++ (line ∷ []))
+    one_more = omega (arith, next, count, length-append done (line ∷ []))
+
+    with_line : take n (cut bytes).lines ≡ done ++ (line ∷ [])
+    with_line =
+        ap (take n) (whole ∙ sym (append_assoc done (line ∷ []) (cut rest).lines))
+        ∙ ap (λ (j : ℕ). take j ((done ++ (line ∷ [])) ++ (cut rest).lines)) one_more
+        ∙ take-append_seam (done ++ (line ∷ [])) (cut rest).lines
+
+    not_long : is_long line ≡ false
+    not_long = grind arith
+
+    line_is : line_adds (traces newest) (length done + 1) before line ≡ Ok after
+    line_is =
+        let at : n ≡ length done + 1 = omega (arith, next, count) in
+        rw not_long (sym (subst (λ (j : ℕ). Ok after ≡ text_adds newest j before line) at adds))

@@ -96,7 +96,7 @@ IsBetween-keeps format (Some bytes) n kept w w' (Some l) None keeps now = absurd
 IsBetween-keeps format (Some bytes) n kept w w' (Some l) (Some l') keeps now = rw keeps now
 
 -- the first line of the window and what comes after it
-parts : (w l : List ℕ) (len : ℕ) → LineFeedAt w (Some len)
+pub parts : (w l : List ℕ) (len : ℕ) → LineFeedAt w (Some len)
     → w ++ l ≡ take len w ++ (10 ∷ (drop (len + 1) w ++ l))
 parts w l len at =
     ap (λ bytes. bytes ++ l) (window-parts w len at) ∙ append_assoc (take len w) (10 ∷ drop (len + 1) w) l

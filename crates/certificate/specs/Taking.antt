@@ -1,10 +1,10 @@
 -- What holds while the records of a file are taken one after another and none of them is kept.
-use Rattle.std.specs.Prelude.{ℕ, ◌≡◌, ◌⊎◌, ◌+◌, ◌*◌, ◌≤◌, ◌<◌, Bool, true, false, List, length}
+use Rattle.std.specs.Prelude.{ℕ, ◌≡◌, ◌⊎◌, ◌+◌, ◌*◌, ◌≤◌, Bool, true, false, List, length}
 use Rattle.std.specs.Prelude.{take, Option, Some, None, Result, Ok, Err, IfSome, is_some, nat_lt}
 use Rattle.std.specs.Prelude.{if◌then◌else◌}
 use Rattle.ompt_events.specs.declared.records.Record.{Record}
 use Rattle.ompt_events.specs.Records.{made}
-use Rattle.ompt_events.specs.Limits.{max_records, max_tasks}
+use Rattle.ompt_events.specs.Limits.{max_tasks}
 use Rattle.ompt_events.specs.Traces.{TraceView, IsTraceOf}
 use Rattle.lines.specs.Limits.{max_line}
 use Rattle.lines.specs.RecordLines.{IsSaid, header_says, line_says}
@@ -15,7 +15,8 @@ use Rattle.certificate.specs.declared.taking.Line.{Line}
 use Rattle.certificate.specs.declared.taking.Line.TheVariants.{Taken, Refused, End}
 use Rattle.certificate.specs.Limits.{newest_version}
 use Rattle.certificate.specs.Windows.{LineFeedAt, ShowsFault, ShowsLine}
-use Rattle.certificate.specs.Files.{file_says, traces, with_record, IsFaultlessBefore}
+use Rattle.certificate.specs.Formats.{cut}
+use Rattle.certificate.specs.Files.{file_says, trace_before, traces, with_record, IsFaultlessBefore}
 use Rattle.certificate.specs.Keeping.{IsTraceKept, and_record}
 use Rattle.certificate.specs.Reading.{IsBetween, IsToldRightly}
 
@@ -31,6 +32,22 @@ pub record HasTakenAll (known : Option (List ℕ)) (has_taken : ℕ → List Rec
 -- no line up to the one of number n has a fault, if the bytes are known
 abbrev pub IsFaultlessUpTo : ℕ → Option (List ℕ) → Type 0
 IsFaultlessUpTo n known = IfSome known (λ bytes. IsFaultlessBefore newest_version (n + 1) bytes)
+
+-- the first lines, this many, stand for the trace, if the bytes are known
+abbrev pub FirstLinesSay : ℕ → Option (List ℕ) → TraceView → Type 0
+FirstLinesSay count known trace =
+    IfSome known (λ bytes. trace_before newest_version (cut bytes).lines count ≡ trace)
+
+-- the records before the line of number n were taken, and then the record of this line was refused; if the
+-- bytes are known, the lines up to it stand for all these records
+pub record HasTakenUntil (n : ℕ) (known : Option (List ℕ))
+    (has_refused : ℕ → List Record → Record → Type 0) : Type 0 where
+  pub before : TraceView
+  pub event : Record
+  pub line : n ≡ length before.records + 2
+  pub lines : FirstLinesSay n known (and_record before event)
+  pub is_trace : IsTraceOf before.version (and_record before event).records
+  pub refused : has_refused before.version before.records event
 
 -- the fault is reported rightly, if the bytes are known
 abbrev pub IsToldOf : Option (List ℕ) → ReadCause → ℕ → Option (List ℕ) → Type 0
@@ -86,18 +103,15 @@ IsCounted (Ok _) trace r tally =
     (Ok (and_record trace r) ≡ with_record trace (Ok r)) × IsTallyOf (and_record trace r) tally
 IsCounted (Err cause) trace r tally = Err cause ≡ with_record trace (Ok r)
 
--- one record more is counted, where there was room
-pub record CountsOne (old new : Tally) : Type 0 where
-  pub one : new.records ≡ old.records + 1
-  pub room : old.records < max_records
-
 -- ---- between two lines
 
--- the records before the line of number n were counted and taken, and what they leave waits in the window
--- and the source
+-- the records before the line of number n, one in each line after the header, were counted and taken, and
+-- what they leave waits in the window and the source
 pub record IsTaking (known : Option (List ℕ)) (n : ℕ) (tally : Tally) (window : List ℕ)
     (left : Option (List ℕ)) (has_taken : ℕ → List Record → Type 0) : Type 0 where
   pub trace : TraceView
+  pub line : n ≡ length trace.records + 2
+  pub lines : FirstLinesSay (length trace.records + 1) known trace
   pub counted : IsTallyOf trace tally
   pub taken : has_taken trace.version trace.records
   pub between : IsBetween (traces newest_version) known n trace window left
@@ -109,18 +123,22 @@ IsBegun (Ok tally) known window left has_taken = IsTaking known 2 tally window l
 IsBegun (Err cause) known window left has_taken = IsToldOf known cause 1 left
 
 -- the record was counted with those of the trace and taken, or refused, or has no room, or memory ran out
-abbrev pub IsPassed : Result Bool ReadCause → TraceView → Record → Tally → (ℕ → List Record → Type 0) → Type 0
-IsPassed (Ok true) trace r tally has_taken =
+abbrev pub IsPassed : Result Bool ReadCause → TraceView → Record → Tally → (ℕ → List Record → Type 0)
+    → (ℕ → List Record → Record → Type 0) → Type 0
+IsPassed (Ok true) trace r tally has_taken has_refused =
     (Ok (and_record trace r) ≡ with_record trace (Ok r)) × IsTallyOf (and_record trace r) tally
     × has_taken (and_record trace r).version (and_record trace r).records
-IsPassed (Ok false) trace r tally has_taken = Ok (and_record trace r) ≡ with_record trace (Ok r)
-IsPassed (Err cause) trace r tally has_taken = IsSaid (Err cause) (with_record trace (Ok r))
+IsPassed (Ok false) trace r tally has_taken has_refused =
+    (Ok (and_record trace r) ≡ with_record trace (Ok r)) × IsTallyOf (and_record trace r) tally
+    × has_refused trace.version trace.records r
+IsPassed (Err cause) trace r tally has_taken has_refused = IsSaid (Err cause) (with_record trace (Ok r))
 
 -- after the line of number n: its record was taken or refused, there was none, or it has a fault
 abbrev pub IsTakenOn : Result Line ReadCause → Option (List ℕ) → ℕ → Tally → List ℕ → Option (List ℕ)
-    → (ℕ → List Record → Type 0) → Type 0
-IsTakenOn (Ok Taken) known n tally window left has_taken =
+    → (ℕ → List Record → Type 0) → (ℕ → List Record → Record → Type 0) → Type 0
+IsTakenOn (Ok Taken) known n tally window left has_taken has_refused =
     IsTaking known (n + 1) tally window left has_taken
-IsTakenOn (Ok Refused) known n tally window left has_taken = IsFaultlessUpTo n known
-IsTakenOn (Ok End) known n tally window left has_taken = HasTakenAll known has_taken
-IsTakenOn (Err cause) known n tally window left has_taken = IsToldOf known cause n left
+IsTakenOn (Ok Refused) known n tally window left has_taken has_refused =
+    IsFaultlessUpTo n known × HasTakenUntil n known has_refused
+IsTakenOn (Ok End) known n tally window left has_taken has_refused = HasTakenAll known has_taken
+IsTakenOn (Err cause) known n tally window left has_taken has_refused = IsToldOf known cause n left

@@ -1,13 +1,13 @@
 //! A trace file whose records are handed on one after another, and not kept.
-ghost use Rattle.std.specs.Prelude.{◌≡◌, ◌≢◌, ◌≤◌, ◌+◌, ℕ, List, Option, Ok, true, IfOk, IfErr};
+ghost use Rattle.std.specs.Prelude.{◌≡◌, ◌≤◌, ℕ, List, Option, Ok, IfErr};
 ghost use Rattle.std.specs.Result.{result_err};
 ghost use Rattle.ompt_events.specs.Traces.{FitsIn, TraceView};
 ghost use Rattle.certificate.specs.Counts.{TakesTurns, breaks_told, cause_told};
 ghost use Rattle.certificate.specs.Files.{no_trace, traces};
 ghost use Rattle.certificate.specs.Limits.{newest_version};
 ghost use Rattle.certificate.specs.Reading.{IsBetween, IsOfText};
-ghost use Rattle.certificate.specs.Taking.{CountsOne, HasTakenAll, IsBegun, IsFaultlessUpTo, IsPassed, IsTakenOn};
-ghost use Rattle.certificate.specs.Taking.{IsTaking, IsTallyOf, IsToldOf};
+ghost use Rattle.certificate.specs.Taking.{HasTakenAll, HasTakenUntil, IsBegun, IsFaultlessUpTo, IsPassed};
+ghost use Rattle.certificate.specs.Taking.{IsTakenOn, IsTaking, IsTallyOf, IsToldOf};
 
 use crate::device::{MAX_TURNS, Source};
 use crate::faults::ReadFault;
@@ -20,22 +20,27 @@ use std::alloc::{AllocError, Global};
 
 /// What takes the records of a file one after another.
 pub trait Taker {
-    ghost use Rattle.std.specs.Prelude.{◌≡◌, ◌≤◌, ◌++◌, ◌∷◌, [], ℕ, List, true, IfOk};
+    ghost use Rattle.std.specs.Prelude.{◌≡◌, ◌≤◌, ◌++◌, ◌∷◌, [], ℕ, List, true, false, IfOk};
     ghost use Rattle.ompt_events.specs.declared.records.Record.{Record};
 
     /// That these records were taken, of a file of this version.
     ghost has_taken: { ℕ → List Record → Self → Type 0 };
+
+    /// That these records were taken, of a file of this version, and then this one was refused.
+    ghost has_refused: { ℕ → List Record → Record → Self → Type 0 };
 
     /// Begins a file of this version. Fails only when out of memory.
     fn begin(&mut self, version: u32) -> Result<(), AllocError>
         requires { (1 ≤ version) × (version ≤ 3) }
         ensures { IfOk result (λ _. has_taken version [] self.new) };
 
-    /// Takes one more record. Returns false where it takes no more: then it need not have taken this one. Fails
-    /// only when out of memory.
+    /// Takes one more record and returns true, or refuses it and returns false: then it is given no more.
+    /// Fails only when out of memory.
     fn take(&mut self, event: &Record) -> Result<bool, AllocError>
-        ensures { IfOk result (λ taken. taken ≡ true → (version : ℕ) (rs : List Record)
-            → has_taken version rs self.old → has_taken version (rs ++ event.now ∷ []) self.new) };
+        ensures taken { IfOk result (λ taken. taken ≡ true → (version : ℕ) (rs : List Record)
+            → has_taken version rs self.old → has_taken version (rs ++ event.now ∷ []) self.new) }
+        ensures refused { IfOk result (λ taken. taken ≡ false → (version : ℕ) (rs : List Record)
+            → has_taken version rs self.old → has_refused version rs event.now self.new) };
 }
 
 /// How far a file was taken.
@@ -43,7 +48,7 @@ pub trait Taker {
 pub enum Taken {
     /// To its end.
     All,
-    /// Up to the line of this number, whose record was not taken.
+    /// Up to the line of this number, whose record the taker refused.
     Until(u32),
 }
 
@@ -51,15 +56,15 @@ pub enum Taken {
 pub(crate) enum Line {
     /// Its record was taken.
     Taken,
-    /// Its record was not taken.
+    /// Its record was refused.
     Refused,
     /// There was none.
     End,
 }
 
 /// Reads a trace file of a version up to [`NEWEST_VERSION`](crate::NEWEST_VERSION), and hands its records to
-/// the taker one after another, without keeping any, to the end of the file or the first record that is not
-/// taken. Fails as [`read`](crate::read) does. Has a buffer of 131,074 bytes, two of the longest lines with
+/// the taker one after another, without keeping any, to the end of the file or the first record that the taker
+/// refuses. Fails as [`read`](crate::read) does. Has a buffer of 131,074 bytes, two of the longest lines with
 /// their line feeds.
 pub fn read_each<S: Source, T: Taker>(
     alloc: Global,
@@ -70,9 +75,14 @@ pub fn read_each<S: Source, T: Taker>(
     ensures all { result ≡ Ok Taken.All → HasTakenAll (S.remaining source.old)
         (λ version rs. T.has_taken version rs taker.new) }
 
-    // Else no line has a fault up to the one whose record was not taken.
+    // Else no line has a fault up to the one whose record was refused.
     ensures until { (line : ℕ) → result ≡ Ok (Taken.Until line) → (2 ≤ line) × (line ≤ LAST_LINE)
         × IsFaultlessUpTo line (S.remaining source.old) }
+
+    // The taker took the records of the lines before that one, and then refused the record of that line.
+    ensures refused { (line : ℕ) → result ≡ Ok (Taken.Until line)
+        → HasTakenUntil line (S.remaining source.old)
+        (λ version rs event. T.has_refused version rs event taker.new) }
 
     // The first fault of the bytes, or a failure of the device or of memory.
     ensures fault { IfErr result
@@ -118,7 +128,6 @@ fn begin<S: Source, T: Taker>(
         reader.old.window (S.remaining source.old)
         → IsBegun result known reader.new.window (S.remaining source.new)
         (λ version rs. T.has_taken version rs taker.new) }
-    ensures none { IfOk result (λ tally. tally.records ≡ 0) }
     ensures turns { TakesTurns (result_err result) reader.old.turns reader.new.turns (S.agains source.old)
         (S.agains source.new) }
     ensures breaks { S.breaks source.new ≡ breaks_told (result_err result) (S.breaks source.old) }
@@ -141,11 +150,11 @@ fn take_line<S: Source, T: Taker>(
     taker: &mut T,
 ) -> Result<Line, ReadCause>
     requires { reader.old.turns ≤ MAX_TURNS }
-    ensures after { (known : Option (List ℕ)) (n : ℕ) → n ≢ 1 → IsTaking known n tally.old
+    ensures after { (known : Option (List ℕ)) (n : ℕ) → IsTaking known n tally.old
         reader.old.window (S.remaining source.old) (λ version rs. T.has_taken version rs taker.old)
         → IsTakenOn result known n tally.new reader.new.window (S.remaining source.new)
-        (λ version rs. T.has_taken version rs taker.new) }
-    ensures one { result ≡ Ok Line.Taken → CountsOne tally.old tally.new }
+        (λ version rs. T.has_taken version rs taker.new)
+        (λ version rs event. T.has_refused version rs event taker.new) }
     ensures turns { TakesTurns (result_err result) reader.old.turns reader.new.turns (S.agains source.old)
         (S.agains source.new) }
     ensures breaks { S.breaks source.new ≡ breaks_told (result_err result) (S.breaks source.old) }
@@ -167,8 +176,8 @@ fn take_line<S: Source, T: Taker>(
 fn pass<T: Taker>(event: &Record, tally: &mut Tally, taker: &mut T) -> Result<bool, ReadCause>
     ensures passed { (trace : TraceView) → IsTallyOf trace tally.old → FitsIn trace.version event.now
         → T.has_taken trace.version trace.records taker.old
-        → IsPassed result trace event.now tally.new (λ version rs. T.has_taken version rs taker.new) }
-    ensures one { result ≡ Ok true → CountsOne tally.old tally.new }
+        → IsPassed result trace event.now tally.new (λ version rs. T.has_taken version rs taker.new)
+        (λ version rs event. T.has_refused version rs event taker.new) }
     ensures fault { IfErr result IsOfText }
 {
     tally.count(event)?;

@@ -1,7 +1,7 @@
 //! The numbers of a trace whose records are not kept.
-ghost use Rattle.std.specs.Prelude.{◌≡◌, ◌≤◌, [], IfOk, IfErr};
+ghost use Rattle.std.specs.Prelude.{◌≡◌, ◌≤◌, [], IfErr};
 ghost use Rattle.ompt_events.specs.Traces.{FitsIn, TraceView};
-ghost use Rattle.certificate.specs.Taking.{CountsOne, IsCounted, IsTallyOf, tasks_with};
+ghost use Rattle.certificate.specs.Taking.{IsCounted, IsTallyOf, tasks_with};
 
 use lines::ReadCause;
 use ompt_events::{MAX_RECORDS, MAX_TASKS, Record};
@@ -18,8 +18,7 @@ impl Tally {
     /// Returns the tally of no records.
     pub(crate) fn new(version: u32) -> Tally
         requires { (1 ≤ version) × (version ≤ 3) }
-        ensures tally { IsTallyOf (record { version = version; records = [] }) result }
-        ensures none { result.records ≡ 0 }
+        ensures { IsTallyOf (record { version = version; records = [] }) result }
     {
         Tally {
             version,
@@ -32,7 +31,6 @@ impl Tally {
     pub(crate) fn count(&mut self, event: &Record) -> Result<(), ReadCause>
         ensures counted { (trace : TraceView) → IsTallyOf trace self.old → FitsIn trace.version event.now
             → IsCounted result trace event.now self.new }
-        ensures one { IfOk result (λ _. CountsOne self.old self.new) }
         ensures full { IfErr result (λ cause. cause ≡ ReadCause.Limit) }
     {
         if self.records >= MAX_RECORDS {

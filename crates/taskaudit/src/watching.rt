@@ -1,5 +1,5 @@
 //! The audit of a file record by record, in the memory of what is alive.
-ghost use Rattle.std.specs.Prelude.{◌≡◌, ◌≢◌, ◌≤◌, ℕ, List, Option, ◌++◌, ◌∷◌, [], IfOk, IfErr, Err, true, IsTrue, length};
+ghost use Rattle.std.specs.Prelude.{◌≡◌, ◌≢◌, ◌≤◌, ⊤, ℕ, List, Option, ◌++◌, ◌∷◌, [], IfOk, IfErr, Err, true, IsTrue, length};
 ghost use Rattle.std.specs.Result.{result_map_both};
 ghost use Rattle.ompt_events.specs.Limits.{max_records};
 ghost use Rattle.certificate.specs.Counts.{breaks_written};
@@ -127,6 +127,8 @@ impl Watching {
 
 impl Taker for Watching {
     ghost has_taken = { λ version rs watching. IsWatching rs watching };
+
+    ghost has_refused = { λ version rs event watching. ⊤ };
 
     fn begin(&mut self, version: u32) -> Result<(), AllocError> {
         self.watch = Watch::new(self.alloc, version >= 3)?;

@@ -1,12 +1,12 @@
-use Rattle.std.proofs.Common.{◌≡◌, ◌≤◌, arith, ap, ◌∙◌, subst, Some, Ok}
+use Rattle.std.proofs.Common.{◌≡◌, ◌≤◌, arith, ◌∙◌, subst, Some}
 use Rattle.lines.specs.declared.cause.ReadCause.TheVariants.{Memory}
 use Rattle.certificate.specs.Files.{traces}
-use Rattle.certificate.specs.Taking.{IsFaultlessUpTo}
+use Rattle.certificate.specs.Taking.{HasTakenUntil, IsFaultlessUpTo}
 use Rattle.certificate.specs.declared.reading.TheConstants.{LAST_LINE}
 use Rattle.certificate.specs.Limits.{newest_version}
 use Rattle.certificate.proofs.CountLemmas.{TakesTurns-none, TakesTurns-more, TakesTurns-other}
 use Rattle.certificate.proofs.ReadingLemmas.{IsBetween-start}
-use Rattle.certificate.proofs.TakingLemmas.{told-no_window, not_first}
+use Rattle.certificate.proofs.TakingLemmas.{told-no_window}
 use Rattle.certificate.proofs.taking.read_each.Goals as goal
 
 pub returns-in_default-clause-fault : goal.returns-in_default-clause-fault
@@ -27,8 +27,6 @@ lines-init g c =
           (IsBetween-start (traces newest_version) (g.S.Source.remaining c.args.source.now)));
       turns = rw c.in-Ok.ensures.1 at call.turns;
       breaks = call.breaks;
-      counted = call.none;
-      room = omega (arith, call.none);
     }
 
 pub returns-in-Ok-Refused-clause-until : goal.returns-in-Ok-Refused-clause-until
@@ -37,12 +35,25 @@ returns-in-Ok-Refused-clause-until g c =
     let now = c.lines.invariant in
     let low : 2 ≤ c.lines.line = now.low in
     let high : c.lines.line ≤ LAST_LINE = omega (arith, c.lines-test.true) in
-    let faultless : IsFaultlessUpTo c.lines.line known =
+    let until =
     rw c.in-Ok-Refused.field-0-is
-    at (c.in-Ok-Refused.ensures.after known c.lines.line (not_first c.lines.line low) now.taking) in
+    at (c.in-Ok-Refused.ensures.after known c.lines.line now.taking) in
     λ line same.
     let is : c.lines.line ≡ line = cc in
-    subst (λ n. (2 ≤ n) × (n ≤ LAST_LINE) × IsFaultlessUpTo n known) is (low, high, faultless)
+    subst (λ n. (2 ≤ n) × (n ≤ LAST_LINE) × IsFaultlessUpTo n known) is (low, high, until.0)
+
+pub returns-in-Ok-Refused-clause-refused : goal.returns-in-Ok-Refused-clause-refused
+returns-in-Ok-Refused-clause-refused g c =
+    let known = g.S.Source.remaining c.args.source.now in
+    let now = c.lines.invariant in
+    let until =
+    rw c.in-Ok-Refused.field-0-is
+    at (c.in-Ok-Refused.ensures.after known c.lines.line now.taking) in
+    λ line same.
+    let is : c.lines.line ≡ line = cc in
+    subst
+    (λ n. HasTakenUntil n known
+    (λ version rs event. g.T.Taker.has_refused version rs event c.take_line.new.taker)) is until.1
 
 pub returns-in-Ok-Refused-clause-turns : goal.returns-in-Ok-Refused-clause-turns
 returns-in-Ok-Refused-clause-turns g c = (
@@ -56,7 +67,7 @@ returns-in-Ok-End-clause-all g c =
     λ _.
     rw c.in-Ok-End.field-0-is
     at (c.in-Ok-End.ensures.after (g.S.Source.remaining c.args.source.now) c.lines.line
-    (not_first c.lines.line c.lines.invariant.low) c.lines.invariant.taking)
+    c.lines.invariant.taking)
 
 pub returns-in-Ok-End-clause-turns : goal.returns-in-Ok-End-clause-turns
 returns-in-Ok-End-clause-turns g c = (
@@ -76,16 +87,13 @@ pub lines-preserved : goal.lines-preserved
 lines-preserved g c =
     let now = c.lines.invariant in
     let call = c.in-Ok-Taken.ensures in
-    let one = call.one (ap Ok c.in-Ok-Taken.field-0-is) in
     record {
       low = omega arith;
       taking =
           rw c.in-Ok-Taken.field-0-is
           at (call.after (g.S.Source.remaining c.args.source.now) c.lines.line
-          (not_first c.lines.line now.low) now.taking);
+          now.taking);
       turns =
           TakesTurns-more _ 0 c.lines.reader.turns c.take_line.new.reader.turns _ _ _ now.turns call.turns;
       breaks = call.breaks ∙ now.breaks;
-      counted = omega (arith, one.one, now.counted, now.low);
-      room = omega (arith, one.one, one.room);
     }

@@ -1,6 +1,5 @@
-use Rattle.std.proofs.Common.{◌≡◌, ◌-◌, ◌≤◌}
+use Rattle.std.proofs.Common.{◌≡◌, ◌≤◌}
 use Rattle.std.specs.Prelude.{None}
-use Rattle.ompt_events.specs.Limits.{max_records}
 use Rattle.certificate.specs.Counts.{TakesTurns}
 use Rattle.certificate.specs.Taking.{IsTaking}
 use Rattle.certificate.proofs.taking.read_each.Given as goal
@@ -12,6 +11,4 @@ invariant-lines g l = record {
       (g.S.Source.remaining l.source) (λ version rs. g.T.Taker.has_taken version rs l.taker);
   turns : TakesTurns None 0 l.reader.turns (g.S.Source.agains l.fn.source) (g.S.Source.agains l.source);
   breaks : g.S.Source.breaks l.source ≡ g.S.Source.breaks l.fn.source;
-  counted : l.tally.records ≡ l.line - 2;
-  room : l.tally.records ≤ max_records;
 }

@@ -4,8 +4,8 @@ use Rattle.online.specs.declared.watch.Watch.{Watch}
 use Rattle.online.specs.Watches.{HasWatched}
 use Rattle.taskaudit.proofs.watching.WatchingTaker.take.Goals as goal
 
-pub returns-then-is_none : goal.returns-then-is_none
-returns-then-is_none c counted version rs has =
+pub returns-then-is_none-clause-taken : goal.returns-then-is_none-clause-taken
+returns-then-is_none-clause-taken c counted version rs has =
     let none : c.in_ok-self.field-0 ≡ None = search rules in
     let one = c.count_one.ensures counted in
     let r = c.args.event.now in
