@@ -10,12 +10,12 @@ use Rattle.ompt_events.specs.declared.records.Part.TheVariants.{Body, Event}
 use Rattle.ompt_events.specs.declared.names.SyncKind.{SyncKind}
 use Rattle.ompt_events.specs.declared.names.SyncKind.TheVariants.{Taskwait, Taskgroup}
 use Rattle.ompt_events.specs.declared.names.Endpoint.{Endpoint}
-use Rattle.ompt_events.specs.declared.names.Endpoint.TheVariants.{Begin, End}
+use Rattle.ompt_events.specs.declared.names.Endpoint.TheVariants.{Begin, End, BeginEnd}
 use Rattle.ompt_events.specs.declared.cause.Cause.TheVariants.{CreatedTwice}
 use Rattle.ompt_events.specs.Records.{made, creation, ended_root, finish, region}
 use Rattle.ompt_events.specs.Places.{at, seen_at}
 use Rattle.ompt_events.specs.Tree.{IsExplicit, IsCreatedAt, IsParent}
-use Rattle.ompt_events.specs.Regions.{open_regions, kind_at, EndsRegion}
+use Rattle.ompt_events.specs.Regions.{open_regions, kind_at, EndsRegion, is_barrier}
 use Rattle.ompt_events.specs.Completion.{IsFinished, IsCompleteAt}
 use Rattle.ompt_events.specs.Coverage.{IsFamily, Covers}
 use Rattle.ompt_events.specs.Causes.{IsMade, IsFreeOf}
@@ -192,6 +192,10 @@ pub record Removes (task : ℕ) (old new : ℕ → Option Kin) : Type 0 where
   pub here : new task ≡ None
   pub others : (other : ℕ) → other ≢ task → new other ≡ old other
 
+-- of each task the same is kept
+abbrev pub IsSameTable : (ℕ → Option Kin) → (ℕ → Option Kin) → Type 0
+IsSameTable old new = (task : ℕ) → new task ≡ old task
+
 -- whether anything is kept of the task
 abbrev pub is_kept : (ℕ → Option Kin) → ℕ → Bool
 is_kept table task = is_some (table task)
@@ -288,6 +292,12 @@ Follows says old new =
     → IsWaitsOf (rs ++ r ∷ []) new
 
 -- ---- what a record says, for each step
+
+-- it ends a region, and does not begin a barrier too
+abbrev pub ends_region : Option (ℕ × SyncKind × Endpoint) → Bool
+ends_region (Some (task, kind, End)) = true
+ends_region (Some (task, kind, BeginEnd)) = not (is_barrier kind)
+ends_region _ = false
 
 -- it ends the root
 abbrev pub EndsRoot : ℕ → Record → Type 0

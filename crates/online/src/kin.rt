@@ -191,7 +191,7 @@ impl Kin {
     /// in it is over at the length.
     pub fn end_group(&mut self, length: u64) -> bool
         ensures ended { IsTrue result → EndsGroup length self.old self.new }
-        ensures kept { result ≡ false → StaysKin self.old self.new }
+        ensures kept { result ≡ false → self.new ≡ self.old }
     {
         let Some(inner) = self.groups.last().copied() else {
             return false;

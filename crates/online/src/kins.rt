@@ -1,9 +1,9 @@
 //! What is kept of tasks, by their ids.
-ghost use Rattle.std.specs.Prelude.{◌≡◌, ◌≤◌, ◌≢◌, IsTrue, OnOk, OnErr, true, length, nat_eq, ℕ, None, Some, is_some, IsNone, IsSome, IfSome};
+ghost use Rattle.std.specs.Prelude.{◌≡◌, ◌≤◌, ◌≢◌, IsTrue, OnOk, OnErr, true, false, length, nat_eq, ℕ, None, Some, is_some, IsNone, IsSome, IfSome};
 ghost use Rattle.std.specs.HashMap.{get, hash_map_len, IsUnchanged};
 ghost use Rattle.online.specs.declared.kin.Kin.{Kin};
 ghost use Rattle.online.specs.Waits.{ChangesAt, ChangesAbove, CountsChild, CompletesChild, SettlesChild, Completes};
-ghost use Rattle.online.specs.Waits.{BeginsGroup, EndsGroup, Puts, StaysKin};
+ghost use Rattle.online.specs.Waits.{BeginsGroup, EndsGroup, IsSameTable, Puts, StaysKin};
 ghost use Rattle.online.specs.Teams.{IsPlaceIn, CountsBarrier};
 
 use crate::kin::{Kin, Place};
@@ -81,6 +81,7 @@ pub fn begin_group(table: &mut Table, task: u64) -> Result<(), AllocError>
 pub fn end_group(table: &mut Table, task: u64, length: u64) -> bool
     ensures found { IsTrue result → is_some (get nat_eq table.old task) ≡ true }
     ensures ended { IsTrue result → ChangesAt (EndsGroup length) task (get nat_eq table.old) (get nat_eq table.new) }
+    ensures kept { result ≡ false → IsSameTable (get nat_eq table.old) (get nat_eq table.new) }
 {
     match table.get_mut(&task) {
         Some(kin) => kin.end_group(length),

@@ -2,15 +2,15 @@
 //!
 //! `take` does the step of any record: `take_region` of one that begins or ends a region, `take_task` of any
 //! other.
-ghost use Rattle.std.specs.Prelude.{ℕ, ◌≡◌, ◌++◌, ◌∷◌, [], List, None, Some, true, IsTrue, IfOk, OnOk, length};
+ghost use Rattle.std.specs.Prelude.{ℕ, ◌≡◌, ◌≢◌, ◌++◌, ◌∷◌, [], List, None, Some, true, false, IsTrue, IfOk, OnOk, length};
 ghost use Rattle.ompt_events.specs.declared.records.Record.{Record};
 ghost use Rattle.ompt_events.specs.declared.records.Body.TheVariants.{ImplicitTask};
 ghost use Rattle.ompt_events.specs.declared.names.SyncKind.{SyncKind};
 ghost use Rattle.ompt_events.specs.declared.names.SyncKind.TheVariants.{Taskwait, Taskgroup};
-ghost use Rattle.ompt_events.specs.declared.names.Endpoint.TheVariants.{Begin};
+ghost use Rattle.ompt_events.specs.declared.names.Endpoint.TheVariants.{Begin, End, BeginEnd};
 ghost use Rattle.ompt_events.specs.Records.{made, region};
 ghost use Rattle.ompt_events.specs.Regions.{is_barrier};
-ghost use Rattle.online.specs.Waits.{IsWaitsOf, MayFollow, IsCoverComplete};
+ghost use Rattle.online.specs.Waits.{IsWaitsOf, MayFollow, IsCoverComplete, IsSameTable, ends_region};
 ghost use Rattle.online.specs.Teams.{AreTeamsOf, FindsRoom};
 ghost use Rattle.online.specs.Kept.{kept_by, teams_by};
 ghost use Rattle.online.specs.WaitSteps.{StepsBefore, TakesStep, TakesRecord, IsOfRegion};
@@ -24,7 +24,8 @@ impl Waits {
     /// Does the record's step, and returns true only if all that must be complete for a taskwait, taskgroup
     /// or barrier that ends there is complete below the length that the record names; for a barrier of a
     /// team also all that it may come to cover. Where it returns false, or fails, what is kept is of no use for
-    /// later records. A member of a team that begins there finds room in the team. Fails only when out of memory.
+    /// later records; where it returns false at the end of a region, what is kept of tasks is what it was. A member
+    /// of a team that begins there finds room in the team. Fails only when out of memory.
     pub fn take(&mut self, record: &Record) -> Result<bool, AllocError>
         ensures tasks { IfOk result (λ taken. IsTrue taken → (rs : List Record) → MayFollow rs «record».now
             → IsWaitsOf rs (kept_by self.old) → IsWaitsOf (rs ++ «record».now ∷ []) (kept_by self.new)) }
@@ -34,6 +35,8 @@ impl Waits {
         ensures complete { IfOk result (λ taken. IsTrue taken → (rs : List Record) → MayFollow rs «record».now
             → FindsRoom rs «record».now → IsWaitsOf rs (kept_by self.old) → AreTeamsOf rs (kept_by self.old) (teams_by self.old)
             → IsCoverComplete rs «record».now) }
+        ensures refused { IfOk result (λ taken. taken ≡ false → ends_region (region «record».now.body) ≡ true
+            → IsSameTable (kept_by self.old) (kept_by self.new)) }
     {
         match record.body.region() {
             Some((task, kind, endpoint)) => self.take_region(task, kind, endpoint, record.seen),
@@ -106,8 +109,10 @@ impl Waits {
         endpoint: Endpoint,
         seen: u32,
     ) -> Result<bool, AllocError>
-        ensures { IfOk result (λ taken. IsTrue taken → (r : Record) → IsOfRegion task kind endpoint seen r
+        ensures taken { IfOk result (λ taken. IsTrue taken → (r : Record) → IsOfRegion task kind endpoint seen r
             → TakesRecord r self.old self.new) }
+        ensures refused { IfOk result (λ taken. taken ≡ false → ends_region (Some (task, kind, endpoint)) ≡ true
+            → IsSameTable (kept_by self.old) (kept_by self.new)) }
     {
         match kind.wait_kind() {
             Some(WaitKind::Taskwait) => Ok(self.take_taskwait(task, endpoint, seen)),
@@ -135,8 +140,9 @@ impl Waits {
         endpoint: Endpoint,
         seen: u32,
     ) -> Result<bool, AllocError>
-        ensures { IfOk result (λ taken. IsTrue taken → (r : Record)
+        ensures taken { IfOk result (λ taken. IsTrue taken → (r : Record)
             → IsOfRegion task Taskgroup endpoint seen r → TakesRecord r self.old self.new) }
+        ensures refused { IfOk result (λ taken. taken ≡ false → IsSameTable (kept_by self.old) (kept_by self.new)) }
     {
         match endpoint {
             Endpoint::Begin => {
@@ -150,8 +156,10 @@ impl Waits {
 
     /// The same of a barrier. Its end is noted behind the step.
     fn take_barrier(&mut self, task: u64, endpoint: Endpoint, seen: u32) -> Result<bool, AllocError>
-        ensures { IfOk result (λ taken. IsTrue taken → (r : Record) (kind : SyncKind) → is_barrier kind ≡ true
+        ensures taken { IfOk result (λ taken. IsTrue taken → (r : Record) (kind : SyncKind) → is_barrier kind ≡ true
             → IsOfRegion task kind endpoint seen r → TakesRecord r self.old self.new) }
+        ensures refused { IfOk result (λ taken. taken ≡ false → endpoint ≢ BeginEnd
+            → IsSameTable (kept_by self.old) (kept_by self.new)) }
     {
         self.step_barrier(task, endpoint)?;
         match endpoint {
@@ -163,8 +171,9 @@ impl Waits {
     /// Does the step of a record of a barrier, but for its end. One that begins and ends in one record is begun there
     /// too.
     fn step_barrier(&mut self, task: u64, endpoint: Endpoint) -> Result<(), AllocError>
-        ensures { OnOk result ((r : Record) (kind : SyncKind) → is_barrier kind ≡ true
+        ensures steps { OnOk result ((r : Record) (kind : SyncKind) → is_barrier kind ≡ true
             → region r.body ≡ Some (task, kind, endpoint) → StepsBefore r self.old self.new) }
+        ensures ends { OnOk result (endpoint ≡ End → IsSameTable (kept_by self.old) (kept_by self.new)) }
     {
         match endpoint {
             Endpoint::Begin | Endpoint::BeginEnd => self.begin_barrier(task),

@@ -1,9 +1,10 @@
 //! What the ends of taskwaits, taskgroups and barriers need of the records so far.
-ghost use Rattle.std.specs.Prelude.{◌≡◌, ◌≤◌, ◌+◌, ◌++◌, ◌∷◌, IsTrue, IfOk, OnOk, OnErr, nat_eq, List, [], length, is_some, if◌then◌else◌};
+ghost use Rattle.std.specs.Prelude.{◌≡◌, ◌≤◌, ◌+◌, ◌++◌, ◌∷◌, IsTrue, IfOk, OnOk, OnErr, false, nat_eq, List, [], length, is_some, if◌then◌else◌};
 ghost use Rattle.std.specs.HashMap.{get, hash_map_len};
 ghost use Rattle.ompt_events.specs.declared.records.Record.{Record};
 ghost use Rattle.online.specs.Waits.{IsWaitsOf, KeepsWaits, Follows, EndsRoot, CreatesTask, CompletesTask};
 ghost use Rattle.online.specs.Waits.{BeginsTaskgroup, EndsTaskgroup, EndsTaskwait, MayFollow, IsCoverComplete};
+ghost use Rattle.online.specs.Waits.{IsSameTable};
 ghost use Rattle.online.specs.Teams.{AreTeamsBefore, AreTeamsOf, AreBarriersBegun, HasBarrierEnded, KeepsTeams, TeamsFollow, BeginsInitial, Joins, BeginsBarrier, EndsBarrier, TeamsJoin};
 ghost use Rattle.online.specs.Kept.{kept_by, teams_by};
 
@@ -145,6 +146,7 @@ impl Waits {
         ensures teams { IsTrue result → TeamsFollow (EndsTaskgroup task seen) (kept_by self.old) (teams_by self.old) (kept_by self.new) (teams_by self.new) }
         ensures complete { IsTrue result → (rs : List Record) (r : Record) → EndsTaskgroup task seen r
             → MayFollow rs r → IsWaitsOf rs (kept_by self.old) → IsCoverComplete rs r }
+        ensures refused { result ≡ false → IsSameTable (kept_by self.old) (kept_by self.new) }
     {
         end_group(&mut self.table, task, seen as u64)
     }
@@ -175,6 +177,7 @@ impl Waits {
     /// not, what is kept is of no use for later records.
     pub(crate) fn end_barrier(&mut self, task: u64, seen: u32) -> Result<bool, AllocError>
         ensures tasks { KeepsWaits (kept_by self.old) (kept_by self.new) }
+        ensures table { IsSameTable (kept_by self.old) (kept_by self.new) }
         ensures ends { IfOk result (λ ended. IsTrue ended → (rs : List Record) (r : Record) → EndsBarrier task seen r
             → MayFollow rs r → IsWaitsOf (rs ++ r ∷ []) (kept_by self.old)
             → AreTeamsBefore (rs ++ r ∷ []) (length rs) (kept_by self.old) (teams_by self.old)
