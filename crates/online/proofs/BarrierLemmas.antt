@@ -120,7 +120,7 @@ begins_later rs task n (suc more) number start is =
     (begins_later rs task n more number start is)
 
 -- and a begin that stands before n has its number among those
-begins_sooner : (rs : List Record) (task n more number start : ℕ) → start < n
+pub begins_sooner : (rs : List Record) (task n more number start : ℕ) → start < n
     → slice_get (begins_before rs task (n + more)) number ≡ Some start
     → slice_get (begins_before rs task n) number ≡ Some start
 begins_sooner rs task n zero number start low is =

@@ -71,12 +71,18 @@ mod TeamJoinLemmas
 mod TeamBarrierLemmas
 mod BarrierEndLemmas
 mod WaitTeamLemmas
+mod MissedLemmas
+mod OpenedLemmas
+mod MissedCovers
+mod AlikeLemmas
+mod OutsideLemmas
 mod WaitStepLemmas
 mod LengthLemmas
 mod RegionLemmas
 pub mod WatchSteps
 pub mod WatchEnd
 pub mod WatchedLemmas
+mod WatchMissed
 mod SpanLemmas
 mod EnrollLemmas
 mod RosterLaw

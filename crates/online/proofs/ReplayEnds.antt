@@ -270,7 +270,7 @@ replayed_unfinished nests rs values i r replayed is task e p runs finishes other
 
 -- ---- regions and claims, by the order of the records
 
-without_lengths : (rs : List Record) → IsReordered rs (map without_seen rs) (λ i. i) (λ i. i)
+pub without_lengths : (rs : List Record) → IsReordered rs (map without_seen rs) (λ i. i) (λ i. i)
 without_lengths rs = record {
   to_within = λ i within. omega (arith, within, length-map rs without_seen);
   back_within = λ j within. omega (arith, within, length-map rs without_seen);

@@ -260,7 +260,7 @@ ended_before nests rs values i k task q replayed there ends =
           (says_call ended_root nests rs values k q replayed end_called o),
     )
 
-over_ended : (nests : Bool) (rs : List Record) (values : Values) (i task : ℕ) → IsReplayed nests rs values
+pub over_ended : (nests : Bool) (rs : List Record) (values : Values) (i task : ℕ) → IsReplayed nests rs values
     → IsOver (take i rs) task → IsEnded (take i (script_of nests rs).steps) task
 over_ended nests rs values i task replayed (inl (k, p, finishes, other)) =
     let (q, there, says) = get_at finish (take i rs) k (task, p) finishes in

@@ -64,15 +64,15 @@ pub record IsOneMore (kept : Replay) (rs : List Record) (r : Record) : Type 0 wh
   pub values : Values
   pub after : IsReplayed kept.nests (rs ++ r ∷ []) values
 
-abbrev script_with : Replay → List Record → Record → ScriptView
+abbrev pub script_with : Replay → List Record → Record → ScriptView
 script_with kept rs r = script_of kept.nests (rs ++ r ∷ [])
 
-whole_with : (kept : Replay) (rs : List Record) (r : Record) → IsOneMore kept rs r
+pub whole_with : (kept : Replay) (rs : List Record) (r : Record) → IsOneMore kept rs r
     → IsWhole (script_with kept rs r)
 whole_with kept rs r more = replayed_whole kept.nests (rs ++ r ∷ []) more.values more.after
 
 -- the values that are kept are those before the record's step
-value_before : (kept : Replay) (rs : List Record) (r : Record) (task : ℕ) → IsOneMore kept rs r
+pub value_before : (kept : Replay) (rs : List Record) (r : Record) (task : ℕ) → IsOneMore kept rs r
     → value_of kept.tasks task ≡ values_at (script_with kept rs r) (length rs) task
 value_before kept rs r task more =
     more.before.replayed.values_are task
@@ -81,7 +81,7 @@ value_before kept rs r task more =
     (ap (take (length rs)) (calls_more rs r)
     ∙ take_at (calls_of rs) (next_step rs r ∷ []) (length rs) (calls_long rs)))
 
-steps_long : (kept : Replay) (rs : List Record) (r : Record)
+pub steps_long : (kept : Replay) (rs : List Record) (r : Record)
     → length (script_with kept rs r).steps ≡ length rs + 1
 steps_long kept rs r = calls_long (rs ++ r ∷ []) ∙ length_push rs r
 
@@ -90,7 +90,7 @@ record_before : (kept : Replay) (rs : List Record) (r q : Record) (k : ℕ) → 
 record_before kept rs r q k more is =
     of_step kept.nests (rs ++ r ∷ []) more.values k q more.after (get_pushed rs r q k is)
 
-record_here : (kept : Replay) (rs : List Record) (r : Record) → IsOneMore kept rs r
+pub record_here : (kept : Replay) (rs : List Record) (r : Record) → IsOneMore kept rs r
     → IsOfStep (script_with kept rs r) (rs ++ r ∷ []) (length rs) r
 record_here kept rs r more =
     of_step kept.nests (rs ++ r ∷ []) more.values (length rs) r more.after (get_last rs r (length rs) refl)

@@ -29,7 +29,7 @@ use Rattle.online.specs.Waits.{CompletesChild, SettlesChild, Completes, BeginsGr
 use Rattle.online.specs.Waits.{Removes, IsWaitsOf, MayFollow, IsCoverComplete, KeepsWaits, Follows}
 use Rattle.online.specs.Waits.{EndsRoot, CreatesTask, CompletesTask, BeginsTaskgroup}
 use Rattle.online.specs.Waits.{EndsTaskgroup}
-use Rattle.online.specs.Waits.{EndsTaskwait, ChangesNothing, ChangesGroups, AreGroups}
+use Rattle.online.specs.Waits.{EndsTaskwait, ChangesNothing, ChangesGroups, AreGroups, IsSameTable}
 use Rattle.online.proofs.OpenGroupLemmas.{grouped, at_last}
 use Rattle.online.proofs.GrowLemmas.{said_grows, complete_over}
 use Rattle.online.proofs.ViewLemmas.{IsFrom, changed_from, kept_same, going_same, none_from}
@@ -127,6 +127,18 @@ regroup_keeps change old new task stays items changes rs once is = record {
         → was.groups.items ≡ after.groups.items
     same_groups {was = was} {after = after} (inl (here, changed)) = sym (items was after changed)
     same_groups (inr (apart, same)) = ap (λ (k : Kin). k.groups.items) same
+
+-- where the same is kept of each task, it is still right
+pub keeps_table : (old new : ℕ → Option Kin) → IsSameTable old new → KeepsWaits old new
+keeps_table old new same =
+    regroup_keeps (λ was after. was ≡ after) old new 0
+    (λ was after is. let P : Kin → Type 0 = λ k. ChangesGroups was k in subst P is (groups_same was))
+    (λ was after is. ap (λ (k : Kin). k.groups.items) (sym is))
+    (record {
+      absent = λ none. same 0 ∙ none;
+      present = λ kin found. (kin, same 0 ∙ found, refl);
+      others = λ other apart. same other;
+    })
 
 -- ---- of a live task something is kept, by which it is not done
 

@@ -58,8 +58,10 @@ use Rattle.online.specs.Tasks.{value_of}
 use Rattle.online.specs.Teams.{AreTeamsOf, FindsRoom}
 use Rattle.online.specs.Waits.{IsWaitsOf, IsCoverComplete, MayFollow}
 use Rattle.online.specs.Watches.{AreRegionsOf, BeginsNewRegion, dependent_of, parent_in, MayList, IsWatchOf}
+use Rattle.online.specs.Watches.{CreatesOutside}
 use Rattle.online.proofs.LengthLemmas.{may_follow}
 use Rattle.online.proofs.ListingLemmas.{listed_no_creation}
+use Rattle.online.proofs.OutsideLemmas.{outside_more}
 use Rattle.online.proofs.PassLemmas.{each_more, none_twice}
 use Rattle.online.proofs.ReplayEnds.{replayed_order, replayed_unfinished}
 use Rattle.online.proofs.ReplayFollows.{replayed_follows}
@@ -73,17 +75,21 @@ use Rattle.online.proofs.ReplayThreads.{replayed_placed}
 use Rattle.online.proofs.SizeLemmas.{finds_room}
 use Rattle.online.proofs.WatchLemmas.{watchable_exactly}
 
--- each part of what is kept takes the record
-pub record IsWatched (old new : Watch) (r : Record) (parent : Option ℕ) : Type 0 where
-  pub parent_is : (task : ℕ) → dependent_of r.body ≡ Some task → parent ≡ parent_in old.replay task
-  pub may_list : MayList old.replay r.body parent
+-- the first parts of what is kept take the record
+pub record IsFollowed (old new : Watch) (r : Record) : Type 0 where
   pub nests : new.replay.nests ≡ old.replay.nests
   pub replay : (rs : List Record) → IsReplayOf rs old.replay → IsReplayOf (rs ++ r ∷ []) new.replay
   pub regions : (rs : List Record) → AreRegionsOf rs old.regions
       → BeginsNewRegion rs r × AreRegionsOf (rs ++ r ∷ []) new.regions
-  pub rosters : (rs : List Record) → AreRostersOf rs old.rosters → AreRostersOf (rs ++ r ∷ []) new.rosters
   pub lengths : (rs : List Record) → lengths.MayFollow rs r → IsLengthsOf rs old.lengths
       → NamesLength rs r × IsLengthsOf (rs ++ r ∷ []) new.lengths
+
+-- and each other part too
+pub record IsWatched (old new : Watch) (r : Record) (parent : Option ℕ) : Type 0 where
+  pub followed : IsFollowed old new r
+  pub parent_is : (task : ℕ) → dependent_of r.body ≡ Some task → parent ≡ parent_in old.replay task
+  pub may_list : MayList old.replay r.body parent
+  pub rosters : (rs : List Record) → AreRostersOf rs old.rosters → AreRostersOf (rs ++ r ∷ []) new.rosters
   pub waits : (rs : List Record) → MayFollow rs r → IsWaitsOf rs (kept_by old.waits)
       → IsWaitsOf (rs ++ r ∷ []) (kept_by new.waits)
   pub teams : (rs : List Record) → MayFollow rs r → FindsRoom rs r → IsWaitsOf rs (kept_by old.waits)
@@ -92,6 +98,7 @@ pub record IsWatched (old new : Watch) (r : Record) (parent : Option ℕ) : Type
   pub covers : (rs : List Record) → MayFollow rs r → FindsRoom rs r → IsWaitsOf rs (kept_by old.waits)
       → AreTeamsOf rs (kept_by old.waits) (teams_by old.waits) → IsCoverComplete rs r
   pub items : Reads old.items new.items r parent
+  pub outside : new.outside ≡ true → (old.outside ≡ true) × CreatesOutside old.replay r.body
 
 -- ---- no task and no region begins twice
 
@@ -233,19 +240,79 @@ parent_found kept task p is = of (value_of kept.tasks task) is
     of None none = absurd (none-some p none)
     of (Some t) there = (t, refl, there)
 
+-- ---- a record that passes the first tests may follow
+
+pub record MayComeNext (rs : List Record) (r : Record) (old new : Watch) : Type 0 where
+  pub replay : IsReplayOf (rs ++ r ∷ []) new.replay
+  pub replayed : IsReplayed old.replay.nests (rs ++ r ∷ []) (value_of new.replay.tasks)
+  pub regions : BeginsNewRegion rs r × AreRegionsOf (rs ++ r ∷ []) new.regions
+  pub named : NamesLength rs r × IsLengthsOf (rs ++ r ∷ []) new.lengths
+  pub once : IsFreeOf (rs ++ r ∷ []) CreatedTwice
+  pub comes : EachRecord ComesAfter (rs ++ r ∷ [])
+  pub watchable : IsWatchable (rs ++ r ∷ [])
+  pub follows : MayFollow rs r
+
+pub is_next : (rs : List Record) (old new : Watch) (r : Record) → IsWatchOf rs old → IsFollowed old new r
+    → MayComeNext rs r old new
+is_next rs old new r kept followed = record {
+  replay = replay;
+  replayed = replayed;
+  regions = regions;
+  named = named;
+  once = once;
+  comes = comes;
+  watchable = watchable;
+  follows = replayed_follows old.replay.nests rs r values replayed watchable once;
+}
+  where
+    values : Values
+    values = value_of new.replay.tasks
+
+    replay : IsReplayOf (rs ++ r ∷ []) new.replay
+    replay = followed.replay rs kept.replay
+
+    replayed : IsReplayed old.replay.nests (rs ++ r ∷ []) (value_of new.replay.tasks)
+    replayed = subst (λ n. IsReplayed n (rs ++ r ∷ []) values) followed.nests replay.replayed
+
+    regions : BeginsNewRegion rs r × AreRegionsOf (rs ++ r ∷ []) new.regions
+    regions = followed.regions rs kept.regions
+
+    once_before : IsFreeOf rs CreatedTwice
+    once_before = none_twice rs kept.passes
+
+    once : IsFreeOf (rs ++ r ∷ []) CreatedTwice
+    once =
+        no_twice rs r once_before (replayed_once old.replay.nests (rs ++ r ∷ []) values replayed) regions.0
+
+    named : NamesLength rs r × IsLengthsOf (rs ++ r ∷ []) new.lengths
+    named =
+        followed.lengths rs (may_follow rs r ((watchable_exactly rs once_before).0 kept.comes) once)
+        kept.lengths
+
+    comes : EachRecord ComesAfter (rs ++ r ∷ [])
+    comes =
+        each_more ComesAfter rs r kept.comes
+        (replayed_comes old.replay.nests rs r values replayed named.0)
+
+    watchable : IsWatchable (rs ++ r ∷ [])
+    watchable = (watchable_exactly (rs ++ r ∷ []) once).0 comes
+
 -- ---- so the record is taken
 
 pub watch_more : (rs : List Record) (old new : Watch) (r : Record) (parent : Option ℕ) → IsWatchOf rs old
     → IsWatched old new r parent → IsWatchOf (rs ++ r ∷ []) new
 watch_more rs old new r parent kept watched = record {
-  replay = replay;
-  regions = regions.1;
+  replay = next.replay;
+  regions = next.regions.1;
   rosters = rosters;
-  lengths = named.1;
+  lengths = next.named.1;
   waits = watched.waits rs follows kept.waits;
   teams = watched.teams rs follows room kept.waits kept.teams;
   items = read.kept;
-  comes = comes;
+  outside = λ so.
+      let (before, there) = watched.outside so in
+      outside_more old.replay rs r more (kept.outside before) there;
+  comes = next.comes;
   passes = each_more PassesAfter rs r kept.passes (record {
     clear = clear;
     in_place = subst (λ l. ListsAwaited l r) before (placed (length rs) r last);
@@ -268,11 +335,11 @@ watch_more rs old new r parent kept watched = record {
     values : Values
     values = value_of new.replay.tasks
 
-    replay : IsReplayOf all new.replay
-    replay = watched.replay rs kept.replay
+    next : MayComeNext rs r old new
+    next = is_next rs old new r kept watched.followed
 
     replayed : IsReplayed nests all values
-    replayed = subst (λ n. IsReplayed n all values) watched.nests replay.replayed
+    replayed = next.replayed
 
     more : IsOneMore old.replay rs r
     more = record { before = kept.replay; values = values; after = replayed }
@@ -292,41 +359,21 @@ watch_more rs old new r parent kept watched = record {
     o : IsOfStep script all (length rs) r
     o = of_step nests all values (length rs) r replayed last
 
-    regions : BeginsNewRegion rs r × AreRegionsOf all new.regions
-    regions = watched.regions rs kept.regions
-
     rosters : AreRostersOf all new.rosters
     rosters = watched.rosters rs kept.rosters
 
     room : FindsRoom rs r
     room = finds_room rs r new.rosters rosters
 
-    once_before : IsFreeOf rs CreatedTwice
-    once_before = none_twice rs kept.passes
-
-    once : IsFreeOf all CreatedTwice
-    once = no_twice rs r once_before (replayed_once nests all values replayed) regions.0
-
-    named : NamesLength rs r × IsLengthsOf all new.lengths
-    named =
-        watched.lengths rs (may_follow rs r ((watchable_exactly rs once_before).0 kept.comes) once)
-        kept.lengths
-
-    comes : EachRecord ComesAfter all
-    comes = each_more ComesAfter rs r kept.comes (replayed_comes nests rs r values replayed named.0)
-
-    watchable : IsWatchable all
-    watchable = (watchable_exactly all once).0 comes
-
     follows : MayFollow rs r
-    follows = replayed_follows nests rs r values replayed watchable once
+    follows = next.follows
 
     placed : EachRecord ListsAwaited all
     placed = replayed_placed nests all values replayed
 
     clear : (cause : Cause) → is_told_at_once cause ≡ true → HasCause all (length rs) cause → ⊥
     clear SeqGap told has = replayed_numbered nests all values replayed (length rs) has
-    clear CreatedTwice told has = once (length rs) has
+    clear CreatedTwice told has = next.once (length rs) has
     clear NotCurrent told has =
         none_off_current script all whole (replayed_records nests all values replayed) (length rs) has
     clear Moved told has = replayed_unmoved nests all values replayed (length rs) has
@@ -335,8 +382,8 @@ watch_more rs old new r parent kept watched = record {
     clear RegionOrder told has = replayed_order nests all values replayed (length rs) has
     clear NestedParallel told has = replayed_flat nests all values replayed (length rs) has
     clear RegionNesting told has = replayed_nested nests all values replayed (length rs) has
-    clear EntryTwice told has = named.0.not_twice has
-    clear LengthBack told has = named.0.not_back has
+    clear EntryTwice told has = next.named.0.not_twice has
+    clear LengthBack told has = next.named.0.not_back has
     clear TargetTask told has = replayed_on_host nests all values replayed (length rs) has
     clear _ told has = false≢true told
 
@@ -359,8 +406,8 @@ watch_more rs old new r parent kept watched = record {
 
     may_be_read : MayBeRead rs r parent
     may_be_read = record {
-      watchable = watchable;
-      once = once;
+      watchable = next.watchable;
+      once = next.once;
       in_place = placed;
       lists = λ task list lists_it.
           let (p, given, t, was, runs) = watched.may_list task list lists_it in
@@ -412,6 +459,7 @@ watch_forgets rs w known kept still = record {
   waits = kept.waits;
   teams = kept.teams;
   items = kept.items;
+  outside = kept.outside;
   comes = kept.comes;
   passes = kept.passes;
   settled = kept.settled;

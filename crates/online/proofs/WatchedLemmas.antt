@@ -1,17 +1,10 @@
 -- A watch of records that say of teams at the ends of roots what they like.
-use Rattle.std.proofs.Common.{◌≡◌, ◌∙◌, List, [], ◌∷◌, ◌++◌, sym, ap}
-use Rattle.std.specs.Prelude.{map}
-use Rattle.std.proofs.lemmas.List.{map_push}
+use Rattle.std.proofs.Common.{◌≡◌, List, [], ◌∷◌, ◌++◌}
 use Rattle.ompt_events.specs.declared.records.Record.{Record}
-use Rattle.ompt_events.specs.Ends.{ending_alone, AreSameButForEnds}
+use Rattle.ompt_events.specs.Ends.{ending_alone}
 use Rattle.online.specs.declared.watch.Watch.{Watch}
 use Rattle.online.specs.Watches.{IsWatchOf, HasWatched}
-
-alike_more : (records rs : List Record) (r made : Record) → AreSameButForEnds records rs
-    → ending_alone r ≡ ending_alone made → AreSameButForEnds (records ++ r ∷ []) (rs ++ made ∷ [])
-alike_more records rs r made alike same =
-    map_push ending_alone records r ∙ ap (λ before. before ++ ending_alone r ∷ []) alike
-    ∙ ap (λ last. map ending_alone rs ++ last ∷ []) same ∙ sym (map_push ending_alone rs made)
+use Rattle.online.proofs.AlikeLemmas.{alike_more}
 
 -- a record more is watched, as this one is made there
 pub watched_more : (old new : Watch) (r made : Record) → ending_alone r ≡ ending_alone made

@@ -1,14 +1,16 @@
 -- The audit of records one after another: what is kept of those so far.
-use Rattle.std.specs.Prelude.{ℕ, ◌≡◌, ◌≢◌, ◌⊎◌, ◌==◌, ◌||◌, true, false, List, Option, Some}
-use Rattle.std.specs.Prelude.{None, option_and_then, if◌then◌else◌}
+use Rattle.std.specs.Prelude.{ℕ, ◌≡◌, ◌≢◌, ◌⊎◌, ◌==◌, ◌||◌, true, false, List, [], ◌∷◌, ◌++◌, Option, Some}
+use Rattle.std.specs.Prelude.{None, option_and_then, if◌then◌else◌, Contains}
 use Rattle.std.specs.Ordering.{nat_cmp}
 use Rattle.std.specs.BTreeSet.{contains}
 use Rattle.ompt_events.specs.declared.records.Record.{Record}
 use Rattle.ompt_events.specs.declared.records.Body.{Body}
 use Rattle.ompt_events.specs.declared.records.Body.TheVariants.{Dependences, TaskSchedule}
 use Rattle.ompt_events.specs.declared.names.Status.TheVariants.{TaskwaitComplete}
+use Rattle.ompt_events.specs.declared.names.SyncKind.TheVariants.{Taskwait}
 use Rattle.ompt_events.specs.declared.deps.Dep.{Dep}
-use Rattle.ompt_events.specs.Records.{forked, region_named, dependences, started, next_turn}
+use Rattle.ompt_events.specs.Records.{forked, region_named, dependences, started, next_turn, creation}
+use Rattle.ompt_events.specs.Records.{region}
 use Rattle.ompt_events.specs.Causes.{IsForked}
 use Rattle.ompt_events.specs.Ends.{AreSameButForEnds}
 use Rattle.ompt_events.specs.Places.{at}
@@ -20,12 +22,13 @@ use Rattle.online.specs.Ids.{has}
 use Rattle.online.specs.Items.{IsItemsOf}
 use Rattle.online.specs.Kept.{kept_by, teams_by}
 use Rattle.online.specs.Lengths.{IsLengthsOf}
+use Rattle.online.specs.Missed.{AreCreatedOutside, AreTasksLeft}
 use Rattle.online.specs.Online.{EachRecord, ComesAfter, PassesAfter, IsSettledAfter}
 use Rattle.online.specs.Replays.{IsReplayOf}
 use Rattle.online.specs.Rosters.{AreRostersOf}
 use Rattle.online.specs.Tasks.{value_of}
 use Rattle.online.specs.Teams.{AreTeamsOf}
-use Rattle.online.specs.Waits.{IsWaitsOf}
+use Rattle.online.specs.Waits.{IsWaitsOf, ends_region}
 
 -- ---- parallel regions
 
@@ -74,6 +77,14 @@ MayList kept body parent =
     → (p : ℕ) × (parent ≡ Some p) × (t : TaskView) × (value_of kept.tasks p ≡ Some t)
     × (is_running t.state ≡ true)
 
+-- ---- where tasks create children
+
+-- the record creates no child inside a taskwait of the parent
+abbrev pub CreatesOutside : Replay → Body → Type 0
+CreatesOutside kept body =
+    (parent child : ℕ) → creation body ≡ Some (parent, child) → (t : TaskView)
+    → value_of kept.tasks parent ≡ Some t → Contains t.regions Taskwait → ⊥
+
 -- ---- all that is kept
 
 -- it is what these records leave, each of which passed its tests with those before it
@@ -85,6 +96,7 @@ pub record IsWatchOf (rs : List Record) (w : Watch) : Type 0 where
   pub waits : IsWaitsOf rs (kept_by w.waits)
   pub teams : AreTeamsOf rs (kept_by w.waits) (teams_by w.waits)
   pub items : IsItemsOf rs w.items
+  pub outside : w.outside ≡ true → AreCreatedOutside rs
   pub comes : EachRecord ComesAfter rs
   pub passes : EachRecord PassesAfter rs
   pub settled : EachRecord IsSettledAfter rs
@@ -92,3 +104,18 @@ pub record IsWatchOf (rs : List Record) (w : Watch) : Type 0 where
 -- it is what these records leave, but for what ends of roots say of their teams
 abbrev pub HasWatched : List Record → Watch → Type 0
 HasWatched records w = (rs : List Record) × AreSameButForEnds records rs × IsWatchOf rs w
+
+-- ---- where a record failed the test of waits
+
+-- it ends a region behind these: what is kept of tasks is what these leave, and the replay has taken the
+-- record
+pub record IsRefusedWatch (rs : List Record) (r : Record) (w : Watch) : Type 0 where
+  pub replay : IsReplayOf (rs ++ r ∷ []) w.replay
+  pub tasks : AreTasksLeft rs r (kept_by w.waits)
+  pub outside : w.outside ≡ true → AreCreatedOutside rs
+
+-- this is kept where the record ends a region, but for what ends of roots say of their teams
+abbrev pub HasRefused : List Record → Record → Watch → Type 0
+HasRefused records r w =
+    ends_region (region r.body) ≡ true
+    → (rs : List Record) × AreSameButForEnds records rs × IsRefusedWatch rs r w

@@ -13,7 +13,7 @@
 //! `Waits` takes records one after another too, and answers, when a taskwait, a taskgroup or a barrier ends, whether
 //! all that it covers is complete: read `wait_steps`, which says which step a record has, then `waits`, the steps,
 //! then `kin`, what is kept of a task, and `team`, what is kept of a team; `kins` and `teams` have these by id, and
-//! `scope` counts tasks.
+//! `scope` counts tasks. `missed` looks for a task that is missed where an answer is no.
 //!
 //! `Lengths` tests the ledger length that each record names: read `lengths`.
 //!
@@ -32,6 +32,7 @@ mod kin;
 mod kins;
 pub mod laws;
 mod lengths;
+mod missed;
 mod phase;
 mod regions;
 mod replay;

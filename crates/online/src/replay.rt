@@ -1,5 +1,5 @@
 //! Records taken one after another, as if recorders were given their calls.
-ghost use Rattle.std.specs.Prelude.{ℕ, List, Bool, true, false, Some, None, ◌≡◌, ◌<◌, ◌^◌, ◌++◌, ◌∷◌, [], IsTrue, IfOk, IfSome, OnOk, length, nat_eq, option_and_then};
+ghost use Rattle.std.specs.Prelude.{ℕ, List, Bool, true, false, Some, None, ◌≡◌, ◌<◌, ◌^◌, ◌++◌, ◌∷◌, [], IsTrue, IfOk, IfSome, OnOk, Contains, is_some, length, nat_eq, option_and_then};
 ghost use Rattle.ompt_events.specs.declared.records.Record.{Record};
 ghost use Rattle.ompt_events.specs.Records.{made};
 ghost use Rattle.ompt_events.specs.Limits.{max_records};
@@ -7,6 +7,7 @@ ghost use Rattle.callbacks.specs.Standing.{allows};
 ghost use Rattle.callbacks.specs.Logs.{IsLeft};
 ghost use Rattle.ompt_events.specs.declared.records.Body.TheVariants.{ImplicitTask};
 ghost use Rattle.ompt_events.specs.declared.names.Endpoint.TheVariants.{End};
+ghost use Rattle.ompt_events.specs.declared.names.SyncKind.TheVariants.{Taskwait};
 ghost use Rattle.callbacks.specs.Tasks.{TaskView, parent_of, is_running, end_of_root};
 ghost use Rattle.online.specs.Tasks.{value_of};
 ghost use Rattle.online.specs.Replays.{IsReplayOf, IsNoted, IsNextOf, IsNextThere, IsCalled, IsAdvanced};
@@ -15,7 +16,7 @@ use crate::calls::{Place, take};
 use crate::ids::Ids;
 use crate::tasks::Tasks;
 use crate::thread::Thread;
-use ompt_events::{Body, MAX_RECORDS, MAX_TASKS, Record};
+use ompt_events::{Body, MAX_RECORDS, MAX_TASKS, Record, SyncKind};
 use std::alloc::{AllocError, Global};
 
 /// Thread numbers are below this.
@@ -101,6 +102,24 @@ impl Replay {
         }
     }
 
+    /// Returns whether the task is live.
+    pub(crate) fn is_live(&self, task: u64) -> bool
+        ensures { result ≡ is_some (value_of self.now.tasks task) }
+    {
+        self.tasks.contains(task)
+    }
+
+    /// Returns true only if the task is live and has no taskwait open.
+    pub(crate) fn is_outside(&self, task: u64) -> bool
+        ensures { IsTrue result → (t : TaskView) → value_of self.now.tasks task ≡ Some t
+            → Contains t.regions Taskwait → ⊥ }
+    {
+        match self.tasks.get(task) {
+            Some(value) => !has_taskwait(value.regions()),
+            None => false,
+        }
+    }
+
     /// Returns whether the record is the next one of its thread, by its number there and by what the thread's
     /// records so far allow.
     fn fits(&self, record: &Record) -> bool
@@ -158,6 +177,13 @@ impl Replay {
         self.made += 1;
         Ok(true)
     }
+}
+
+/// Returns whether one of the kinds is that of a taskwait.
+fn has_taskwait(kinds: &[SyncKind]) -> bool
+    ensures { result ≡ false → Contains kinds.now Taskwait → ⊥ }
+{
+    kinds.contains(&SyncKind::Taskwait)
 }
 
 /// Returns whether the record is the next one of the thread.

@@ -1,10 +1,11 @@
 //! What the ends of taskwaits, taskgroups and barriers need of the records so far.
-ghost use Rattle.std.specs.Prelude.{◌≡◌, ◌≤◌, ◌+◌, ◌++◌, ◌∷◌, IsTrue, IfOk, OnOk, OnErr, false, nat_eq, List, [], length, is_some, if◌then◌else◌};
+ghost use Rattle.std.specs.Prelude.{◌≡◌, ◌≤◌, ◌+◌, ◌++◌, ◌∷◌, IsTrue, IfOk, IfSome, OnOk, OnErr, false, nat_eq, List, [], length, is_some, if◌then◌else◌};
 ghost use Rattle.std.specs.HashMap.{get, hash_map_len};
 ghost use Rattle.ompt_events.specs.declared.records.Record.{Record};
 ghost use Rattle.online.specs.Waits.{IsWaitsOf, KeepsWaits, Follows, EndsRoot, CreatesTask, CompletesTask};
 ghost use Rattle.online.specs.Waits.{BeginsTaskgroup, EndsTaskgroup, EndsTaskwait, MayFollow, IsCoverComplete};
 ghost use Rattle.online.specs.Waits.{IsSameTable};
+ghost use Rattle.online.specs.Missed.{IsFoundAt};
 ghost use Rattle.online.specs.Teams.{AreTeamsBefore, AreTeamsOf, AreBarriersBegun, HasBarrierEnded, KeepsTeams, TeamsFollow, BeginsInitial, Joins, BeginsBarrier, EndsBarrier, TeamsJoin};
 ghost use Rattle.online.specs.Kept.{kept_by, teams_by};
 
@@ -13,7 +14,10 @@ use crate::kins::{
     Table, are_children_over, begin_barrier, begin_group, complete, complete_child, count_child,
     end_group, is_family_over, is_root, is_settled, place_in, put, settle_child, team_in,
 };
+use crate::missed::{awaited_at, first_missed, going};
+use crate::replay::Replay;
 use crate::teams::{Teams, begin_in, create_in, end_in, have_begun_all, join, leave, settle_in};
+use ompt_events::{Endpoint, SyncKind};
 use std::alloc::{AllocError, Global};
 use std::collections::HashMap;
 
@@ -202,5 +206,23 @@ impl Waits {
             → AreTeamsOf rs (kept_by self.now) (teams_by self.now) → AreBarriersBegun rs }
     {
         have_begun_all(&self.teams)
+    }
+
+    /// Returns a task that the end of a region of the task waits for and that is live, the one with the least id of
+    /// those that are found. Then what is kept is of no use. Fails only when out of memory.
+    pub(crate) fn missed(
+        &mut self,
+        replay: &Replay,
+        task: u64,
+        kind: SyncKind,
+        endpoint: Endpoint,
+    ) -> Result<Option<u64>, AllocError>
+        ensures { IfOk result (λ found. IfSome found (IsFoundAt replay.now (kept_by self.old) task kind endpoint)) }
+    {
+        let Some(awaited) = awaited_at(&self.table, task, kind, endpoint) else {
+            return Ok(None);
+        };
+        let tasks = going(&self.table, self.alloc)?;
+        Ok(first_missed(&mut self.table, replay, awaited, &tasks))
     }
 }

@@ -1,7 +1,8 @@
 //! The audit of records that come one after another.
-ghost use Rattle.std.specs.Prelude.{ℕ, List, Some, None, ◌≡◌, ◌++◌, ◌∷◌, [], IsTrue, IfOk, IfSome};
+ghost use Rattle.std.specs.Prelude.{ℕ, List, Some, None, true, ◌≡◌, ◌++◌, ◌∷◌, [], IsTrue, IfOk, IfSome};
 ghost use Rattle.ompt_events.specs.declared.records.Record.{Record};
 ghost use Rattle.ompt_events.specs.declared.cause.Cause.{Cause};
+ghost use Rattle.ompt_events.specs.declared.names.SyncKind.TheVariants.{Taskwait};
 ghost use Rattle.ompt_events.specs.Causes.{HasCause};
 ghost use Rattle.ompt_events.specs.Completion.{IsCompleteAt};
 ghost use Rattle.ompt_events.specs.Ends.{ending_alone};
@@ -9,7 +10,11 @@ ghost use Rattle.ompt_events.specs.Linearization.{IsLinearization, IsGreedy};
 ghost use Rattle.ompt_events.specs.Places.{places};
 ghost use Rattle.ompt_events.specs.Violations.{IsRequired};
 ghost use Rattle.scripts.specs.Scripts.{ended};
-ghost use Rattle.online.specs.Watches.{IsWatchOf, HasWatched, dependent_of, parent_in, MayList};
+ghost use Rattle.ompt_events.specs.Records.{region};
+ghost use Rattle.online.specs.Missed.{IsMissed};
+ghost use Rattle.online.specs.Waits.{ends_region};
+ghost use Rattle.online.specs.Watches.{IsWatchOf, HasWatched, IsRefusedWatch, HasRefused, CreatesOutside};
+ghost use Rattle.online.specs.Watches.{dependent_of, parent_in, MayList};
 
 use crate::items::Items;
 use crate::lengths::Lengths;
@@ -17,7 +22,7 @@ use crate::regions::Regions;
 use crate::replay::Replay;
 use crate::rosters::Rosters;
 use crate::waits::Waits;
-use ompt_events::{Body, Endpoint, Part, Record, Status, finish};
+use ompt_events::{Body, Endpoint, Part, Record, Status, SyncKind, finish};
 use std::alloc::{AllocError, Global};
 
 /// A test that records may fail.
@@ -48,6 +53,8 @@ pub struct Watch {
     lengths: Lengths,
     waits: Waits,
     items: Items,
+    /// Whether no task has created a child inside a taskwait of its own so far.
+    outside: bool,
 }
 
 impl Watch {
@@ -64,15 +71,19 @@ impl Watch {
             lengths: Lengths::new(alloc)?,
             waits: Waits::new(alloc),
             items: Items::new(alloc),
+            outside: true,
         })
     }
 
     /// Takes one more record, and returns none, only if it passes the tests by those before it: with them it shows no
     /// cause, and all is complete there that must be. What the end of a root says of its team is not tested. Else
-    /// returns the test that it fails; then what is kept is of no use for later records. Fails only when out of memory.
+    /// returns the test that it fails; then what is kept is of no use for later records, but [`Watch::missed`] may be
+    /// asked once where that is the test of waits. Fails only when out of memory.
     pub fn take(&mut self, record: &Record) -> Result<Option<Test>, AllocError>
-        ensures { IfOk result (λ failed. failed ≡ None → (records : List Record) → HasWatched records self.old
+        ensures passed { IfOk result (λ failed. failed ≡ None → (records : List Record) → HasWatched records self.old
             → HasWatched (records ++ «record».now ∷ []) self.new) }
+        ensures refused { IfOk result (λ failed. failed ≡ Some Test.Waits → (records : List Record)
+            → HasWatched records self.old → HasRefused records «record».now self.new) }
     {
         match self.end_made(record) {
             Some(made) => self.take_made(&made),
@@ -83,7 +94,8 @@ impl Watch {
     /// Returns, of a record that ends a live root, the one that a recorder makes there: it says of the team what the
     /// begin of the root says.
     fn end_made(&self, record: &Record) -> Option<Record>
-        ensures { IfSome result (λ made. ending_alone «record».now ≡ ending_alone made) }
+        ensures { IfSome result (λ made. (ending_alone «record».now ≡ ending_alone made)
+            × (region «record».now.body ≡ None)) }
     {
         let Body::ImplicitTask {
             endpoint: Endpoint::End,
@@ -115,10 +127,13 @@ impl Watch {
     /// Takes one more record, and returns none, only if it passes the tests; see [`Watch::take`]. What the end of a root
     /// says of its team is what its begin says.
     fn take_made(&mut self, record: &Record) -> Result<Option<Test>, AllocError>
-        ensures { IfOk result (λ failed. failed ≡ None → (rs : List Record) → IsWatchOf rs self.old
+        ensures passed { IfOk result (λ failed. failed ≡ None → (rs : List Record) → IsWatchOf rs self.old
             → IsWatchOf (rs ++ «record».now ∷ []) self.new) }
+        ensures refused { IfOk result (λ failed. failed ≡ Some Test.Waits → (rs : List Record) → IsWatchOf rs self.old
+            → ends_region (region «record».now.body) ≡ true → IsRefusedWatch rs «record».now self.new) }
     {
         let parent = self.parent(&record.body);
+        let outside = self.stays_outside(&record.body);
         if !self.may_list(&record.body, parent) || !self.replay.take(record)? {
             return Ok(Some(Test::Calls));
         }
@@ -137,8 +152,25 @@ impl Watch {
         if !self.items.take(record, parent)? {
             return Ok(Some(Test::Predecessors));
         }
+        self.outside = outside;
         self.forget(record);
         Ok(None)
+    }
+
+    /// Returns a task that the end of a region at the record waits for and that is not complete there, the one with the
+    /// least id of those that are found, where the record failed the test of waits just before. Then what is kept is of
+    /// no use. Fails only when out of memory.
+    pub fn missed(&mut self, record: &Record) -> Result<Option<u64>, AllocError>
+        ensures { IfOk result (λ found. IfSome found (λ task. (records : List Record)
+            → HasRefused records «record».now self.old → IsMissed records «record».now task)) }
+    {
+        let Some((task, kind, endpoint)) = record.body.region() else {
+            return Ok(None);
+        };
+        if !self.knows_children(kind) {
+            return Ok(None);
+        }
+        self.waits.missed(&self.replay, task, kind, endpoint)
     }
 
     /// Forgets the lengths of a task that the record completes, or of a root that it ends: no record names it again.
@@ -180,6 +212,31 @@ impl Watch {
         ensures { (task : ℕ) → dependent_of body.now ≡ Some task → result ≡ parent_in self.now.replay task }
     {
         self.replay.parent(dependent(body)?)
+    }
+
+    /// Returns true only if it is known which children the end of a region of this kind waits for: at a taskwait those
+    /// that were created before it began, and so all, if no task creates one inside a taskwait of its own.
+    fn knows_children(&self, kind: SyncKind) -> bool
+        ensures { IsTrue result → kind ≡ Taskwait → self.now.outside ≡ true }
+    {
+        match kind {
+            SyncKind::Taskwait => self.outside,
+            _ => true,
+        }
+    }
+
+    /// Returns true only if no task has created a child inside a taskwait of its own so far, nor does one by a record
+    /// with this body.
+    fn stays_outside(&self, body: &Body) -> bool
+        ensures { IsTrue result → (self.now.outside ≡ true) × CreatesOutside self.now.replay body.now }
+    {
+        if !self.outside {
+            return false;
+        }
+        match body {
+            Body::TaskCreate { task, .. } => self.replay.is_outside(*task),
+            _ => true,
+        }
     }
 
     /// Returns true only if, where a record with this body lists dependences, this parent is given, and runs.

@@ -1,20 +1,35 @@
 use Rattle.std.proofs.Common.{refl}
 use Rattle.std.proofs.lemmas.Result.{IfOk-weaker}
 use Rattle.online.proofs.WatchedLemmas.{watched_more}
+use Rattle.online.proofs.WatchMissed.{refused_root, refused_same}
 use Rattle.online.proofs.watch.Watch.take.Goals as goal
 
-pub returns-in-Some : goal.returns-in-Some
-returns-in-Some c =
+pub returns-in-Some-clause-passed : goal.returns-in-Some-clause-passed
+returns-in-Some-clause-passed c =
     IfOk-weaker c.take_made.result _ _
     (λ failed taken none.
-    watched_more c.args.self.now c.take_made.new.self c.args.«record».now c.in-Some.made c.in-Some.ensures
+    watched_more c.args.self.now c.take_made.new.self c.args.«record».now c.in-Some.made c.in-Some.ensures.0
     (taken none))
-    c.take_made.ensures
+    c.take_made.ensures.passed
 
-pub returns-in-None : goal.returns-in-None
-returns-in-None c =
+pub returns-in-Some-clause-refused : goal.returns-in-Some-clause-refused
+returns-in-Some-clause-refused c =
+    IfOk-weaker c.take_made.result _ _
+    (λ failed taken waits records kept.
+    refused_root c.take_made.new.self c.args.«record».now c.in-Some.ensures.1 records)
+    c.take_made.ensures.refused
+
+pub returns-in-None-clause-passed : goal.returns-in-None-clause-passed
+returns-in-None-clause-passed c =
     IfOk-weaker c.take_made-in-None.result _ _
     (λ failed taken none.
     watched_more c.args.self.now c.take_made-in-None.new.self c.args.«record».now c.args.«record».now refl
     (taken none))
-    c.take_made-in-None.ensures
+    c.take_made-in-None.ensures.passed
+
+pub returns-in-None-clause-refused : goal.returns-in-None-clause-refused
+returns-in-None-clause-refused c =
+    IfOk-weaker c.take_made-in-None.result _ _
+    (λ failed taken waits.
+    refused_same c.args.self.now c.take_made-in-None.new.self c.args.«record».now (taken waits))
+    c.take_made-in-None.ensures.refused

@@ -11,7 +11,7 @@ returns-then-is_none-clause-taken c counted version rs has =
     let r = c.args.event.now in
     let P : Watch → Type 0 = λ w. HasWatched (rs ++ r ∷ []) w in
     record {
-      watched = subst P (sym one.watch) (c.in_ok-self.ensures none rs has.watched);
+      watched = subst P (sym one.watch) (c.in_ok-self.ensures.passed none rs has.watched);
       count = one.count ∙ ap (λ n. n + 1) has.count ∙ sym (length_push rs r);
       counts = one.counts rs has.counts;
     }
