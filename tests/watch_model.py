@@ -1,5 +1,5 @@
 """What `taskaudit watch` must answer to a trace file that can be read: the first record that fails a test, and the
-test, or that none does (docs/LONG_RUNS.md).
+test or the task that is missed there, or that none does (docs/LONG_RUNS.md).
 
 Whether recorders make the records is asked of `record_model.py`, and what must be complete of `online_model.py`. Three
 tests ask for more than docs/MODEL.md, and are written here: a taskwait, and a barrier of an initial task, also wait for
@@ -7,7 +7,7 @@ the children that the task creates inside; a barrier waits for the children of e
 has not begun it; and a task waits for all siblings whose uses of a location are in an earlier group than its own, each
 group of one type of dependence, not only for those that are in conflict with it."""
 import json
-from collections import defaultdict
+from collections import defaultdict, namedtuple
 
 from model import BARRIERS, known_after, read
 from online_model import Watch, families, incomplete, length_back, team_short
@@ -18,6 +18,9 @@ TESTS = ('Calls', 'Regions', 'Teams', 'Lengths', 'Waits', 'Predecessors', 'End')
 SCRIPTS = script('script_files')
 # Uses of a location by which tasks need not wait for each other, where both are of the same type.
 SHARED = ('in', 'inoutset', 'mutexinoutset')
+# Where `watch` ends without a yes: the line, the text of the test, and the record and the task that is missed there, if
+# one is told.
+Failure = namedtuple('Failure', 'line test record missed')
 
 
 class Calls:
@@ -92,9 +95,13 @@ class Tests:
         # by team how many of its barriers have ended, and by parent the child whose dependences must follow
         self.over, self.awaited = defaultdict(int), {}
         self.begun, self.named = set(), set()
+        # whether no task has created a child inside a taskwait of its own; and the task that is missed where a region
+        # has just ended
+        self.outside, self.missed = True, None
 
     def failed(self, i, line, record):
         """The name of the first test that the record fails, or None."""
+        self.missed = None
         if not self.calls.make(line):
             return 'Calls'
         if not self.take_region_names(record):
@@ -104,8 +111,11 @@ class Tests:
             return 'Teams'
         if not self.names_length(record) or length_back(self.watch, thread, record):
             return 'Lengths'
-        if record.creation and self.is_over(self.watch.tasks[record.running]):
-            return 'Waits'
+        if record.creation:
+            parent = self.watch.tasks[record.running]
+            if self.is_over(parent):
+                return 'Waits'
+            self.outside &= all(it.kind != 'taskwait' for it in parent.regions)
         self.watch.take(i, record)
         if record.region and incomplete(self.required_by_region(i, record), record.seen):
             return 'Waits'
@@ -132,6 +142,7 @@ class Tests:
         """The tasks that must be complete where the record ends a region."""
         found = self.watch.required_by_region(i, record)
         kind, endpoint, task = record.region.kind, record.region.endpoint, self.watch.tasks[record.region.task]
+        self.missed = self.missed_of(found, kind, endpoint, task)
         if endpoint == 'begin' or kind not in {'taskwait', *BARRIERS}:
             return found
         if kind == 'taskwait':
@@ -141,6 +152,13 @@ class Tests:
         number = task.barriers - 1
         self.over[task.team] = max(self.over[task.team], number + 1)
         return self.watch.phases(task.team.members.values(), number)
+
+    def missed_of(self, required, kind, endpoint, task):
+        """Of the tasks that must be complete where the region ends, the one with the least id that no record so far
+        completes. None is told at a taskwait once a task has created a child inside one, at a barrier of an initial
+        task, and at a barrier that begins in the same record."""
+        is_told = self.outside if kind == 'taskwait' else kind not in BARRIERS or task.team.joins and endpoint == 'end'
+        return min((it.task for it in required if it.fin() is None), default=None) if is_told else None
 
     def may_go_on(self, record):
         """Whether the predecessors are complete of a task that starts, or of a taskwait with dependences that is
@@ -167,14 +185,14 @@ class Tests:
 
 
 def failure(data):
-    """The line and the test at which these whole lines are undecided, as `watch` prints them; None for a yes."""
+    """Where `watch` ends without a yes on these whole lines; None for a yes."""
     header, *lines = [json.loads(line) for line in data.split(b'\n')[:-1]]
     tests = Tests(header['version'])
     for i, (line, record) in enumerate(zip(lines, read(data))):
         failed = tests.failed(i, line, record)
         if failed:
-            return i + 2, said(failed)
-    return None if tests.may_end() else (len(lines) + 2, said('End'))
+            return Failure(i + 2, said(failed), record, tests.missed if failed == 'Waits' else None)
+    return None if tests.may_end() else Failure(len(lines) + 2, said('End'), None, None)
 
 
 def said(test):
@@ -184,6 +202,9 @@ def said(test):
 def answer(data, report):
     """What `watch` must print on each stream, and its status; where it says yes, this report of `check`."""
     found = failure(data)
-    if found:
-        return b'', f'undecided: line {found[0]}: {found[1]}\n'.encode(), 6
-    return f'{report}\n'.encode(), b'', 0
+    if not found:
+        return f'{report}\n'.encode(), b'', 0
+    if found.missed is None:
+        return b'', f'undecided: line {found.line}: {found.test}\n'.encode(), 6
+    place = f'line {found.line}, thread {found.record.thread}, seq {found.record.seq}'
+    return f'no: {place}: task {found.missed} unfinished\n'.encode(), b'', 1

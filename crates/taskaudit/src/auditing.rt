@@ -124,8 +124,24 @@ pub(crate) fn put<O: Sink>(
     ensures breaks { O.breaks sink.new ≡ breaks_written (written_of result) (O.breaks sink.old) }
     ensures turns { AsksForTurns result (O.stalls sink.old) (O.stalls sink.new) }
 {
+    tell(Outcome::of(verdict), text, sink)
+}
+
+/// Writes the text that tells this outcome, and returns the outcome.
+pub(crate) fn tell<O: Sink>(
+    outcome: Outcome,
+    text: &[u8],
+    sink: &mut O,
+) -> Result<Outcome, AuditFault>
+    ensures kind { IfOk result (λ told. told ≡ outcome) }
+    ensures written { OnOk result (Appends (O.contents sink.old) (O.contents sink.new) text.now) }
+    ensures part { IfErr result (IsWriteFault (λ n.
+        Appends (O.contents sink.old) (O.contents sink.new) (take n text.now))) }
+    ensures breaks { O.breaks sink.new ≡ breaks_written (written_of result) (O.breaks sink.old) }
+    ensures turns { AsksForTurns result (O.stalls sink.old) (O.stalls sink.new) }
+{
     match write_bytes(text, sink) {
-        Ok(()) => Ok(Outcome::of(verdict)),
+        Ok(()) => Ok(outcome),
         Err(fault) => Err(AuditFault::Write(fault)),
     }
 }

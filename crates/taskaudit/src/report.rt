@@ -1,5 +1,5 @@
 //! What is printed of a verdict or a fault, and the exit statuses.
-ghost use Rattle.std.specs.Prelude.{◌≡◌, ◌<◌, ◌++◌, ◌∷◌, [], List, IfOk, IfSome, IsOkUnless, Some, length, string_bytes};
+ghost use Rattle.std.specs.Prelude.{ℕ, ◌≡◌, ◌<◌, ◌++◌, ◌∷◌, [], List, IfOk, IfSome, IsOkUnless, Some, length, string_bytes};
 ghost use Rattle.ompt_events.specs.declared.records.Record.{Record};
 ghost use Rattle.ompt_events.specs.Places.{at as says_at};
 ghost use Rattle.ompt_events.specs.Records.{started, wait_completed};
@@ -168,7 +168,14 @@ pub(crate) fn counts_of(trace: &PackedTrace) -> Counts
 fn no_text(alloc: Global, trace: &PackedTrace, at: usize, task: u64) -> Result<String, AllocError>
     ensures { IfOk result (λ text. string_bytes text ≡ no_text trace.now.records at task) }
 {
-    let place = Place::of(trace, at);
+    no_line(alloc, Place::of(trace, at), task)
+}
+
+/// Returns the report of a no: the task is unfinished at the record that stands there.
+pub(crate) fn no_line(alloc: Global, place: Place, task: u64) -> Result<String, AllocError>
+    ensures { IfOk result (λ text. (rs : List Record) (i : ℕ)
+        → place_text place.line place.thread place.seq ≡ record_place rs i → string_bytes text ≡ no_text rs i task) }
+{
     format!(in alloc; "no: {place}: task {task} unfinished\n")
 }
 
@@ -248,6 +255,17 @@ pub(crate) struct Place {
 }
 
 impl Place {
+    /// The place of a record on this line of the file, with this number on its thread.
+    pub(crate) fn on(line: u32, thread: u8, seq: u32) -> Place
+        ensures { place_text result.line result.thread result.seq ≡ place_text line thread seq }
+    {
+        Place {
+            line: u128::from(line),
+            thread,
+            seq,
+        }
+    }
+
     /// The place of the record; the file's line 1 is the header.
     pub(crate) fn of(trace: &PackedTrace, at: usize) -> Place
         ensures { place_text result.line result.thread result.seq ≡ record_place trace.now.records at }

@@ -189,18 +189,23 @@ so the recorder of ompt/ writes them, and taskaudit order --records FILE.
 Answer, one line on standard output:
   yes: 6 records, 1 entries, 1 tasks, 1 waits
       as check says it of the same file
+  no: line 5, thread 0, seq 3: task 2 unfinished
+      a taskwait, taskgroup or barrier ends with this event, and it waits for the
+      task, which no event before completes; check says no too, there or before,
+      or malformed
 Else nothing is claimed: check decides. One line on standard error:
-  undecided: line 5: 5 Waits
+  undecided: line 5: 6 Predecessors
       the first event that fails a test of watch: 1 Calls, its thread or task cannot
       make it there; 2 Regions, its parallel region began before; 3 Teams, its number
       in the team is taken, or the team has another size; 4 Lengths, its seen does not
-      fit those before it; 5 Waits, a taskwait, taskgroup or barrier ends and a task
-      that it waits for is not complete; 6 Predecessors, a task starts and a
-      predecessor is not complete; 7 End, the file ends too early, past this line
+      fit those before it; 5 Waits, a taskwait, taskgroup or barrier ends and not all
+      is complete, but no task is found that is missed; 6 Predecessors, a task starts
+      and a predecessor is not complete; 7 End, the file ends too early, past this
+      line
   unreadable: line 3: 6 Field
       the first faulty line, and why it is none of a trace file
 
-Exit status: 0 yes, 3 input not read or answer not written, 4 wrong arguments,
+Exit status: 0 yes, 1 no, 3 input not read or answer not written, 4 wrong arguments,
   5 out of memory, 6 undecided.
 
 taskaudit check --help says what the answer means and what the input is."#;

@@ -1,8 +1,10 @@
-use Rattle.std.proofs.Common.{rules, ◌+◌, ℕ, List, ap, refl, subst, take}
+use Rattle.std.proofs.Common.{rules, ◌+◌, ℕ, List, OnOk, IfErr, ap, inl, refl, subst, take}
 use Rattle.std.specs.Prelude.{string_bytes}
 use Rattle.std.specs.Io.KnownBytes.{Appends, Keeps}
+use Rattle.taskaudit.specs.declared.work.Outcome.TheVariants.{Yes}
+use Rattle.taskaudit.specs.Audits.{IsWriteFault}
 use Rattle.taskaudit.specs.Watchings.{at_the_end}
-use Rattle.taskaudit.proofs.WatchingLemmas.{watches_yes, yes_breaks_off}
+use Rattle.taskaudit.proofs.WatchingLemmas.{watches_yes, yes_breaks_off, told, unless, broken}
 use Rattle.taskaudit.proofs.watching.Watching.conclude.Goals as goal
 
 pub returns-then-not-may_end-clause-leaves : goal.returns-then-not-may_end-clause-leaves
@@ -11,30 +13,37 @@ returns-then-not-may_end-clause-leaves g c bytes all =
     let kept : Keeps before before = search rules in
     (at_the_end all.trace all.file (ap (λ n. n + 2) all.taken.count) refl, kept)
 
-pub returns-in-Ok-write_bytes-clause-reports : goal.returns-in-Ok-write_bytes-clause-reports
-returns-in-Ok-write_bytes-clause-reports g c bytes all =
+pub returns-clause-reports : goal.returns-clause-reports
+returns-clause-reports g c =
     let old = g.O.Sink.contents c.args.sink.now in
-    let new = g.O.Sink.contents c.write_bytes.new.sink in
-    let P : List ℕ → Type 0 = λ text. Appends old new text in
+    let new = g.O.Sink.contents c.tell.new.sink in
+    let P : List ℕ → Type 0 = λ text. OnOk c.tell.result (Appends old new text) in
+    told _ Yes c.tell.result c.tell.ensures.kind (subst P c.as_bytes.ensures.value c.tell.ensures.written)
+    (λ written bytes all.
     watches_yes bytes c.args.self.now
     (record {
       clear = c.may_end.ensures.clear c.if-not-may_end.false;
       complete = c.may_end.ensures.complete c.if-not-may_end.false;
       order = c.may_end.ensures.order c.if-not-may_end.false;
     })
-    all old new (string_bytes c.in-Ok.text) c.in-Ok.ensures
-    (subst P c.as_bytes.ensures.value c.in-Ok-write_bytes.ensures.ok)
+    all old new (string_bytes c.in-Ok.text) c.in-Ok.ensures written)
 
 pub returns-clause-leaves : goal.returns-clause-leaves
-returns-clause-leaves g c bytes all =
+returns-clause-leaves g c =
     let old = g.O.Sink.contents c.args.sink.now in
-    let new = g.O.Sink.contents c.write_bytes.new.sink in
-    let part = c.in-Err.ensures.prefix in
-    let P : List ℕ → Type 0 = λ text. Appends old new (take part.0 text) in
-    yes_breaks_off bytes c.args.self.now
+    let new = g.O.Sink.contents c.tell.new.sink in
+    let P : List ℕ → Type 0 =
+    λ text. IfErr c.tell.result (IsWriteFault (λ n. Appends old new (take n text))) in
+    unless _ _ c.tell.result (subst P c.as_bytes.ensures.value c.tell.ensures.part)
+    (λ f part bytes all.
+    broken bytes old new (string_bytes c.in-Ok.text)
+    (λ count written.
+    inl
+    (yes_breaks_off bytes c.args.self.now
     (record {
       clear = c.may_end.ensures.clear c.if-not-may_end.false;
       complete = c.may_end.ensures.complete c.if-not-may_end.false;
       order = c.may_end.ensures.order c.if-not-may_end.false;
     })
-    all old new (string_bytes c.in-Ok.text) c.in-Ok.ensures part.0 (subst P c.as_bytes.ensures.value part.1)
+    all old new (string_bytes c.in-Ok.text) c.in-Ok.ensures count written))
+    f part)
