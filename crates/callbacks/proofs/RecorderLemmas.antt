@@ -8,6 +8,7 @@ use Rattle.std.proofs.lemmas.List.Concat.{flat_map-append}
 use Rattle.std.proofs.lemmas.Option.{none-some}
 use Rattle.ompt_events.specs.declared.records.Record.{Record}
 use Rattle.ompt_events.specs.declared.records.Body.{Body}
+use Rattle.ompt_events.specs.Limits.{max_records}
 use Rattle.ompt_events.specs.Records.{finish, claim}
 use Rattle.ompt_events.specs.declared.records.Part.{Part}
 use Rattle.ompt_events.proofs.ListLemmas.{pushed_cases}
@@ -289,6 +290,7 @@ pub refused-late : (old : RecorderView) (log kept : LogView) (first id : TableId
       thread = log.thread;
       nests = log.nests;
       records = log.records;
+      room = max_records;
       known = log.known;
       ledger = first;
       before = before;
@@ -300,6 +302,7 @@ pub refused-late : (old : RecorderView) (log kept : LogView) (first id : TableId
       thread = kept.thread;
       nests = kept.nests;
       records = kept.records;
+      room = max_records;
       known = kept.known;
       ledger = id;
       before = before;
@@ -311,6 +314,7 @@ refused-late old log kept first id before v w entry seen fault is same same_id l
       thread = kept.thread;
       nests = kept.nests;
       records = kept.records;
+      room = max_records;
       known = kept.known;
       ledger = id;
       before = before;

@@ -10,7 +10,6 @@ use Rattle.ompt_events.specs.declared.records.Body.{Body}
 use Rattle.ompt_events.specs.declared.records.Body.TheVariants.{TaskSchedule, SyncRegion}
 use Rattle.ompt_events.specs.declared.names.Endpoint.{Endpoint}
 use Rattle.ompt_events.specs.declared.names.Endpoint.TheVariants.{Begin, End, BeginEnd}
-use Rattle.ompt_events.specs.Limits.{max_records}
 use Rattle.ompt_events.specs.Records.{finish, claim}
 use Rattle.credit_ledger.specs.declared.entry.Entry.{Entry}
 use Rattle.credit_ledger.specs.declared.view.Call.{Call}
@@ -27,13 +26,14 @@ use Rattle.callbacks.specs.Logs.{known_from}
 use Rattle.callbacks.specs.Calls.{call_fault, refusal, ledger_refusal}
 use Rattle.callbacks.specs.Tasks.{TaskView, is_initial_task}
 
--- the view of a recorder: the thread's number, whether regions may lie inside others, its records, the
--- ledger length that it knew last, its ledger, the calls that its seat had made before it became the
--- recorder's, and what the seat has seen of the ledger
+-- the view of a recorder: the thread's number, whether regions may lie inside others, its records, how many
+-- records it may have, the ledger length that it knew last, its ledger, the calls that its seat had made
+-- before it became the recorder's, and what the seat has seen of the ledger
 pub record RecorderView : Type 0 where
   pub thread : ℕ
   pub nests : Bool
   pub records : List Record
+  pub room : ℕ
   pub known : ℕ
   pub ledger : TableId
   pub before : List Step
@@ -112,6 +112,7 @@ recorded r seen seat body = record {
     seen = seen;
     body = body;
   } ∷ [];
+  room = r.room;
   known = known_from seen body;
   ledger = r.ledger;
   before = r.before;
@@ -154,7 +155,7 @@ pub data IsFinishRefused (old : RecorderView) (found : Option CallFault) (entry 
 -- ---- when a call fails
 
 abbrev pub is_log_full : RecorderView → Bool
-is_log_full r = nat_le max_records (length r.records)
+is_log_full r = nat_le r.room (length r.records)
 
 -- the thread's records show no reason against a record with this body
 abbrev pub allowed : RecorderView → Body → Bool

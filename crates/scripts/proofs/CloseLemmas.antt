@@ -38,7 +38,7 @@ use Rattle.credit_ledger.specs.declared.view.Step as seat_step
 use Rattle.credit_ledger.specs.declared.fault.LedgerFault.TheVariants as ledger
 use Rattle.credit_ledger.specs.TraceEntries.{entry_of}
 use Rattle.callbacks.specs.Buffers.{BufferView}
-use Rattle.scripts.specs.Scripts.{IsScript, ScriptView}
+use Rattle.scripts.specs.Scripts.{IsShortScript, ScriptView}
 use Rattle.scripts.specs.declared.script.Step.{Step}
 use Rattle.callbacks.specs.Tasks.{TaskView}
 use Rattle.callbacks.specs.Schedules.{discard_body}
@@ -193,11 +193,11 @@ one_of_kind nests [] x is each = (is, tt)
 one_of_kind nests (y ∷ rs) x is each = (each.0, one_of_kind nests rs x is each.1)
 
 -- the records of these steps are of the kind of those before them
-kind_kept : (nests : Bool) (steps : List Step) (p : Progress) → AreNesting nests p.records
-    → AreNesting nests (fold (progress_after nests) p steps).records
-kind_kept nests [] p all = all
-kind_kept nests (s ∷ steps) p all =
-    kind_kept nests steps (progress_after nests p s) (by (is_some (step_refusal nests p s)))
+kind_kept : (room : ℕ) (nests : Bool) (steps : List Step) (p : Progress) → AreNesting nests p.records
+    → AreNesting nests (fold (progress_after room nests) p steps).records
+kind_kept room nests [] p all = all
+kind_kept room nests (s ∷ steps) p all =
+    kind_kept room nests steps (progress_after room nests p s) (by (is_some (step_refusal room nests p s)))
   where
     by : (b : Bool) → AreNesting nests (cond b p (progress_with nests p s)).records
     by true = all
@@ -208,7 +208,7 @@ kind_of_script : (script : ScriptView) (n i : ℕ) (x : Record)
 kind_of_script script n i x is =
     all_get (λ (y : Record). y.nests ≡ script.nests) (progress_to script n).records i x
     (All-from_recursion (λ (y : Record). y.nests ≡ script.nests) (progress_to script n).records
-    (kind_kept script.nests (take n script.steps) no_progress tt)) is
+    (kind_kept script.room script.nests (take n script.steps) no_progress tt)) is
 
 -- each record of the trace is of the kind of the script
 pub of_kind : (script : ScriptView) (stop : Option Stop) (recorders : List RecorderView)
@@ -224,12 +224,12 @@ of_kind script stop recorders closed each same =
 -- ---- more steps
 
 -- what the steps leave goes on where the records before them end
-grown : (nests : Bool) (steps : List Step) (p : Progress)
-    → (more : List Record) × ((fold (progress_after nests) p steps).records ≡ p.records ++ more)
-grown nests [] p = ([], sym (append-nil p.records))
-grown nests (s ∷ steps) p =
-    let (first, is) = one (is_some (step_refusal nests p s)) in
-    let (rest, after) = grown nests steps (progress_after nests p s) in
+grown : (room : ℕ) (nests : Bool) (steps : List Step) (p : Progress)
+    → (more : List Record) × ((fold (progress_after room nests) p steps).records ≡ p.records ++ more)
+grown room nests [] p = ([], sym (append-nil p.records))
+grown room nests (s ∷ steps) p =
+    let (first, is) = one (is_some (step_refusal room nests p s)) in
+    let (rest, after) = grown room nests steps (progress_after room nests p s) in
     (first ++ rest, after ∙ ap (λ l. l ++ rest) is ∙ append_assoc p.records first rest)
   where
     one : (b : Bool)
@@ -242,25 +242,26 @@ reaches : (script : ScriptView) (n : ℕ)
     → (more : List Record)
     × ((progress_to script (length script.steps)).records ≡ (progress_to script n).records ++ more)
 reaches script n =
-    let (more, is) = grown script.nests (drop n script.steps) (progress_to script n) in (
+    let (more, is) = grown script.room script.nests (drop n script.steps) (progress_to script n) in (
       more,
-      ap (λ l. (progress script.nests l).records)
+      ap (λ l. (progress script.room script.nests l).records)
           (take_all (length script.steps) script.steps (omega arith) ∙ sym (take-append-drop n script.steps))
           ∙ ap (λ (p : Progress). p.records)
-          (fold-append (progress_after script.nests) no_progress (take n script.steps) (drop n script.steps))
+          (fold-append (progress_after script.room script.nests) no_progress (take n script.steps)
+          (drop n script.steps))
           ∙ is,
     )
 
 -- ---- sums
 
 -- what the records of the steps come to, where each comes to no more than its step
-weighed : (f : Record → ℕ) (g : Step → ℕ) (nests : Bool)
+weighed : (f : Record → ℕ) (g : Step → ℕ) (room : ℕ) (nests : Bool)
     → ((p : Progress) (s : Step) → f (last_of nests p s) ≤ g s) → (steps : List Step) (p : Progress)
-    → sum_by f (fold (progress_after nests) p steps).records ≤ sum_by f p.records + sum_by g steps
-weighed f g nests each [] p = omega arith
-weighed f g nests each (s ∷ steps) p =
-    let rest = weighed f g nests each steps (progress_after nests p s) in
-    let first = one (is_some (step_refusal nests p s)) in
+    → sum_by f (fold (progress_after room nests) p steps).records ≤ sum_by f p.records + sum_by g steps
+weighed f g room nests each [] p = omega arith
+weighed f g room nests each (s ∷ steps) p =
+    let rest = weighed f g room nests each steps (progress_after room nests p s) in
+    let first = one (is_some (step_refusal room nests p s)) in
     let both = sum_by-cons g s steps in
     omega (arith, rest, first, both)
   where
@@ -418,7 +419,8 @@ sum_within script stop recorders buffers f g each apart same seen low =
     let has = all_get (HasStopped script stop) recorders i r each is in
     sum_own script f has.at r seen has.run) in
     let own = own_within f (map (λ (r : RecorderView). r.thread) recorders) all apart in
-    let by_step = weighed f g script.nests low (take (length script.steps) script.steps) no_progress in
+    let by_step =
+    weighed f g script.room script.nests low (take (length script.steps) script.steps) no_progress in
     let whole = ap (λ l. sum_by g l) (take_all (length script.steps) script.steps (omega arith)) in
     omega (arith, there, mine, own, by_step, whole)
 
@@ -445,8 +447,8 @@ length_sum (x ∷ xs) = let rest = length_sum xs in omega (arith, rest, sum_by-c
 -- the trace is within the limits
 pub within_limits : (script : ScriptView) (stop : Option Stop) (recorders : List RecorderView)
     (closed : ClosedView) → All (HasStopped script stop) recorders → AreApart recorders
-    → AreOf recorders closed.buffers → IsScript script.steps → IsWithinLimits (gathered closed.buffers)
-within_limits script stop recorders closed each apart same rules =
+    → AreOf recorders closed.buffers → IsShortScript script.steps → IsWithinLimits (gathered closed.buffers)
+within_limits script stop recorders closed each apart same short =
     let one : Record → ℕ = λ x. 1 in
     let step : Step → ℕ = λ s. 1 in
     let makes : Record → ℕ = λ x. cond (is_some (made x.body)) 1 0 in
@@ -455,8 +457,8 @@ within_limits script stop recorders closed each apart same rules =
     (λ p s. omega arith) in
     let made_tasks = sum_within script stop recorders closed.buffers makes tasks each apart same (λ x. refl)
     (λ p s. made_by s.body (value p.values (first_given s.body)) (value p.values (second_given s.body))) in (
-      omega (arith, many, length_sum (gathered closed.buffers), length_sum script.steps, rules.few_steps),
-      omega (arith, made_tasks, rules.few_tasks),
+      omega (arith, many, length_sum (gathered closed.buffers), length_sum script.steps, short.few_steps),
+      omega (arith, made_tasks, short.few_tasks),
     )
 
 -- ---- fewer records than steps
@@ -503,7 +505,7 @@ fewer script stop recorders buffers k r at each apart same here run of accepted 
     (λ i q at_i. let has = all_get (HasStopped script stop) recorders i q each at_i in
     sum_own script one has.at q (λ x. refl) has.run) here (omega (arith, lacks, mine)) in
     let within = own_within one (map (λ (q : RecorderView). q.thread) recorders) all apart in
-    let by_step = weighed one step script.nests (λ p t. omega arith)
+    let by_step = weighed one step script.room script.nests (λ p t. omega arith)
     (take (length script.steps) script.steps) no_progress in
     let whole = ap (λ l. sum_by step l) (take_all (length script.steps) script.steps (omega arith)) in
     let records = length_sum (gathered buffers) in
@@ -596,13 +598,13 @@ pub no_ledger_fault : (script : ScriptView) (stop : Option Stop) (recorders : Li
     (closed : ClosedView) (history : List seat_step.Step) (r : RecorderView) (at : ℕ) (entry : Entry)
     (fault : CallFault) → All (HasStopped script stop) recorders → AreApart recorders
     → AreOf recorders closed.buffers → AreClosed closed
-    → entries_in (gathered closed.buffers) ≡ length closed.entries → IsScript script.steps
+    → entries_in (gathered closed.buffers) ≡ length closed.entries → IsShortScript script.steps
     → closed.entries ≡ entries_after history
     → AreClaims history (map (λ (q : RecorderView). claim_of q.seat) recorders) → AreEntriesApart script
     → Contains recorders r → HasRun script at r → IsStepOf script.steps at r.thread
     → refused_at script at ≡ None → entry_at script at ≡ Some entry → IsLedgerFault r entry fault
     → fault ≡ call.Memory
-no_ledger_fault script stop recorders closed history r at entry fault each apart same are many rules
+no_ledger_fault script stop recorders closed history r at entry fault each apart same are many short
     is_history claims free among run of accepted makes is_fault =
     is_fault ∙ not_refused (entries_of r.seat) entry few none
   where
@@ -625,7 +627,7 @@ no_ledger_fault script stop recorders closed history r at entry fault each apart
         let entries = count_by-le-length (λ (x : Record). is_some (finish x.body)) (gathered closed.buffers)
         in
         let as_long = ap length is_history in
-        omega (arith, less, entries, many, as_long, on.length_kept, rules.few_steps)
+        omega (arith, less, entries, many, as_long, on.length_kept, short.few_steps)
 
     step : (s : Step) × (slice_get script.steps at ≡ Some s) × (s.thread ≡ r.thread)
     step = step_there script.steps at r.thread of

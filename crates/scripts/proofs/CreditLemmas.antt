@@ -56,7 +56,7 @@ ending_step script n root ends = by (slice_get script.steps n) refl ends
     by : (o : Option Step) → slice_get script.steps n ≡ o
         → option_map_or (λ (s : Step).
         is_task root (ended_root s.body)
-        && not (is_some (step_refusal script.nests (progress_to script n) s))) o false
+        && not (is_some (step_refusal script.room script.nests (progress_to script n) s))) o false
         ≡ true
         → (s : Step) × (slice_get script.steps n ≡ Some s) × (ended_root s.body ≡ Some root)
     by None is none = absurd (false≢true none)
@@ -120,7 +120,7 @@ step_tiled script n s is_script is tiled =
     subst
     (λ (q : Progress).
     IsTiled script.steps (n + 1) (last q.values (values_at_end script (suc n))) q.records)
-    (sym (progress_next script n s is)) (by (step_refusal script.nests p s) refl)
+    (sym (progress_next script n s is)) (by (step_refusal script.room script.nests p s) refl)
   where
     p : Progress
     p = progress_to script n
@@ -130,14 +130,14 @@ step_tiled script n s is_script is tiled =
 
     ending : (root : ℕ) → ends_root script n root
         ≡ (is_task root (ended_root s.body) && not
-        (is_some (step_refusal script.nests (progress_to script n) s)))
+        (is_some (step_refusal script.room script.nests (progress_to script n) s)))
     ending root =
         ap
         (λ o. option_map_or (λ (x : Step).
         is_task root (ended_root x.body)
-        && not (is_some (step_refusal script.nests (progress_to script n) x))) o false) is
+        && not (is_some (step_refusal script.room script.nests (progress_to script n) x))) o false) is
 
-    lefts : step_refusal script.nests (progress_to script n) s ≡ None → (root : ℕ)
+    lefts : step_refusal script.room script.nests (progress_to script n) s ≡ None → (root : ℕ)
         → values_at_end script (suc n) root
         ≡ cond (is_task root (ended_root s.body)) ((progress_to script n).values root)
         (values_at_end script n root)
@@ -147,7 +147,8 @@ step_tiled script n s is_script is tiled =
         ∙ ap (λ (o : Option CallFault). is_task root (ended_root s.body) && not (is_some o)) accepted
         ∙ and_true (is_task root (ended_root s.body)))
 
-    stays : (fault : CallFault) → step_refusal script.nests (progress_to script n) s ≡ Some fault
+    stays : (fault : CallFault)
+        → step_refusal script.room script.nests (progress_to script n) s ≡ Some fault
         → (root : ℕ) → values_at_end script n root ≡ values_at_end script (suc n) root
     stays fault refused root =
         sym
@@ -167,7 +168,8 @@ step_tiled script n s is_script is tiled =
             (given_unmade s.body task given (λ a b one two. named_apart s.body a b rules.apart one two))).1
             (over_ended script n task t left))
 
-    by : (found : Option CallFault) → step_refusal script.nests (progress_to script n) s ≡ found
+    by : (found : Option CallFault)
+        → step_refusal script.room script.nests (progress_to script n) s ≡ found
         → IsTiled script.steps (n + 1)
         (last
         (cond (is_some found) (progress_to script n)
@@ -186,7 +188,9 @@ step_tiled script n s is_script is tiled =
           steps = script.steps;
           n = n;
           s = s;
-          view = recorder_with script.nests s.thread (thread_records (progress_to script n).records s.thread);
+          view =
+              recorder_with script.room script.nests s.thread
+              (thread_records (progress_to script n).records s.thread);
           nests = script.nests;
           own = thread_records (progress_to script n).records s.thread;
           values = (progress_to script n).values;
@@ -238,8 +242,8 @@ all_tiled script (suc n) is_script = elim (cases_lt n (length script.steps)) [
       subst
       (λ (l : List Step).
       IsTiled script.steps (suc n)
-      (last (progress script.nests l).values (values_at_end script (suc n)))
-      (progress script.nests l).records)
+      (last (progress script.room script.nests l).values (values_at_end script (suc n)))
+      (progress script.room script.nests l).records)
       same
       (subst
       (λ k.
@@ -257,7 +261,7 @@ all_tiled script (suc n) is_script = elim (cases_lt n (length script.steps)) [
       (λ o. cond
       (option_map_or (λ (x : Step).
       is_task task (ended_root x.body)
-      && not (is_some (step_refusal script.nests (progress_to script n) x))) o false)
+      && not (is_some (step_refusal script.room script.nests (progress_to script n) x))) o false)
       ((progress_to script n).values task) (values_at_end script n task)) gone)))
       (all_tiled script n is_script)))
 ]

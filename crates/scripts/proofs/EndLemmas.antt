@@ -9,7 +9,7 @@ use Rattle.ompt_events.specs.Causes.{IsMadeAgain, entries_in}
 use Rattle.credit_ledger.specs.declared.view.Step as seat_step
 use Rattle.credit_ledger.specs.Histories.{IsLegal, entries_after}
 use Rattle.credit_ledger.specs.Seats.{AreAll, AreClaims, HasCallsOf, claim_of}
-use Rattle.scripts.specs.Scripts.{ScriptView, IsScript}
+use Rattle.scripts.specs.Scripts.{ScriptView, IsScript, IsShortScript}
 use Rattle.callbacks.specs.declared.fault.CallFault.{CallFault}
 use Rattle.callbacks.specs.Recorders.{RecorderView, IsBacked}
 use Rattle.callbacks.specs.Closed.{ClosedView, AreClosed, HasUnusedSeat, thread_of, recorded_by}
@@ -58,25 +58,25 @@ counted script recorders stop closed history ended by = by.counted ended.unused 
 
 -- the fault of the first stop
 pub stop_fault : (script : ScriptView) (recorders : List RecorderView) (closed : ClosedView)
-    (history : List seat_step.Step) (stop : Stop) → IsScript script.steps
+    (history : List seat_step.Step) (stop : Stop) → IsScript script.steps → IsShortScript script.steps
     → IsEarly (Some stop) ⊎ HaveAllEnded script recorders (Some stop)
     → AreClosedBy recorders closed history → IsRunFault script (fault_of_stop stop)
-stop_fault script recorders closed history (Refused Memory) rules ended by = tt
-stop_fault script recorders closed history (Refused Thread) rules ended by = tt
-stop_fault script recorders closed history (Ended line) rules ended by = tt
-stop_fault script recorders closed history (Refused (Call line fault)) rules (inl early) by =
+stop_fault script recorders closed history (Refused Memory) rules short ended by = tt
+stop_fault script recorders closed history (Refused Thread) rules short ended by = tt
+stop_fault script recorders closed history (Ended line) rules short ended by = tt
+stop_fault script recorders closed history (Refused (Call line fault)) rules short (inl early) by =
     absurd (not_early line fault early)
   where
     not_early : (line : ℕ) (fault : CallFault) → IsEarly (Some (Refused (Call line fault))) → ⊥
     not_early line fault (inl memory) = cc
     not_early line fault (inr thread) = cc
-stop_fault script recorders closed history (Refused (Call line fault)) rules (inr ended) by =
+stop_fault script recorders closed history (Refused (Call line fault)) rules short (inr ended) by =
     run_fault script recorders line fault ended
     (λ r at entry among run of accepted makes refused.
     no_ledger_fault script (Some (Refused (Call line fault))) recorders closed history
     r at entry fault ended.each
     ended.apart by.same by.are
-    (counted script recorders (Some (Refused (Call line fault))) closed history ended by) rules by.entries
+    (counted script recorders (Some (Refused (Call line fault))) closed history ended by) short by.entries
     by.claims (λ n i j x y e f apart first second makes also.
     entries_apart script n i j x y e f rules apart first second makes also)
     among run of accepted makes refused)
@@ -95,11 +95,11 @@ together script recorders closed history ended by = record {
 
 -- and are within the limits of a trace
 pub within : (script : ScriptView) (recorders : List RecorderView) (closed : ClosedView)
-    (history : List seat_step.Step) → IsScript script.steps
+    (history : List seat_step.Step) → IsShortScript script.steps
     → HaveAllEnded script recorders None → AreClosedBy recorders closed history
     → IsWithinLimits (gathered closed.buffers)
-within script recorders closed history rules ended by =
-    within_limits script None recorders closed ended.each ended.apart by.same rules
+within script recorders closed history short ended by =
+    within_limits script None recorders closed ended.each ended.apart by.same short
 
 -- the trace of the closed recorders of a run
 pub run_of : (script : ScriptView) (trace : TraceView) (recorders : List RecorderView) (closed : ClosedView)

@@ -1,6 +1,6 @@
 -- What has become of a task in a script, by the steps that make and end it, and the rules of a call.
-use Rattle.std.proofs.Common.{◌≡◌, ◌∙◌, ℕ, ◌<◌, ◌≤◌, ◌+◌, List, [], ◌∷◌, ◌++◌, length, take, drop, get_or}
-use Rattle.std.proofs.Common.{length-take-le, take-take, take-append-drop, get_or-take, Option, Some, None}
+use Rattle.std.proofs.Common.{◌≡◌, ◌∙◌, ℕ, ◌<◌, ◌≤◌, ◌+◌, List, [], ◌∷◌, ◌++◌, length, take, get_or}
+use Rattle.std.proofs.Common.{length-take-le, take-take, get_or-take, Option, Some, None}
 use Rattle.std.proofs.Common.{Bool, true, false, not, ◌&&◌, cond, refl, sym, ap, subst, arith, inl, inr, zero}
 use Rattle.std.proofs.Common.{suc}
 use Rattle.std.specs.Prelude.{Contains, IfSome, option_map, is_some, slice_get, ◌==◌}
@@ -12,7 +12,7 @@ use Rattle.std.proofs.lemmas.Option.{none-some, same_Some, slice_get-get_or, sli
 use Rattle.std.proofs.lemmas.List.{take_more, take_all}
 use Rattle.std.proofs.lemmas.List.Elements.{All-contains, Contains-get_or, Contains-append_left}
 use Rattle.std.proofs.lemmas.List.Elements.{Contains-push, Contains-push_cases}
-use Rattle.std.proofs.lemmas.List.Sums.{fold_push, sum_by-append, AllPass-from_list_all}
+use Rattle.std.proofs.lemmas.List.Sums.{fold_push, AllPass-from_list_all}
 use Rattle.std.proofs.lemmas.List.Sums.{list_all-from_AllPass}
 use Rattle.ompt_events.specs.declared.records.Body.{Body}
 use Rattle.ompt_events.specs.declared.records.Body.TheVariants.{ThreadEnd}
@@ -20,7 +20,7 @@ use Rattle.ompt_events.specs.Records.{made, named, claim, told_turns}
 use Rattle.scripts.specs.declared.script.Step.{Step}
 use Rattle.scripts.specs.declared.lives.Life.{Life}
 use Rattle.scripts.specs.declared.lives.Life.TheVariants.{Live, Over}
-use Rattle.scripts.specs.Scripts.{is_call, ended, life_after, life, step_count, task_count, is_earlier}
+use Rattle.scripts.specs.Scripts.{is_call, ended, life_after, life, step_count, is_earlier}
 use Rattle.scripts.specs.Scripts.{has_twice}
 use Rattle.scripts.specs.Scripts.{is_made, may_be_named, may_follow, IsScript}
 use Rattle.scripts.specs.Rules.{IsMadeByStep, IsEnded, MayFollow}
@@ -289,12 +289,7 @@ take_stands steps n i s low is =
 
 IsScript-take : (steps : List Step) (n : ℕ) → n ≤ length steps → IsScript steps → IsScript (take n steps)
 IsScript-take steps n low script =
-    let both : task_count (take n steps) + task_count (drop n steps) ≡ task_count steps =
-    sym (sum_by-append (λ (x : Step). cond (is_some (made x.body)) 1 0) (take n steps) (drop n steps))
-    ∙ ap (λ (xs : List Step). task_count xs) (take-append-drop n steps) in
     record {
-      few_steps = omega (arith, length-take-le n steps low, script.few_steps);
-      few_tasks = omega (arith, both, script.few_tasks);
       lines = λ i s is. script.lines i s (take_stands steps n i s low is).1;
       follows = λ i s is.
           let stands = take_stands steps n i s low is in

@@ -14,7 +14,7 @@ use Rattle.ompt_events.specs.Limits.{max_records, max_tasks}
 use Rattle.ompt_events.proofs.ListLemmas.{pushed_cases}
 use Rattle.scripts.specs.declared.script.Step.{Step}
 use Rattle.scripts.specs.declared.lives.Life.{Life}
-use Rattle.scripts.specs.Scripts.{life_after, task_count, may_follow, is_full, IsScript}
+use Rattle.scripts.specs.Scripts.{life_after, task_count, may_follow, is_full, IsScript, IsShortScript}
 use Rattle.scripts.specs.Keeping.{AreLives}
 
 -- ---- the limits
@@ -46,14 +46,9 @@ before_stays : (steps : List Step) (s : Step) (i : ℕ) → i ≤ length steps
     → take i (steps ++ s ∷ []) ≡ take i steps
 before_stays steps s i low = take-append-le i steps (s ∷ []) low
 
-pub IsScript-more : (steps : List Step) (s : Step) → IsScript steps → is_full steps s.body ≡ false
-    → s.line ≡ length steps + 2 → may_follow steps s.after s.body ≡ true → IsScript (steps ++ s ∷ [])
-IsScript-more steps s script room line follows = record {
-  few_steps = omega (arith, length_push steps s, steps_room steps s.body room);
-  few_tasks =
-      let more : task_count (steps ++ s ∷ []) ≡ task_count steps + cond (is_some (made s.body)) 1 0 =
-      sum_by_push (λ (x : Step). cond (is_some (made x.body)) 1 0) steps s in
-      omega (arith, more, has_task_room steps s.body room script.few_tasks);
+pub IsScript-more : (steps : List Step) (s : Step) → IsScript steps → s.line ≡ length steps + 2
+    → may_follow steps s.after s.body ≡ true → IsScript (steps ++ s ∷ [])
+IsScript-more steps s script line follows = record {
   lines = λ i x is. elim (pushed_cases steps s x i is) [
     | inl old ↦ script.lines i x old
     | inr (last, same) ↦ subst (λ (y : Step). y.line ≡ i + 2) same (line ∙ ap (λ n. n + 2) (sym last))
@@ -68,6 +63,16 @@ IsScript-more steps s script room line follows = record {
         subst (λ (y : Step). may_follow (take i (steps ++ s ∷ [])) y.after y.body ≡ true) same
         (ap (λ (b : List Step). may_follow b s.after s.body) before ∙ follows)
   ];
+}
+
+pub IsShortScript-more : (steps : List Step) (s : Step) → IsShortScript steps → is_full steps s.body ≡ false
+    → IsShortScript (steps ++ s ∷ [])
+IsShortScript-more steps s short room = record {
+  few_steps = omega (arith, length_push steps s, steps_room steps s.body room);
+  few_tasks =
+      let more : task_count (steps ++ s ∷ []) ≡ task_count steps + cond (is_some (made s.body)) 1 0 =
+      sum_by_push (λ (x : Step). cond (is_some (made x.body)) 1 0) steps s in
+      omega (arith, more, has_task_room steps s.body room short.few_tasks);
 }
 
 pub AreLives-more : (steps : List Step) (s : Step) (old new : BTreeMap ℕ Life) → AreLives steps old

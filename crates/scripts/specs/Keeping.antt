@@ -8,6 +8,7 @@ use Rattle.scripts.specs.declared.script.Step.{Step}
 use Rattle.scripts.specs.declared.tally.Tally.{Tally}
 use Rattle.scripts.specs.declared.lives.Life.{Life}
 use Rattle.scripts.specs.Scripts.{life, step_count, task_count, is_earlier, is_made, may_be_named, IsScript}
+use Rattle.scripts.specs.Scripts.{IsShortScript}
 
 -- the table has what has become of each task
 abbrev pub AreLives : List Step → BTreeMap ℕ Life → Type 0
@@ -30,8 +31,9 @@ abbrev pub IsStepFound : List Step → Option (ℕ × ℕ) → Option (Option (�
 IsStepFound steps named None = is_earlier steps named ≡ false
 IsStepFound steps named (Some found) = (is_earlier steps named ≡ true) × (found ≡ named)
 
--- the steps are a script, and the rest is of them
+-- the steps are a script of a size that it may have, and the rest is of them
 pub record IsScriptKept (steps : List Step) (lives : BTreeMap ℕ Life) (tally : Tally) : Type 0 where
   pub script : IsScript steps
+  pub short : IsShortScript steps
   pub are_lives : AreLives steps lives
   pub is_tally : IsTally steps tally

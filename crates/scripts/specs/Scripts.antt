@@ -15,14 +15,16 @@ use Rattle.scripts.specs.declared.lives.Life.TheVariants.{Live, Over}
 use Rattle.scripts.specs.declared.fault.ScriptFault.{ScriptFault}
 use Rattle.scripts.specs.declared.fault.ScriptFault.TheVariants.{Memory, Full, Misplaced}
 
--- the view of a script: whether regions may lie inside others in the trace of its run, and its steps
+-- the view of a script: whether regions may lie inside others in the trace of its run, how many records each
+-- recorder of the run may have, and its steps
 pub record ScriptView : Type 0 where
   pub nests : Bool
+  pub room : ℕ
   pub steps : List Step
 
 -- the script without a step, whose run has a trace of version 2
 abbrev pub empty_script : ScriptView
-empty_script = record { nests = false; steps = [] }
+empty_script = record { nests = false; room = max_records; steps = [] }
 
 -- ---- what becomes of a task
 
@@ -98,13 +100,16 @@ abbrev pub may_name : List Step → Body → Bool
 may_name steps body = is_call body && not (has_twice (named body))
     && list_all (λ task. may_be_named (is_made (made body) task) (life steps task)) (named body)
 
--- the steps are a script
+-- the steps are a script, whatever their number
 pub record IsScript (steps : List Step) : Type 0 where
-  pub few_steps : length steps ≤ max_records
-  pub few_tasks : task_count steps ≤ max_tasks
   pub lines : (i : ℕ) (s : Step) → slice_get steps i ≡ Some s → s.line ≡ i + 2
   pub follows : (i : ℕ) (s : Step) → slice_get steps i ≡ Some s
       → may_follow (take i steps) s.after s.body ≡ true
+
+-- they are as many as a script may have at most, and so are the tasks that they make
+pub record IsShortScript (steps : List Step) : Type 0 where
+  pub few_steps : length steps ≤ max_records
+  pub few_tasks : task_count steps ≤ max_tasks
 
 -- ---- one call more
 

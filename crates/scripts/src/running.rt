@@ -3,7 +3,7 @@ ghost use Rattle.std.specs.Prelude.{◌≡◌, ◌⊎◌, ◌<◌, ◌≤◌, �
 ghost use Rattle.std.specs.Thread.{IsSync};
 ghost use Rattle.credit_ledger.specs.Places.{ledger_id, seat_id, view_of};
 ghost use Rattle.callbacks.specs.Gathered.{gathered, HaveOwnThreads, ArePaired, BelongTogether, IsWithinLimits, version_of};
-ghost use Rattle.scripts.specs.Scripts.{IsScript};
+ghost use Rattle.scripts.specs.Scripts.{IsScript, IsShortScript};
 ghost use Rattle.callbacks.specs.declared.fault.CallFault.TheVariants as call;
 ghost use Rattle.scripts.specs.Runs.{IsRunOf, IsRunFault};
 ghost use Rattle.scripts.specs.Parts.{ArePlaces, AreSeats, AreOfLedger, IsOutcome, HaveEnded, HaveAllEnded, IsEarly, first_stop, seat_of, views_of};
@@ -118,6 +118,7 @@ fn recorded<C: Context + Send + Sync, R: Threads + Wait + Sync>(
     ensures run { IfOk result (λ made. IsEarly made.2.stop
         ⊎ HaveAllEnded C.script made.2.recorders.items made.2.stop) }
     ensures rules { IfOk result (λ made. IsScript C.script.steps) }
+    ensures short { IfOk result (λ made. IsShortScript C.script.steps) }
     ensures returned { IfErr result (λ refused. refused.0 ≡ ahead.script) }
     ensures memory { IfErr result (λ refused. refused.1 ≡ Memory) }
 {

@@ -1,6 +1,7 @@
 //! A script and its steps.
 ghost use Rattle.std.specs.Prelude.{◌≡◌, ◌+◌, ◌++◌, ◌∷◌, [], false, true, IfErr, IfSome, IsErr, OnOk, OnErr, is_some};
-ghost use Rattle.scripts.specs.Scripts.{empty_script, may_follow, may_name, is_full, step_fault, step_of, IsScript};
+ghost use Rattle.ompt_events.specs.Limits.{max_records};
+ghost use Rattle.scripts.specs.Scripts.{empty_script, may_follow, may_name, is_full, step_fault, step_of, IsScript, IsShortScript};
 
 use crate::calls::{has_twice, is_call};
 use crate::fault::ScriptFault;
@@ -35,12 +36,13 @@ pub struct Script {
 }
 
 impl Model for Script {
+    ghost use Rattle.ompt_events.specs.Limits.{max_records};
     ghost use Rattle.scripts.specs.Scripts.{ScriptView};
     ghost use Rattle.scripts.specs.Keeping.{IsScriptKept};
 
     ghost Value = { ScriptView };
 
-    ghost view = { λ script. record { nests = script.nests; steps = script.steps.items } };
+    ghost view = { λ script. record { nests = script.nests; room = max_records; steps = script.steps.items } };
 
     ghost invariant = { λ script. IsScriptKept script.steps.items script.lives script.tally };
 }
@@ -78,6 +80,8 @@ impl Script {
     pub fn steps(&self) -> &[Step]
         ensures value { result.now ≡ self.now.steps }
         ensures is_script { IsScript result.now }
+        ensures short { IsShortScript result.now }
+        ensures room { self.now.room ≡ max_records }
     {
         self.steps.as_slice()
     }

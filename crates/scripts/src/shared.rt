@@ -1,7 +1,8 @@
 //! How a thread of a run takes a step.
 ghost use Rattle.std.specs.Prelude.{◌≡◌, ◌<◌, ◌≤◌, ◌+◌, ◌↔◌, ℕ, IsTrue, None, Some, is_some, length, option_map, option_and_then, IfOk, IfErr, IfSome, OnOk, OnErr};
+ghost use Rattle.ompt_events.specs.Limits.{max_records};
 ghost use Rattle.credit_ledger.specs.Places.{ledger_id};
-ghost use Rattle.scripts.specs.Scripts.{IsScript};
+ghost use Rattle.scripts.specs.Scripts.{IsScript, IsShortScript};
 ghost use Rattle.scripts.specs.declared.run_fault.RunFault.TheVariants.{Memory};
 ghost use Rattle.scripts.specs.RunCalls.{first_given, second_given};
 ghost use Rattle.scripts.specs.HandOvers.{ComesAfter};
@@ -48,6 +49,8 @@ pub(crate) struct Shared<C: Context> {
     pub ghost of_the_ledger: { ledger_id ledger ≡ C.ledger },
     pub ghost of_the_script: { script ≡ C.script },
     pub ghost is_script: { IsScript C.script.steps },
+    pub ghost is_short: { IsShortScript C.script.steps },
+    pub ghost has_room: { C.script.room ≡ max_records },
     pub ghost by_thread: { ArePlaces C.script.steps (length C.script.steps) threads.items },
     pub ghost by_step: { AreUses C.script.steps (length C.script.steps) uses.uses.items },
     pub ghost few: { length threads.items ≤ 256 },
@@ -410,7 +413,8 @@ fn tables<C: Context>(
     steps: &[Step],
     threads: &[Vec<u32>],
 ) -> Result<(UseTable, Board<C>, Vec<Condvar>), AllocError>
-    requires { IsScript steps.now }
+    requires rules { IsScript steps.now }
+    requires short { IsShortScript steps.now }
     ensures uses { IfOk result (λ made. AreUses steps.now (length steps.now) made.0.uses.items) }
     ensures changes { IfOk result (λ made. length made.2.items ≡ length threads.now) }
 {

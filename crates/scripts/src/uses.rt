@@ -2,7 +2,7 @@
 ghost use Rattle.std.specs.Prelude.{◌≡◌, ◌≤◌, ◌<◌, ◌+◌, ℕ, List, Some, length, slice_get, option_map, IfOk};
 ghost use Rattle.ompt_events.specs.Limits.{max_records};
 ghost use Rattle.scripts.specs.declared.script.Step.{Step};
-ghost use Rattle.scripts.specs.Scripts.{IsScript};
+ghost use Rattle.scripts.specs.Scripts.{IsScript, IsShortScript};
 ghost use Rattle.packed_trace.specs.Named.{subject, object};
 ghost use Rattle.scripts.specs.Parts.{IsUsed, AreUses, AreLastUses, IsTold, IsFound, noted, next_of, with_next, told_next};
 
@@ -93,7 +93,8 @@ impl UseTable {
         steps: &[Step],
         threads: &[Vec<u32>],
     ) -> Result<UseTable, AllocError>
-        requires { IsScript steps.now }
+        requires rules { IsScript steps.now }
+        requires short { IsShortScript steps.now }
         ensures { IfOk result (λ table. AreUses steps.now (length steps.now) table.uses.items) }
     {
         let tasks = numbered(alloc, steps)?;
@@ -151,7 +152,8 @@ fn object(body: &Body) -> Option<u64>
 
 /// Returns the tasks that the steps make, in the order of the steps. A script makes each task once.
 fn numbered(alloc: Global, steps: &[Step]) -> Result<Numbering, AllocError>
-    requires { IsScript steps.now }
+    requires rules { IsScript steps.now }
+    requires short { IsShortScript steps.now }
     ensures { IfOk result (λ tasks. length tasks ≤ max_records) }
 {
     let mut made = Vec::new(alloc);

@@ -32,7 +32,7 @@ returns-in-Some-clause-fault g c =
     IsEarly o ⊎ HaveAllEnded script recorders o in
     subst (IsRunFault script) (sym c.fault.ensures)
     (stop_fault script recorders c.in-Ok-close_all.closed had.closed.0
-    c.in-Some.stop c.in_ok-script.ensures.rules
+    c.in-Some.stop c.in_ok-script.ensures.rules c.in_ok-script.ensures.short
     (subst ended c.in-Some.is c.in_ok-script.ensures.run) by)
 
 pub trace_of-requires-clause-together : goal.trace_of-requires-clause-together
@@ -72,7 +72,7 @@ trace_of-requires-clause-within g c =
       backed = had.backed;
       counted = had.made;
     } in
-    within script recorders c.in-Ok-close_all.closed had.closed.0 c.in_ok-script.ensures.rules
+    within script recorders c.in-Ok-close_all.closed had.closed.0 c.in_ok-script.ensures.short
     (not_stopped script recorders c.in_ok-script.outcomes.stop
     (none_there c.in_ok-script.outcomes.stop c.in_default-stop.not-Some) c.in_ok-script.ensures.run) by
 

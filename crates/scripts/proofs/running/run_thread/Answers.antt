@@ -21,8 +21,9 @@ loop-index-init g c = elim c.if-nests.branch [
         fixed = refl;
         run = after_none script g.C.Context.seats c.args.thread r (view_of c.args.seat) new.thread
             (new.nests ∙ sym w.if-nests.true ∙ c.nests.ensures
-            ∙ ap (λ (v : ScriptView). v.nests) c.args.shared.now.of_the_script) new.records c.requires.seat
-            new.seat (c.args.shared.now.seated.new c.args.thread (view_of c.args.seat) c.requires.seat)
+            ∙ ap (λ (v : ScriptView). v.nests) c.args.shared.now.of_the_script)
+            (new.room ∙ sym c.args.shared.now.has_room) new.records c.requires.seat new.seat
+            (c.args.shared.now.seated.new c.args.thread (view_of c.args.seat) c.requires.seat)
             new.known;
       })
   | else-nests w ↦
@@ -35,8 +36,9 @@ loop-index-init g c = elim c.if-nests.branch [
         fixed = refl;
         run = after_none script g.C.Context.seats c.args.thread r (view_of c.args.seat) new.thread
             (new.nests ∙ sym w.if-nests.false ∙ c.nests.ensures
-            ∙ ap (λ (v : ScriptView). v.nests) c.args.shared.now.of_the_script) new.records c.requires.seat
-            new.seat (c.args.shared.now.seated.new c.args.thread (view_of c.args.seat) c.requires.seat)
+            ∙ ap (λ (v : ScriptView). v.nests) c.args.shared.now.of_the_script)
+            (new.room ∙ sym c.args.shared.now.has_room) new.records c.requires.seat new.seat
+            (c.args.shared.now.seated.new c.args.thread (view_of c.args.seat) c.requires.seat)
             new.known;
       })
 ]

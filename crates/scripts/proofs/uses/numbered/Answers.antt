@@ -17,7 +17,7 @@ loop-step-preserved c =
       | in-Some+in_ok-push w ↦
           subst (AreMade steps (n + 1))
           (sym (ap (λ (v : Vec ℕ). v.items) w.made-is ∙ w.in_ok-push.ensures.items))
-          (made_next steps n s c.loop-step.made.items w.in-Some.task c.requires is
+          (made_next steps n s c.loop-step.made.items w.in-Some.task c.requires.rules is
           (sym c.made.ensures ∙ w.in-Some.is) c.loop-step.invariant)
       | in_default w ↦
           subst (AreMade steps (n + 1)) (sym (ap (λ (v : Vec ℕ). v.items) w.made-is))

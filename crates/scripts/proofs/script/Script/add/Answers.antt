@@ -2,7 +2,7 @@ use Rattle.std.proofs.Common.{◌≡◌, ◌∙◌, ◌++◌, ◌∷◌, [], Lis
 use Rattle.std.specs.Prelude.{is_some}
 use Rattle.scripts.specs.declared.script.Step.{Step}
 use Rattle.scripts.specs.Scripts.{ScriptView, may_follow, is_full, step_of}
-use Rattle.scripts.proofs.ScriptLemmas.{IsScript-more, AreLives-more}
+use Rattle.scripts.proofs.ScriptLemmas.{IsScript-more, IsShortScript-more, AreLives-more}
 use Rattle.scripts.proofs.script.Script.add.Goals as goal
 
 pub invariant_of-self-2 : goal.invariant_of-self-2
@@ -18,7 +18,8 @@ invariant_of-self-2 c =
     ap (λ (xs : List Step). is_full xs body) (sym view) ∙ sym c.is_full.ensures ∙ c.if-is_full.false in
     let grown : c.push_reserved.new.self.items ≡ steps ++ s ∷ [] = search rules in
     rw grown (record {
-      script = IsScript-more steps s c.self.invariant.script room (omega arith) follows;
+      script = IsScript-more steps s c.self.invariant.script (omega arith) follows;
+      short = IsShortScript-more steps s c.self.invariant.short room;
       are_lives =
           AreLives-more steps s c.self.inside.lives c.note.new.lives c.self.invariant.are_lives
           (search rules);
