@@ -1,7 +1,7 @@
 -- Where the records are in order but for what the ends of initial and implicit tasks say of their teams, the
 -- verdict of a trace is yes, with the order of its file.
 use Rattle.std.proofs.Common.{◌≡◌, ◌∙◌, ℕ, List, sym, subst, inl, inr, ◌⊎◌}
-use Rattle.std.specs.Prelude.{◌↔◌, is_some}
+use Rattle.std.specs.Prelude.{◌↔◌, is_some, All}
 use Rattle.ompt_events.specs.declared.records.Record.{Record}
 use Rattle.ompt_events.specs.declared.records.Body.{Body}
 use Rattle.ompt_events.specs.declared.records.Body.TheVariants.{ImplicitTask}
@@ -9,7 +9,7 @@ use Rattle.ompt_events.specs.declared.names.Endpoint.TheVariants.{End}
 use Rattle.ompt_events.specs.declared.cause.Cause.{Cause}
 use Rattle.ompt_events.specs.Records.{told_turns, started}
 use Rattle.ompt_events.specs.Places.{places}
-use Rattle.ompt_events.specs.Traces.{IsTraceOf, IsSound}
+use Rattle.ompt_events.specs.Traces.{IsKnown, IsSound, FitsIn}
 use Rattle.ompt_events.specs.Turns.{TellsNoTurns}
 use Rattle.ompt_events.specs.Ends.{without_team, ending_alone, AreSameButForEnds}
 use Rattle.ompt_events.specs.Linearization.{IsLinearization}
@@ -23,7 +23,7 @@ use Rattle.checker.proofs.MappedLemmas.{all_by}
 use Rattle.checker.proofs.TeamBlindLemmas.{team_told}
 use Rattle.checker.proofs.RelabelledLemmas.{same_at, same_places}
 use Rattle.checker.proofs.EndVerdictLemmas.{ends_relabelled, ends_verdict}
-use Rattle.checker.proofs.FileYesLemmas.{yes_by_file, trace_turns}
+use Rattle.checker.proofs.FileYesLemmas.{yes_by_file, turns_of, sound_of}
 
 -- ---- what a trace says of the records
 
@@ -69,18 +69,19 @@ same_turned rs ss same (inr told) =
 
 -- ---- a yes
 
-pub yes_but_for_ends : (version : ℕ) (records rs : List Record) → IsTraceOf version records
-    → AreSameButForEnds records rs → ((i : ℕ) (cause : Cause) → HasCause rs i cause → ⊥)
+pub yes_but_for_ends : (version : ℕ) (records rs : List Record) → IsKnown version
+    → All (FitsIn version) records → AreSameButForEnds records rs
+    → ((i : ℕ) (cause : Cause) → HasCause rs i cause → ⊥)
     → ((i task : ℕ) → IsRequired rs i task → IsCompleteAt rs task i) → IsLinearization rs (places rs)
     → IsVerdict records (Yes (places records))
-yes_but_for_ends version records rs trace same none complete linear =
+yes_but_for_ends version records rs known fit same none complete linear =
     let long : places records ≡ places rs = same_places records rs (ends_relabelled records rs same) in
     let yes : IsVerdict rs (Yes (places rs)) =
     yes_by_file rs (record {
-      turns = same_turned records rs same (trace_turns version records trace);
+      turns = same_turned records rs same (turns_of version records known fit);
       sound =
           all_by ending_alone (λ r. IsSound r.body) (λ r. team_sound r.body) records rs same
-          trace.is_trace.sound;
+          (sound_of version records fit);
       none = none;
       complete = complete;
       linear = linear;

@@ -1,15 +1,16 @@
 -- Where the order of the file is a linearization, and by it no record has a cause and all that must be
 -- complete at a record is complete there, the verdict is yes with that order.
 use Rattle.std.proofs.Common.{zero-add, ◌≡◌, ◌∙◌, ℕ, ◌<◌, List, length, Some, sym, arith, inl, inr, ◌⊎◌}
+use Rattle.std.proofs.Common.{true, false, Option, None, refl, ap, subst, get_or}
 use Rattle.std.proofs.lemmas.Bool.{cases_lt}
 use Rattle.std.proofs.lemmas.List.FromFn.{length-range_with_len, get_or-range_with_len}
-use Rattle.std.specs.Prelude.{All}
+use Rattle.std.specs.Prelude.{◌&&◌, All, is_some, ltb, option_and_then, slice_get}
 use Rattle.ompt_events.specs.declared.records.Record.{Record}
 use Rattle.ompt_events.specs.declared.cause.Cause.{Cause}
 use Rattle.ompt_events.specs.declared.cause.Cause.TheVariants.{CreatedTwice, NotCurrent, TurnGap, StatusOrder}
-use Rattle.ompt_events.specs.Records.{running}
+use Rattle.ompt_events.specs.Records.{running, started, told_turns}
 use Rattle.ompt_events.specs.Places.{at, thread_at, places}
-use Rattle.ompt_events.specs.Traces.{IsTraceOf, IsSound}
+use Rattle.ompt_events.specs.Traces.{IsKnown, IsSound, FitsIn}
 use Rattle.ompt_events.specs.Turns.{TellsNoTurns, turn_at}
 use Rattle.ompt_events.specs.HappensBefore.{IsStep, step}
 use Rattle.ompt_events.specs.Linearization.{IsEarlier, IsLinearization}
@@ -17,14 +18,13 @@ use Rattle.ompt_events.specs.Completion.{IsCompleteAt}
 use Rattle.ompt_events.specs.Violations.{IsRequired}
 use Rattle.ompt_events.specs.Causes.{HasCause}
 use Rattle.ompt_events.proofs.FileOrderLemmas.{file_greedy}
-use Rattle.ompt_events.proofs.TurnLemmas.{first_version_tells_none}
+use Rattle.ompt_events.proofs.ListLemmas.{all_get}
 use Rattle.task_tree.specs.Rising.{TurnsRise}
 use Rattle.task_tree.proofs.RisingLemmas.{own_running, untold_rise}
 use Rattle.task_tree.proofs.SuspendedLemmas.{TellsStarts}
 use Rattle.checker.specs.declared.verdict.Verdict.TheVariants.{Yes}
 use Rattle.checker.specs.Readings.{by_task, by_file}
 use Rattle.checker.specs.Verdicts.{IsVerdict}
-use Rattle.checker.proofs.TurnWalkLemmas.{first_or_told}
 use Rattle.checker.proofs.UpgradeWalkLemmas.{same_or_not}
 use Rattle.checker.proofs.OngoingLemmas.{HasOrderlyTurns}
 use Rattle.checker.proofs.OwnTurnLemmas.{later_turn_later}
@@ -102,20 +102,44 @@ yes_by_file rs known =
     (file_greedy rs (steps_lead rs known.linear))
     (λ i task required. known.complete i task ((file_required rs i task).0 required)))
 
--- the version alone tells whether turns are recorded
-pub trace_turns : (version : ℕ) (rs : List Record) → IsTraceOf version rs → TellsNoTurns rs ⊎ TellsStarts rs
-trace_turns version rs trace = elim (first_or_told version rs trace) [
-  | inl first ↦ inl (first_version_tells_none rs first)
-  | inr told ↦ inr told
-]
+none_of : {X : Type 0} (o : Option X) → is_some o ≡ false → o ≡ None
+none_of None e = refl
+none_of (Some x) e = cc
 
-pub file_yes : (version : ℕ) (rs : List Record) → IsTraceOf version rs
+-- the version alone tells whether turns are recorded
+pub turns_of : (version : ℕ) (rs : List Record) → IsKnown version → All (FitsIn version) rs
+    → TellsNoTurns rs ⊎ TellsStarts rs
+turns_of version rs known fit = elim known [
+  | inl first ↦ inl (tells_none rs (subst (λ v. All (FitsIn v) rs) first fit))
+  | inr later ↦ elim later [
+    | inl second ↦ inr (tells_starts 2 rs refl (subst (λ v. All (FitsIn v) rs) second fit))
+    | inr third ↦ inr (tells_starts 3 rs refl (subst (λ v. All (FitsIn v) rs) third fit))
+  ]
+]
+  where
+    tells_starts : (v : ℕ) (ss : List Record) → ltb 1 v ≡ true → All (FitsIn v) ss → TellsStarts ss
+    tells_starts v ss late fits i r within =
+        let own = get_or ss i r in
+        (fits i r within).0.1 ∙ ap (λ b. b && is_some (started own.body)) late
+
+    tells_none : (ss : List Record) → All (FitsIn 1) ss → TellsNoTurns ss
+    tells_none ss fits i = there (slice_get ss i) refl
+      where
+        there : (o : Option Record) → slice_get ss i ≡ o
+            → option_and_then (λ (r : Record). told_turns r.body) o ≡ None
+        there None is = refl
+        there (Some r) is = none_of (told_turns r.body) (all_get (FitsIn 1) ss i r fits is).0.1
+
+pub sound_of : (version : ℕ) (rs : List Record) → All (FitsIn version) rs → All (λ r. IsSound r.body) rs
+sound_of version rs fit i r within = (fit i r within).0.0
+
+pub file_yes : (version : ℕ) (rs : List Record) → IsKnown version → All (FitsIn version) rs
     → ((i : ℕ) (cause : Cause) → HasCause rs i cause → ⊥)
     → ((i task : ℕ) → IsRequired rs i task → IsCompleteAt rs task i) → IsLinearization rs (places rs)
     → IsVerdict rs (Yes (places rs))
-file_yes version rs trace none complete linear = yes_by_file rs (record {
-  turns = trace_turns version rs trace;
-  sound = trace.is_trace.sound;
+file_yes version rs known fit none complete linear = yes_by_file rs (record {
+  turns = turns_of version rs known fit;
+  sound = sound_of version rs fit;
   none = none;
   complete = complete;
   linear = linear;

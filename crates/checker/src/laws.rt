@@ -1,13 +1,13 @@
 //! A trace has one verdict; what an unfinished task shows about orders; and what turns and versions change in a
 //! verdict.
 //! These are laws about the definitions alone, proved for all records. The functions do nothing.
-ghost use Rattle.std.specs.Prelude.{◌≡◌, ◌≢◌, ◌<◌, ◌↔◌, ℕ, true, List, Option, Some};
+ghost use Rattle.std.specs.Prelude.{◌≡◌, ◌≢◌, ◌<◌, ◌↔◌, ℕ, true, List, Option, Some, All};
 ghost use Rattle.ompt_events.specs.declared.records.Record.{Record};
 ghost use Rattle.ompt_events.specs.declared.cause.Cause.TheVariants.{CreatedTwice, NotCurrent, TurnGap, StatusOrder};
 ghost use Rattle.ompt_events.specs.declared.cause.Cause.TheVariants.{RegionNesting};
 ghost use Rattle.ompt_events.specs.Records.{begun_root, started, suspended_turn};
 ghost use Rattle.ompt_events.specs.Places.{at, is_own, places};
-ghost use Rattle.ompt_events.specs.Traces.{IsTraceOf};
+ghost use Rattle.ompt_events.specs.Traces.{IsTraceOf, IsKnown, FitsIn};
 ghost use Rattle.ompt_events.specs.Turns.{own_place};
 ghost use Rattle.ompt_events.specs.Tree.{IsExplicit};
 ghost use Rattle.ompt_events.specs.Causes.{IsFreeOf};
@@ -138,14 +138,15 @@ pub fn the_end_of_a_root_tells_nothing_of_its_team()
 /// let each task that must be complete at a record be complete there by what the record has seen; and let that
 /// order be a linearization.
 ///
-/// - `alike`: the trace has these records.
-/// - `but_for_ends`: the trace has these records, but for what ends of initial and implicit tasks say of teams.
+/// - `alike`: the file has these records, however many. Each alone can be in a file of the version.
+/// - `but_for_ends`: the file has these records, but for what ends of initial and implicit tasks say of teams.
 pub fn a_file_in_order_has_a_yes()
-    ensures alike { (version : ℕ) (rs : List Record) → IsTraceOf version rs → ShowsNone (by_file rs)
+    ensures alike { (version : ℕ) (rs : List Record) → IsKnown version → All (FitsIn version) rs
+        → ShowsNone (by_file rs)
         → ((i task : ℕ) → violations.IsRequired rs i task → IsCompleteAt rs task i)
         → IsLinearization rs (places rs) → IsVerdict rs (Yes (places rs)) }
-    ensures but_for_ends { (version : ℕ) (records rs : List Record) → IsTraceOf version records
-        → AreSameButForEnds records rs → ShowsNone (by_file rs)
+    ensures but_for_ends { (version : ℕ) (records rs : List Record) → IsKnown version
+        → All (FitsIn version) records → AreSameButForEnds records rs → ShowsNone (by_file rs)
         → ((i task : ℕ) → violations.IsRequired rs i task → IsCompleteAt rs task i)
         → IsLinearization rs (places rs) → IsVerdict records (Yes (places records)) }
 {}
