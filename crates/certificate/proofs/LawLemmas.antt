@@ -17,7 +17,8 @@ use Rattle.certificate.specs.declared.faults.ReadFault.{ReadFault}
 use Rattle.lines.specs.Limits.{max_line}
 use Rattle.lines.specs.RecordLines.{line_says, header_says}
 use Rattle.certificate.specs.Formats.{Cut, cut, is_long, line_adds, end_adds, from_line, go_on, fault_in}
-use Rattle.certificate.specs.Files.{has_room, no_trace, with_record, with_header, text_adds, traces}
+use Rattle.certificate.specs.Files.{Room, has_room, no_trace, with_record_in, with_header, text_adds_in}
+use Rattle.certificate.specs.Files.{traces, traces_in}
 use Rattle.certificate.specs.Files.{line_fault, trace_before}
 use Rattle.certificate.specs.Files.{file_says_to, trace_said, records_said, file_version, cause_in, trace_of}
 use Rattle.certificate.specs.Files.{StandsFor, IsFaultlessBefore, IsFirstFault}
@@ -66,7 +67,8 @@ slice_get-seam : (done : List (List ℕ)) (line : List ℕ) (lines : List (List 
 slice_get-seam [] line lines = refl
 slice_get-seam (d ∷ done) line lines = slice_get-seam done line lines
 
-end_adds-ok : (n : ℕ) (before rs : TraceView) (rest : List ℕ) → end_adds n before rest ≡ Ok rs → rs ≡ before
+pub end_adds-ok : (n : ℕ) (before rs : TraceView) (rest : List ℕ) → end_adds n before rest ≡ Ok rs
+    → rs ≡ before
 end_adds-ok n before rs rest h =
     elim (is_long rest) as
     (λ b.
@@ -88,13 +90,14 @@ end_adds-ok n before rs rest h =
     ] h
 
 -- the records of the lines so far, and of one more
-records_of-more : (newest : ℕ) (done : List (List ℕ)) (before after : TraceView) (line : List ℕ)
-    → before ≡ trace_of newest done → line_adds (traces newest) (length done + 1) before line ≡ Ok after
+records_of-more : (room : Room) (newest : ℕ) (done : List (List ℕ)) (before after : TraceView)
+    (line : List ℕ) → before ≡ trace_of newest done
+    → line_adds (traces_in room newest) (length done + 1) before line ≡ Ok after
     → after ≡ trace_of newest (done ++ (line ∷ []))
-records_of-more newest done before after line is h =
+records_of-more room newest done before after line is h =
     elim (is_long line) as
     (λ b.
-    cond b (Err LineTooLong) (text_adds newest (length done + 1) before line) ≡ Ok after
+    cond b (Err LineTooLong) (text_adds_in room newest (length done + 1) before line) ≡ Ok after
     → after ≡ trace_of newest (done ++ (line ∷ []))) [
       | true ↦ λ e. absurd (ok_not_err after LineTooLong (sym e))
       | false ↦ λ e. by_done done is e
@@ -103,7 +106,7 @@ records_of-more newest done before after line is h =
     one_more : TraceView → TraceView
     one_more b = record { version = b.version; records = b.records ++ records_said b.version (line ∷ []) }
 
-    by_record : (before : TraceView) (o : Result Record ReadCause) → with_record before o ≡ Ok after
+    by_record : (before : TraceView) (o : Result Record ReadCause) → with_record_in room before o ≡ Ok after
         → after
         ≡ record {
           version = before.version;
@@ -113,7 +116,7 @@ records_of-more newest done before after line is h =
     by_record before (Err e) h = absurd (ok_not_err after e (sym h))
     by_record before (Ok r) h =
         let more : TraceView = record { version = before.version; records = before.records ++ r ∷ [] } in
-        elim (has_room before.records r) as (λ b. cond b (Ok more) (Err Limit) ≡ Ok after → after ≡ more) [
+        elim (room before.records r) as (λ b. cond b (Ok more) (Err Limit) ≡ Ok after → after ≡ more) [
           | true ↦ λ e. cc
           | false ↦ λ e. absurd (ok_not_err after Limit (sym e))
         ] h
@@ -124,7 +127,7 @@ records_of-more newest done before after line is h =
     by_header (Ok version) h = cc
 
     by_done : (done : List (List ℕ)) → before ≡ trace_of newest done
-        → text_adds newest (length done + 1) before line ≡ Ok after
+        → text_adds_in room newest (length done + 1) before line ≡ Ok after
         → after ≡ trace_of newest (done ++ (line ∷ []))
     by_done [] is e = by_header (header_says newest line) e
     by_done (d ∷ done) is e =
@@ -173,7 +176,7 @@ walk newest all rest (line ∷ lines) done before whole is =
     (λ after e.
     walk newest all rest lines (done ++ (line ∷ [])) after
     (whole ∙ sym (append_assoc done (line ∷ []) lines))
-    (records_of-more newest done before after line is e))
+    (records_of-more has_room newest done before after line is e))
   where
     front : trace_of newest (take (length done) all) ≡ before
     front =
@@ -336,13 +339,14 @@ lines_from n bytes line rest all from =
     ∙ ap (λ (c : Cut). (cut from.before).lines ++ c.lines) (cut-line line rest all)
 
 -- one line more stands for what it makes of the trace before it
-pub trace_before-line : (newest n k : ℕ) (bytes line rest : List ℕ) (before after : TraceView)
+pub trace_before-line : (room : Room) (newest n k : ℕ) (bytes line rest : List ℕ) (before after : TraceView)
     → IsUnbroken line → length line ≤ max_line → IsFromLine n bytes (line ++ (10 ∷ rest)) → n ≡ k + 1
-    → trace_before newest (cut bytes).lines k ≡ before → Ok after ≡ text_adds newest n before line
+    → trace_before newest (cut bytes).lines k ≡ before → Ok after ≡ text_adds_in room newest n before line
     → trace_before newest (cut bytes).lines n ≡ after
-trace_before-line newest n k bytes line rest before after all short from next is adds =
+trace_before-line room newest n k bytes line rest before after all short from next is adds =
     ap (trace_of newest) with_line
-    ∙ sym (records_of-more newest done before after line (sym is ∙ ap (trace_of newest) first) line_is)
+    ∙ sym
+    (records_of-more room newest done before after line (sym is ∙ ap (trace_of newest) first) line_is)
   where
     done : List (List ℕ)
     done = (cut from.before).lines
@@ -370,7 +374,7 @@ trace_before-line newest n k bytes line rest before after all short from next is
     not_long : is_long line ≡ false
     not_long = grind arith
 
-    line_is : line_adds (traces newest) (length done + 1) before line ≡ Ok after
+    line_is : line_adds (traces_in room newest) (length done + 1) before line ≡ Ok after
     line_is =
         let at : n ≡ length done + 1 = omega (arith, next, count) in
-        rw not_long (sym (subst (λ (j : ℕ). Ok after ≡ text_adds newest j before line) at adds))
+        rw not_long (sym (subst (λ (j : ℕ). Ok after ≡ text_adds_in room newest j before line) at adds))

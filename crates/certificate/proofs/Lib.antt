@@ -13,9 +13,9 @@ mod TraceLemmas
 mod ScriptFileLemmas
 mod WritingLemmas
 mod KeptLemmas
-mod TallyLemmas
 mod TakingLemmas
 mod LawLemmas
+mod LongFileLemmas
 mod TaskTurnLemmas
 mod UpgradeLemmas
 mod TraceTextLemmas

@@ -15,7 +15,8 @@ use Rattle.certificate.specs.declared.faults.ReadFault.{ReadFault}
 use Rattle.lines.specs.RecordLines.{line_says, header_says, said_of, value_of, names_format}
 use Rattle.lines.specs.RecordLines.{format_name}
 use Rattle.lines.specs.RecordLines.{version_read, version_in, bounded, record_fits, unbounded}
-use Rattle.certificate.specs.Files.{file_says_to, text_adds, traces, with_record, with_header, has_room}
+use Rattle.certificate.specs.Files.{Room, file_says_to, text_adds, text_adds_in, traces, traces_in}
+use Rattle.certificate.specs.Files.{with_record, with_record_in, with_header, has_room}
 use Rattle.std.proofs.lemmas.Bool.{ltb-true, leb-true, cases_lt}
 use Rattle.std.proofs.lemmas.Option.{none-some, option_and_then_some}
 use Rattle.lines.specs.Members.{whole}
@@ -31,22 +32,23 @@ pub same_cause : {X : Type 0} (e f : ReadCause) → ◌≡◌ {A = Result X Read
     → IsTextCause f → IsTextCause e
 same_cause e f h is = let same : f ≡ e = cc in subst (λ (c : ReadCause). IsTextCause c) same is
 
-with_record-cause : (version : ℕ) (before : TraceView) (o : Option Data) (e : ReadCause)
-    → Err e ≡ with_record before (said_of version o) → IsTextCause e
-with_record-cause version before None e h = same_cause e NotJson h tt
-with_record-cause version before (Some d) e h = by_members (unbounded version d) h
+with_record-cause : (room : Room) (version : ℕ) (before : TraceView) (o : Option Data) (e : ReadCause)
+    → Err e ≡ with_record_in room before (said_of version o) → IsTextCause e
+with_record-cause room version before None e h = same_cause e NotJson h tt
+with_record-cause room version before (Some d) e h = by_members (unbounded version d) h
   where
-    by_members : (o : Option Record) → Err e ≡ with_record before (bounded record_fits o) → IsTextCause e
+    by_members : (o : Option Record) → Err e ≡ with_record_in room before (bounded record_fits o)
+        → IsTextCause e
     by_members None h = same_cause e Field h tt
     by_members (Some r) h =
         elim (record_fits r) as
-        (λ b. Err e ≡ with_record before (cond b (Ok r) (Err Limit)) → IsTextCause e) [
+        (λ b. Err e ≡ with_record_in room before (cond b (Ok r) (Err Limit)) → IsTextCause e) [
           | true ↦ λ fits.
               let more : TraceView = record {
                 version = before.version;
                 records = before.records ++ r ∷ [];
               } in
-              elim (has_room before.records r) as
+              elim (room before.records r) as
               (λ b. Err e ≡ cond b (Ok more) (Err Limit) → IsTextCause e) [
                 | true ↦ λ kept. absurd (ok_not_err _ e (sym kept))
                 | false ↦ λ full. same_cause e Limit full tt
@@ -58,19 +60,22 @@ with_header-cause : (o : Option ℕ) (e : ReadCause) → Err e ≡ with_header (
 with_header-cause None e h = same_cause e Header h tt
 with_header-cause (Some version) e h = absurd (ok_not_err _ e (sym h))
 
-pub traces-text_causes : (newest : ℕ) → HasTextCauses (traces newest)
-traces-text_causes newest n before line e h =
+pub traces_in-text_causes : (room : Room) (newest : ℕ) → HasTextCauses (traces_in room newest)
+traces_in-text_causes room newest n before line e h =
     elim (n == 1) as
     (λ b.
     Err e
     ≡ cond b (with_header (header_says newest line))
-    (with_record before (line_says before.version line))
+    (with_record_in room before (line_says before.version line))
     → IsTextCause e) [
       | true ↦
           λ first.
           with_header-cause (option_and_then (version_in format_name newest) (value_of line)) e first
-      | false ↦ λ later. with_record-cause before.version before (value_of line) e later
+      | false ↦ λ later. with_record-cause room before.version before (value_of line) e later
     ] h
+
+pub traces-text_causes : (newest : ℕ) → HasTextCauses (traces newest)
+traces-text_causes newest = traces_in-text_causes has_room newest
 
 -- ---- what is reported of a trace file
 
@@ -124,17 +129,22 @@ with_header-empty after (Ok version) h =
     let is : after ≡ none = cc in
     ap (λ (t : TraceView). length t.records) is
 
-pub text_adds-record : (newest n : ℕ) (before : TraceView) (line : List ℕ) → (n ≡ 1 → ⊥)
-    → text_adds newest n before line ≡ with_record before (line_says before.version line)
-text_adds-record newest n before line other =
+pub text_adds_in-record : (room : Room) (newest n : ℕ) (before : TraceView) (line : List ℕ) → (n ≡ 1 → ⊥)
+    → text_adds_in room newest n before line ≡ with_record_in room before (line_says before.version line)
+text_adds_in-record room newest n before line other =
     elim (n == 1) as
     (λ b.
     n == 1 ≡ b
-    → cond b (with_header (header_says newest line)) (with_record before (line_says before.version line))
-    ≡ with_record before (line_says before.version line)) [
+    → cond b (with_header (header_says newest line))
+    (with_record_in room before (line_says before.version line))
+    ≡ with_record_in room before (line_says before.version line)) [
       | true ↦ λ is. absurd (other (eqb-true n 1 is))
       | false ↦ λ _. refl
     ] refl
+
+pub text_adds-record : (newest n : ℕ) (before : TraceView) (line : List ℕ) → (n ≡ 1 → ⊥)
+    → text_adds newest n before line ≡ with_record before (line_says before.version line)
+text_adds-record newest n before line other = text_adds_in-record has_room newest n before line other
 
 pub Grows-text : (newest n : ℕ) (before after : TraceView) (line : List ℕ)
     → Ok after ≡ text_adds newest n before line → Grows n before.records after.records

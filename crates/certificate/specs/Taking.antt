@@ -1,37 +1,33 @@
 -- What holds while the records of a file are taken one after another and none of them is kept.
-use Rattle.std.specs.Prelude.{ℕ, ◌≡◌, ◌⊎◌, ◌+◌, ◌*◌, ◌≤◌, Bool, true, false, List, length}
-use Rattle.std.specs.Prelude.{take, Option, Some, None, Result, Ok, Err, IfSome, is_some, nat_lt}
-use Rattle.std.specs.Prelude.{if◌then◌else◌}
+use Rattle.std.specs.Prelude.{ℕ, ◌≡◌, ◌⊎◌, ◌+◌, ◌*◌, ◌≤◌, List, length, take, Option, Some, None, Result, Ok}
+use Rattle.std.specs.Prelude.{Err, IfSome}
 use Rattle.ompt_events.specs.declared.records.Record.{Record}
-use Rattle.ompt_events.specs.Records.{made}
-use Rattle.ompt_events.specs.Limits.{max_tasks}
-use Rattle.ompt_events.specs.Traces.{TraceView, IsTraceOf}
+use Rattle.ompt_events.specs.Traces.{TraceView}
 use Rattle.lines.specs.Limits.{max_line}
 use Rattle.lines.specs.RecordLines.{IsSaid, header_says, line_says}
 use Rattle.lines.specs.declared.cause.ReadCause.{ReadCause}
 use Rattle.lines.specs.declared.cause.ReadCause.TheVariants.{Header}
-use Rattle.certificate.specs.declared.tally.Tally.{Tally}
 use Rattle.certificate.specs.declared.taking.Line.{Line}
 use Rattle.certificate.specs.declared.taking.Line.TheVariants.{Taken, Refused, End}
-use Rattle.certificate.specs.Limits.{newest_version}
+use Rattle.certificate.specs.Limits.{max_numbered, newest_version}
 use Rattle.certificate.specs.Windows.{LineFeedAt, ShowsFault, ShowsLine}
 use Rattle.certificate.specs.Formats.{cut}
-use Rattle.certificate.specs.Files.{file_says, trace_before, traces, with_record, IsFaultlessBefore}
-use Rattle.certificate.specs.Keeping.{IsTraceKept, and_record}
-use Rattle.certificate.specs.Reading.{IsBetween, IsToldRightly}
+use Rattle.certificate.specs.Files.{AreRecordsOf, long_file_says, long_traces, trace_before}
+use Rattle.certificate.specs.Keeping.{and_record}
+use Rattle.certificate.specs.Reading.{IsBetween, IsLineReached, IsToldIn}
 
 -- ---- what a caller sees
 
--- all records of the file were taken; if its bytes are known, it is a file for their trace
+-- all records of the file were taken; if its bytes are known, they stand for these records and this version
 pub record HasTakenAll (known : Option (List ℕ)) (has_taken : ℕ → List Record → Type 0) : Type 0 where
   pub trace : TraceView
-  pub file : IfSome known (λ bytes. file_says bytes ≡ Ok trace)
-  pub is_trace : IsTraceOf trace.version trace.records
+  pub file : IfSome known (λ bytes. long_file_says bytes ≡ Ok trace)
+  pub records : AreRecordsOf trace.version trace.records
   pub taken : has_taken trace.version trace.records
 
 -- no line up to the one of number n has a fault, if the bytes are known
 abbrev pub IsFaultlessUpTo : ℕ → Option (List ℕ) → Type 0
-IsFaultlessUpTo n known = IfSome known (λ bytes. IsFaultlessBefore newest_version (n + 1) bytes)
+IsFaultlessUpTo n known = IfSome known (λ bytes. IsLineReached long_traces (n + 1) bytes)
 
 -- the first lines, this many, stand for the trace, if the bytes are known
 abbrev pub FirstLinesSay : ℕ → Option (List ℕ) → TraceView → Type 0
@@ -46,12 +42,12 @@ pub record HasTakenUntil (n : ℕ) (known : Option (List ℕ))
   pub event : Record
   pub line : n ≡ length before.records + 2
   pub lines : FirstLinesSay n known (and_record before event)
-  pub is_trace : IsTraceOf before.version (and_record before event).records
+  pub records : AreRecordsOf before.version (and_record before event).records
   pub refused : has_refused before.version before.records event
 
 -- the fault is reported rightly, if the bytes are known
 abbrev pub IsToldOf : Option (List ℕ) → ReadCause → ℕ → Option (List ℕ) → Type 0
-IsToldOf known cause n left = IfSome known (λ bytes. IsToldRightly cause n bytes left)
+IsToldOf known cause n left = IfSome known (λ bytes. IsToldIn long_traces cause n bytes left)
 
 -- ---- what a line shows
 
@@ -85,60 +81,33 @@ ShowsRecord version (Some found) window left =
     ShowsText found.1 window × (line_says version (take found.1 window) ≡ Ok found.0)
 ShowsRecord version None window left = ShowsLine None window left
 
--- ---- what is counted
-
--- this is the tally of the trace
-pub record IsTallyOf (trace : TraceView) (tally : Tally) : Type 0 where
-  pub version : tally.version ≡ trace.version
-  pub kept : IsTraceKept trace tally.records tally.tasks
-
--- the number of tasks with this record, where a trace may have so many
-abbrev pub tasks_with : ℕ → Record → Option ℕ
-tasks_with tasks r =
-    if is_some (made r.body) then (if nat_lt tasks max_tasks then Some (tasks + 1) else None) else Some tasks
-
--- the record was counted with those of the trace, or has no room there
-abbrev pub IsCounted : Result (Unit {0}) ReadCause → TraceView → Record → Tally → Type 0
-IsCounted (Ok _) trace r tally =
-    (Ok (and_record trace r) ≡ with_record trace (Ok r)) × IsTallyOf (and_record trace r) tally
-IsCounted (Err cause) trace r tally = Err cause ≡ with_record trace (Ok r)
-
 -- ---- between two lines
 
--- the records before the line of number n, one in each line after the header, were counted and taken, and
--- what they leave waits in the window and the source
-pub record IsTaking (known : Option (List ℕ)) (n : ℕ) (tally : Tally) (window : List ℕ)
-    (left : Option (List ℕ)) (has_taken : ℕ → List Record → Type 0) : Type 0 where
+-- the records before the line of number n, one in each line after the header, were taken, and what they leave
+-- waits in the window and the source
+pub record IsTaking (known : Option (List ℕ)) (n version : ℕ) (window : List ℕ) (left : Option (List ℕ))
+    (has_taken : ℕ → List Record → Type 0) : Type 0 where
   pub trace : TraceView
   pub line : n ≡ length trace.records + 2
   pub lines : FirstLinesSay (length trace.records + 1) known trace
-  pub counted : IsTallyOf trace tally
+  pub of_version : version ≡ trace.version
+  pub records : AreRecordsOf trace.version trace.records
+  pub numbered : length trace.records ≤ max_numbered
   pub taken : has_taken trace.version trace.records
-  pub between : IsBetween (traces newest_version) known n trace window left
+  pub between : IsBetween long_traces known n trace window left
 
 -- the header was taken, or has a fault
-abbrev pub IsBegun : Result Tally ReadCause → Option (List ℕ) → List ℕ → Option (List ℕ)
+abbrev pub IsBegun : Result ℕ ReadCause → Option (List ℕ) → List ℕ → Option (List ℕ)
     → (ℕ → List Record → Type 0) → Type 0
-IsBegun (Ok tally) known window left has_taken = IsTaking known 2 tally window left has_taken
+IsBegun (Ok version) known window left has_taken = IsTaking known 2 version window left has_taken
 IsBegun (Err cause) known window left has_taken = IsToldOf known cause 1 left
 
--- the record was counted with those of the trace and taken, or refused, or has no room, or memory ran out
-abbrev pub IsPassed : Result Bool ReadCause → TraceView → Record → Tally → (ℕ → List Record → Type 0)
-    → (ℕ → List Record → Record → Type 0) → Type 0
-IsPassed (Ok true) trace r tally has_taken has_refused =
-    (Ok (and_record trace r) ≡ with_record trace (Ok r)) × IsTallyOf (and_record trace r) tally
-    × has_taken (and_record trace r).version (and_record trace r).records
-IsPassed (Ok false) trace r tally has_taken has_refused =
-    (Ok (and_record trace r) ≡ with_record trace (Ok r)) × IsTallyOf (and_record trace r) tally
-    × has_refused trace.version trace.records r
-IsPassed (Err cause) trace r tally has_taken has_refused = IsSaid (Err cause) (with_record trace (Ok r))
-
 -- after the line of number n: its record was taken or refused, there was none, or it has a fault
-abbrev pub IsTakenOn : Result Line ReadCause → Option (List ℕ) → ℕ → Tally → List ℕ → Option (List ℕ)
+abbrev pub IsTakenOn : Result Line ReadCause → Option (List ℕ) → ℕ → ℕ → List ℕ → Option (List ℕ)
     → (ℕ → List Record → Type 0) → (ℕ → List Record → Record → Type 0) → Type 0
-IsTakenOn (Ok Taken) known n tally window left has_taken has_refused =
-    IsTaking known (n + 1) tally window left has_taken
-IsTakenOn (Ok Refused) known n tally window left has_taken has_refused =
+IsTakenOn (Ok Taken) known n version window left has_taken has_refused =
+    IsTaking known (n + 1) version window left has_taken
+IsTakenOn (Ok Refused) known n version window left has_taken has_refused =
     IsFaultlessUpTo n known × HasTakenUntil n known has_refused
-IsTakenOn (Ok End) known n tally window left has_taken has_refused = HasTakenAll known has_taken
-IsTakenOn (Err cause) known n tally window left has_taken has_refused = IsToldOf known cause n left
+IsTakenOn (Ok End) known n version window left has_taken has_refused = HasTakenAll known has_taken
+IsTakenOn (Err cause) known n version window left has_taken has_refused = IsToldOf known cause n left

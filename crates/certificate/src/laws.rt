@@ -1,12 +1,15 @@
 //! What follows from the definitions of a file alone, whichever versions are read. The functions do nothing:
 //! their contracts are the laws.
-ghost use Rattle.std.specs.Prelude.{◌≡◌, ◌≤◌, ◌↔◌, ℕ, List, Ok, Err};
+ghost use Rattle.std.specs.Prelude.{◌≡◌, ◌≤◌, ◌↔◌, ℕ, List, length, Ok, Err};
 ghost use Rattle.ompt_events.specs.declared.records.Record.{Record};
-ghost use Rattle.ompt_events.specs.Traces.{TraceView, IsTraceOf, FitsIn};
+ghost use Rattle.ompt_events.specs.Limits.{max_records, max_tasks};
+ghost use Rattle.ompt_events.specs.Traces.{TraceView, IsTraceOf, FitsIn, tasks_in};
 ghost use Rattle.certificate.specs.declared.faults.ReadFault.{ReadFault};
 ghost use Rattle.lines.specs.RecordLines.{line_says};
 ghost use Rattle.certificate.specs.TraceTexts.{trace_text};
-ghost use Rattle.certificate.specs.Files.{file_says_to, StandsFor, IsFirstFault};
+ghost use Rattle.certificate.specs.Files.{file_says, file_says_to, long_file_says, long_traces};
+ghost use Rattle.certificate.specs.Files.{StandsFor, IsFirstFault};
+ghost use Rattle.certificate.specs.Reading.{IsLineReached};
 
 /// A file stands for at most one trace.
 pub fn one_trace()
@@ -45,4 +48,18 @@ pub fn text_stands_for_its_trace()
         → IsTraceOf trace.version trace.records
         → StandsFor newest (trace_text trace) trace
         × ((other : TraceView) → StandsFor newest (trace_text trace) other → other ≡ trace) }
+{}
+
+/// A file stands for a trace if and only if these are the records of the file where it may have any length,
+/// and they and their tasks are not too many for a trace.
+pub fn limits_alone_differ()
+    ensures { (bytes : List ℕ) (trace : TraceView) → (file_says bytes ≡ Ok trace)
+        ↔ ((long_file_says bytes ≡ Ok trace) × (length trace.records ≤ max_records)
+        × (tasks_in trace.records ≤ max_tasks)) }
+{}
+
+/// A fault of a file of any length is in no line before one that was reached.
+pub fn reached_line_is_faultless()
+    ensures { (n : ℕ) (bytes : List ℕ) (fault : ReadFault) → IsLineReached long_traces n bytes
+        → long_file_says bytes ≡ Err fault → n ≤ fault.line }
 {}

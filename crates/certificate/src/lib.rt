@@ -2,10 +2,10 @@
 //! bytes written to any sink. Read `device`, `faults`, `reading` and `writing` for what a caller sees, and
 //! `laws` for what follows of a file. `window` has the bytes of a source that no line has yet, `kept` the trace
 //! so far, and `lists` what that is kept in; the crate `lines` reads and writes each line. `taking` hands the
-//! records on one after another and keeps none: `line_reader` reads them, `tally` counts them. `reading_on`
-//! reads on several workers: by `blocks`, cut into `pieces` that are judged side by side; `ahead` is what the
-//! calling thread has in hand meanwhile. `upgrading` makes a trace of a newer version of an older one; of one
-//! of version 1 by what `task_turns` notes of each task.
+//! records on one after another and keeps none; `line_reader` reads them for it. `reading_on` reads on
+//! several workers: by `blocks`, cut into `pieces` that are judged side by side; `ahead` is what the calling
+//! thread has in hand meanwhile. `upgrading` makes a trace of a newer version of an older one; of one of
+//! version 1 by what `task_turns` notes of each task.
 #![tactic(auto)]
 
 mod ahead;
@@ -23,7 +23,6 @@ mod reading_on;
 mod script_reading;
 mod streams;
 mod taking;
-mod tally;
 mod task_turns;
 mod upgrading;
 mod window;

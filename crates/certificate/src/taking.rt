@@ -1,22 +1,22 @@
 //! A trace file whose records are handed on one after another, and not kept.
-ghost use Rattle.std.specs.Prelude.{◌≡◌, ◌≤◌, ℕ, List, Option, Ok, IfErr};
+ghost use Rattle.std.specs.Prelude.{◌≡◌, ◌≤◌, ◌+◌, ℕ, List, Option, Ok, IfErr};
 ghost use Rattle.std.specs.Result.{result_err};
-ghost use Rattle.ompt_events.specs.Traces.{FitsIn, TraceView};
 ghost use Rattle.certificate.specs.Counts.{TakesTurns, breaks_told, cause_told};
-ghost use Rattle.certificate.specs.Files.{no_trace, traces};
-ghost use Rattle.certificate.specs.Limits.{newest_version};
-ghost use Rattle.certificate.specs.Reading.{IsBetween, IsOfText};
-ghost use Rattle.certificate.specs.Taking.{HasTakenAll, HasTakenUntil, IsBegun, IsFaultlessUpTo, IsPassed};
-ghost use Rattle.certificate.specs.Taking.{IsTakenOn, IsTaking, IsTallyOf, IsToldOf};
+ghost use Rattle.certificate.specs.Files.{long_traces, no_trace};
+ghost use Rattle.certificate.specs.Reading.{IsBetween};
+ghost use Rattle.certificate.specs.Taking.{HasTakenAll, HasTakenUntil, IsBegun, IsFaultlessUpTo};
+ghost use Rattle.certificate.specs.Taking.{IsTakenOn, IsTaking, IsToldOf};
 
 use crate::device::{MAX_TURNS, Source};
 use crate::faults::ReadFault;
 use crate::line_reader::LineReader;
-use crate::reading::LAST_LINE;
-use crate::tally::Tally;
 use lines::ReadCause;
 use ompt_events::Record;
 use std::alloc::{AllocError, Global};
+
+/// The last line that may have a record. In the next line, the last that has a number, a record is one too
+/// many.
+pub(crate) const LAST_RECORD_LINE: u32 = u32::MAX - 1;
 
 /// What takes the records of a file one after another.
 pub trait Taker {
@@ -62,21 +62,22 @@ pub(crate) enum Line {
     End,
 }
 
-/// Reads a trace file of a version up to [`NEWEST_VERSION`](crate::NEWEST_VERSION), and hands its records to
-/// the taker one after another, without keeping any, to the end of the file or the first record that the taker
-/// refuses. Fails as [`read`](crate::read) does. Has a buffer of 131,074 bytes, two of the longest lines with
-/// their line feeds.
+/// Reads a trace file of a version up to [`NEWEST_VERSION`](crate::NEWEST_VERSION), and hands its records
+/// to the taker one after another, without keeping any, to the end of the file or the first record that the
+/// taker refuses. A file may have 2^32 - 3 records, one in each line from line 2 on, and any number of tasks;
+/// one record more is the fault `Limit` in line 2^32 - 1. Fails else as [`read`](crate::read) does. Has a
+/// buffer of 131,074 bytes, two of the longest lines with their line feeds.
 pub fn read_each<S: Source, T: Taker>(
     alloc: Global,
     source: &mut S,
     taker: &mut T,
 ) -> Result<Taken, ReadFault>
-    // The file was taken to its end: the taker has the records of the trace that the bytes stand for.
+    // The file was taken to its end: the taker has the records that the bytes stand for.
     ensures all { result ≡ Ok Taken.All → HasTakenAll (S.remaining source.old)
         (λ version rs. T.has_taken version rs taker.new) }
 
     // Else no line has a fault up to the one whose record was refused.
-    ensures until { (line : ℕ) → result ≡ Ok (Taken.Until line) → (2 ≤ line) × (line ≤ LAST_LINE)
+    ensures until { (line : ℕ) → result ≡ Ok (Taken.Until line) → (2 ≤ line) × (line ≤ LAST_RECORD_LINE)
         × IsFaultlessUpTo line (S.remaining source.old) }
 
     // The taker took the records of the lines before that one, and then refused the record of that line.
@@ -94,7 +95,7 @@ pub fn read_each<S: Source, T: Taker>(
 
     // `Device` is reported if and only if the source has failed.
     ensures breaks { S.breaks source.new ≡ breaks_told (cause_told result) (S.breaks source.old) }
-    ensures line { IfErr result (λ fault. (1 ≤ fault.line) × (fault.line ≤ LAST_LINE)) }
+    ensures line { IfErr result (λ fault. (1 ≤ fault.line) × (fault.line ≤ LAST_RECORD_LINE + 1)) }
 {
     let Ok(mut reader) = LineReader::new(alloc) else {
         return Err(ReadFault {
@@ -102,12 +103,12 @@ pub fn read_each<S: Source, T: Taker>(
             cause: ReadCause::Memory,
         });
     };
-    let mut tally = match begin(&mut reader, source, taker) {
-        Ok(tally) => tally,
+    let version = match begin(&mut reader, source, taker) {
+        Ok(version) => version,
         Err(cause) => return Err(ReadFault { line: 1, cause }),
     };
-    'lines: for line in 2..=LAST_LINE {
-        match take_line(&mut reader, source, &mut tally, taker) {
+    'lines: for line in 2..=LAST_RECORD_LINE + 1 {
+        match take_line(&mut reader, source, version, line, taker) {
             Ok(Line::Taken) => {}
             Ok(Line::Refused) => return Ok(Taken::Until(line)),
             Ok(Line::End) => return Ok(Taken::All),
@@ -117,14 +118,14 @@ pub fn read_each<S: Source, T: Taker>(
     unreachable!()
 }
 
-/// Reads the header, and begins to take the file's records. Returns the tally of none.
+/// Reads the header, and begins to take the file's records. Returns the version.
 fn begin<S: Source, T: Taker>(
     reader: &mut LineReader,
     source: &mut S,
     taker: &mut T,
-) -> Result<Tally, ReadCause>
+) -> Result<u32, ReadCause>
     requires { reader.old.turns ≤ MAX_TURNS }
-    ensures after { (known : Option (List ℕ)) → IsBetween (traces newest_version) known 1 no_trace
+    ensures after { (known : Option (List ℕ)) → IsBetween long_traces known 1 no_trace
         reader.old.window (S.remaining source.old)
         → IsBegun result known reader.new.window (S.remaining source.new)
         (λ version rs. T.has_taken version rs taker.new) }
@@ -136,53 +137,46 @@ fn begin<S: Source, T: Taker>(
     match taker.begin(version) {
         Ok(()) => {
             reader.skip(len + 1);
-            Ok(Tally::new(version))
+            Ok(version)
         }
         Err(_) => Err(ReadCause::Memory),
     }
 }
 
-/// Reads the next line, and hands on its record.
+/// Reads the line of this number, and hands on its record, if a record may stand there.
 fn take_line<S: Source, T: Taker>(
     reader: &mut LineReader,
     source: &mut S,
-    tally: &mut Tally,
+    version: u32,
+    line: u32,
     taker: &mut T,
 ) -> Result<Line, ReadCause>
     requires { reader.old.turns ≤ MAX_TURNS }
-    ensures after { (known : Option (List ℕ)) (n : ℕ) → IsTaking known n tally.old
+    ensures after { (known : Option (List ℕ)) → IsTaking known line version
         reader.old.window (S.remaining source.old) (λ version rs. T.has_taken version rs taker.old)
-        → IsTakenOn result known n tally.new reader.new.window (S.remaining source.new)
+        → IsTakenOn result known line version reader.new.window (S.remaining source.new)
         (λ version rs. T.has_taken version rs taker.new)
         (λ version rs event. T.has_refused version rs event taker.new) }
+    ensures numbered { result ≡ Ok Line.Refused → line ≤ LAST_RECORD_LINE }
     ensures turns { TakesTurns (result_err result) reader.old.turns reader.new.turns (S.agains source.old)
         (S.agains source.new) }
     ensures breaks { S.breaks source.new ≡ breaks_told (result_err result) (S.breaks source.old) }
 {
-    match reader.record(source, tally.version)? {
-        Some((event, len)) => match pass(&event, tally, taker) {
-            Ok(true) => {
-                reader.skip(len + 1);
-                Ok(Line::Taken)
+    match reader.record(source, version)? {
+        Some((event, len)) => {
+            if line > LAST_RECORD_LINE {
+                return Err(ReadCause::Limit);
             }
-            Ok(false) => Ok(Line::Refused),
-            Err(cause) => Err(cause),
-        },
+            event.read_numbers();
+            match taker.take(&event) {
+                Ok(true) => {
+                    reader.skip(len + 1);
+                    Ok(Line::Taken)
+                }
+                Ok(false) => Ok(Line::Refused),
+                Err(_) => Err(ReadCause::Memory),
+            }
+        }
         None => Ok(Line::End),
-    }
-}
-
-/// Counts the record and hands it on. Returns whether it was taken.
-fn pass<T: Taker>(event: &Record, tally: &mut Tally, taker: &mut T) -> Result<bool, ReadCause>
-    ensures passed { (trace : TraceView) → IsTallyOf trace tally.old → FitsIn trace.version event.now
-        → T.has_taken trace.version trace.records taker.old
-        → IsPassed result trace event.now tally.new (λ version rs. T.has_taken version rs taker.new)
-        (λ version rs event. T.has_refused version rs event taker.new) }
-    ensures fault { IfErr result IsOfText }
-{
-    tally.count(event)?;
-    match taker.take(event) {
-        Ok(taken) => Ok(taken),
-        Err(_) => Err(ReadCause::Memory),
     }
 }

@@ -15,10 +15,10 @@ pub returns-in-Ok-clause-after : goal.returns-in-Ok-clause-after
 returns-in-Ok-clause-after g c =
     rw c.skip.ensures.window (
     λ known now.
-    begun known (c.in_ok-version.version, c.in_ok-version.len) c.new.result c.args.reader.now.window
+    begun known (c.in_ok-version.version, c.in_ok-version.len) c.args.reader.now.window
     c.header.new.self.window (g.S.Source.remaining c.args.source.now)
     (g.S.Source.remaining c.header.new.source) _ c.in_ok-version.ensures.bytes
-    c.in_ok-version.ensures.found c.new.ensures c.in-Ok.ensures now)
+    c.in_ok-version.ensures.found c.in-Ok.ensures now)
 
 pub returns-in-Err-clause-after : goal.returns-in-Err-clause-after
 returns-in-Err-clause-after g c =

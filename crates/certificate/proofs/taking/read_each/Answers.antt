@@ -1,9 +1,8 @@
-use Rattle.std.proofs.Common.{◌≡◌, ◌≤◌, arith, ◌∙◌, subst, Some}
+use Rattle.std.proofs.Common.{◌≡◌, ◌≤◌, arith, ap, ◌∙◌, subst, Ok, Some}
 use Rattle.lines.specs.declared.cause.ReadCause.TheVariants.{Memory}
-use Rattle.certificate.specs.Files.{traces}
+use Rattle.certificate.specs.Files.{long_traces}
 use Rattle.certificate.specs.Taking.{HasTakenUntil, IsFaultlessUpTo}
-use Rattle.certificate.specs.declared.reading.TheConstants.{LAST_LINE}
-use Rattle.certificate.specs.Limits.{newest_version}
+use Rattle.certificate.specs.declared.taking.TheConstants.{LAST_RECORD_LINE}
 use Rattle.certificate.proofs.CountLemmas.{TakesTurns-none, TakesTurns-more, TakesTurns-other}
 use Rattle.certificate.proofs.ReadingLemmas.{IsBetween-start}
 use Rattle.certificate.proofs.TakingLemmas.{told-no_window}
@@ -24,7 +23,7 @@ lines-init g c =
       taking =
           call.after (g.S.Source.remaining c.args.source.now)
           (rw c.in-Ok.ensures.0
-          (IsBetween-start (traces newest_version) (g.S.Source.remaining c.args.source.now)));
+          (IsBetween-start long_traces (g.S.Source.remaining c.args.source.now)));
       turns = rw c.in-Ok.ensures.1 at call.turns;
       breaks = call.breaks;
     }
@@ -34,13 +33,14 @@ returns-in-Ok-Refused-clause-until g c =
     let known = g.S.Source.remaining c.args.source.now in
     let now = c.lines.invariant in
     let low : 2 ≤ c.lines.line = now.low in
-    let high : c.lines.line ≤ LAST_LINE = omega (arith, c.lines-test.true) in
+    let high : c.lines.line ≤ LAST_RECORD_LINE =
+    c.in-Ok-Refused.ensures.numbered (ap Ok c.in-Ok-Refused.field-0-is) in
     let until =
     rw c.in-Ok-Refused.field-0-is
-    at (c.in-Ok-Refused.ensures.after known c.lines.line now.taking) in
+    at (c.in-Ok-Refused.ensures.after known now.taking) in
     λ line same.
     let is : c.lines.line ≡ line = cc in
-    subst (λ n. (2 ≤ n) × (n ≤ LAST_LINE) × IsFaultlessUpTo n known) is (low, high, until.0)
+    subst (λ n. (2 ≤ n) × (n ≤ LAST_RECORD_LINE) × IsFaultlessUpTo n known) is (low, high, until.0)
 
 pub returns-in-Ok-Refused-clause-refused : goal.returns-in-Ok-Refused-clause-refused
 returns-in-Ok-Refused-clause-refused g c =
@@ -48,7 +48,7 @@ returns-in-Ok-Refused-clause-refused g c =
     let now = c.lines.invariant in
     let until =
     rw c.in-Ok-Refused.field-0-is
-    at (c.in-Ok-Refused.ensures.after known c.lines.line now.taking) in
+    at (c.in-Ok-Refused.ensures.after known now.taking) in
     λ line same.
     let is : c.lines.line ≡ line = cc in
     subst
@@ -66,8 +66,7 @@ pub returns-in-Ok-End-clause-all : goal.returns-in-Ok-End-clause-all
 returns-in-Ok-End-clause-all g c =
     λ _.
     rw c.in-Ok-End.field-0-is
-    at (c.in-Ok-End.ensures.after (g.S.Source.remaining c.args.source.now) c.lines.line
-    c.lines.invariant.taking)
+    at (c.in-Ok-End.ensures.after (g.S.Source.remaining c.args.source.now) c.lines.invariant.taking)
 
 pub returns-in-Ok-End-clause-turns : goal.returns-in-Ok-End-clause-turns
 returns-in-Ok-End-clause-turns g c = (
@@ -91,9 +90,19 @@ lines-preserved g c =
       low = omega arith;
       taking =
           rw c.in-Ok-Taken.field-0-is
-          at (call.after (g.S.Source.remaining c.args.source.now) c.lines.line
-          now.taking);
+          at (call.after (g.S.Source.remaining c.args.source.now) now.taking);
       turns =
           TakesTurns-more _ 0 c.lines.reader.turns c.take_line.new.reader.turns _ _ _ now.turns call.turns;
       breaks = call.breaks ∙ now.breaks;
     }
+
+pub unreachable-requires : goal.unreachable-requires
+unreachable-requires g c =
+    let known = g.S.Source.remaining c.args.source.now in
+    elim c.lines-test.branch [
+      | goal.else-lines-test w ↦ omega (arith, w.lines-test.false)
+      | goal.then-lines-test+in-Ok-Taken+else-line-lt4294967295 w ↦
+          let next =
+          rw w.in-Ok-Taken.field-0-is at (w.in-Ok-Taken.ensures.after known c.lines.invariant.taking) in
+          omega (arith, next.line, next.numbered)
+    ]
