@@ -45,6 +45,9 @@ mod PushLemmas
 mod ListingLemmas
 mod ListLaw
 mod ItemStepLemmas
+mod ListOrder
+mod FirstLemmas
+mod KeptLists
 mod MergeLemmas
 mod TableLemmas
 mod ScopeLemmas
@@ -83,6 +86,7 @@ pub mod WatchSteps
 pub mod WatchEnd
 pub mod WatchedLemmas
 mod WatchMissed
+mod WatchEarly
 mod SpanLemmas
 mod EnrollLemmas
 mod RosterLaw

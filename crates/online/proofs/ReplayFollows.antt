@@ -2,7 +2,7 @@
 use Rattle.std.proofs.Common.{ℕ, ◌≡◌, ◌≢◌, ◌∙◌, ◌+◌, ◌<◌, List, [], ◌∷◌, ◌++◌, length, take, Option}
 use Rattle.std.proofs.Common.{Some, None, Bool, true, false, refl, sym, ap, subst, arith, cond}
 use Rattle.std.specs.Prelude.{◌^◌, Contains, slice_get, option_map}
-use Rattle.std.proofs.lemmas.List.{length-map, length_push, take_at}
+use Rattle.std.proofs.lemmas.List.{take_at}
 use Rattle.std.proofs.lemmas.Option.{none-some, same_Some}
 use Rattle.ompt_events.specs.declared.records.Record.{Record}
 use Rattle.ompt_events.specs.declared.records.Body.{Body}
@@ -22,18 +22,17 @@ use Rattle.ompt_events.proofs.ListLemmas.{get_last}
 use Rattle.ompt_events.proofs.PlaceLemmas.{at_get}
 use Rattle.packed_trace.specs.Named.{subject, object}
 use Rattle.scripts.specs.Called.{called}
-use Rattle.scripts.specs.Progress.{Values, without_seen}
+use Rattle.scripts.specs.Progress.{Values}
 use Rattle.scripts.proofs.SaidLemmas.{creation_called}
-use Rattle.scripts.proofs.OrderedLemmas.{scripted_length}
 use Rattle.scripts.proofs.ValueSteps.{two_apart}
 use Rattle.online.specs.Online.{IsWatchable}
-use Rattle.online.specs.Replays.{calls_of, script_of, IsReplayed}
+use Rattle.online.specs.Replays.{script_of, IsReplayed}
 use Rattle.online.specs.Waits.{MayFollow, IsLive}
 use Rattle.online.proofs.ReplayEnds.{replayed_region}
 use Rattle.online.proofs.ReplayLaw.{replayed_whole}
 use Rattle.online.proofs.ReplayNames.{replayed_live}
 use Rattle.online.proofs.ReplayOrder.{replayed_event}
-use Rattle.online.proofs.ReplayRecords.{IsOfStep, of_step, says_call, replayed_script}
+use Rattle.online.proofs.ReplayRecords.{IsOfStep, of_step, says_call}
 
 -- ---- what a record names
 
@@ -80,8 +79,8 @@ end_parts _ task is = absurd (none-some task is)
 
 pub replayed_follows : (nests : Bool) (rs : List Record) (r : Record) (values : Values)
     → IsReplayed nests (rs ++ r ∷ []) values → IsWatchable (rs ++ r ∷ [])
-    → IsFreeOf (rs ++ r ∷ []) CreatedTwice → MayFollow rs r
-replayed_follows nests rs r values replayed watchable once = record {
+    → IsFreeOf (rs ++ r ∷ []) CreatedTwice → length rs + 2 < 2 ^ 64 → MayFollow rs r
+replayed_follows nests rs r values replayed watchable once few = record {
   watchable = watchable;
   once = once;
   few = few;
@@ -126,12 +125,3 @@ replayed_follows nests rs r values replayed watchable once = record {
     live task names unmade =
         subst (λ l. IsLive l task) before
         (replayed_live nests all values (length rs) r task replayed last names unmade)
-
-    few : length rs + 2 < 2 ^ 64
-    few =
-        let whole = replayed_whole nests all values replayed in
-        let long : length (calls_of all) ≡ length all =
-        sym (scripted_length (script_of nests all) (length (calls_of all)) whole (omega arith))
-        ∙ ap length (replayed_script nests all values replayed) ∙ length-map all without_seen in
-        let one = length_push rs r in
-        omega (arith, long, one, replayed.rules.few_steps)

@@ -1,19 +1,17 @@
 -- One record more, as the call of one more step.
-use Rattle.std.proofs.Common.{◌≡◌, ◌∙◌, ℕ, ◌<◌, ◌≤◌, ◌+◌, Bool, true, cond, List, [], ◌∷◌, ◌++◌}
+use Rattle.std.proofs.Common.{◌≡◌, ◌∙◌, ℕ, ◌+◌, Bool, true, cond, List, [], ◌∷◌, ◌++◌}
 use Rattle.std.proofs.Common.{length}
 use Rattle.std.proofs.Common.{take, Option, Some, None, refl, sym, ap, subst, arith, inl, inr}
 use Rattle.std.specs.Prelude.{slice_get, is_some, option_and_then, map}
 use Rattle.std.proofs.lemmas.Option.{slice_get_within}
-use Rattle.std.proofs.lemmas.List.{length_push, take-append-le, take_at, map-append}
-use Rattle.std.proofs.lemmas.List.Sums.{fold_push, sum_by_push}
+use Rattle.std.proofs.lemmas.List.{take-append-le, take_at, map-append}
+use Rattle.std.proofs.lemmas.List.Sums.{fold_push}
 use Rattle.ompt_events.specs.declared.records.Record.{Record}
 use Rattle.ompt_events.specs.declared.records.Body.{Body}
-use Rattle.ompt_events.specs.Records.{made}
-use Rattle.ompt_events.specs.Limits.{max_records, max_tasks}
 use Rattle.ompt_events.proofs.ListLemmas.{pushed_cases}
 use Rattle.callbacks.specs.declared.fault.CallFault.{CallFault}
 use Rattle.scripts.specs.declared.script.Step.{Step}
-use Rattle.scripts.specs.Scripts.{IsScript, step_of, may_follow, task_count}
+use Rattle.scripts.specs.Scripts.{IsScript, step_of, may_follow}
 use Rattle.scripts.specs.Progress.{Progress, Values, value, values_after, progress}
 use Rattle.scripts.specs.Progress.{progress_after}
 use Rattle.scripts.specs.Progress.{progress_with, no_progress, step_refusal, refused_at, thread_records}
@@ -22,10 +20,8 @@ use Rattle.scripts.specs.RunCalls.{first_given, second_given, recorded_body, fir
 use Rattle.scripts.specs.RunCalls.{call_refusal}
 use Rattle.packed_trace.specs.Named.{subject, object}
 use Rattle.ompt_events.specs.States.{is_task}
-use Rattle.ompt_events.specs.declared.records.Body.TheVariants.{ThreadBegin, ThreadEnd, ParallelBegin}
-use Rattle.ompt_events.specs.declared.records.Body.TheVariants.{ParallelEnd, ImplicitTask, TaskCreate}
-use Rattle.ompt_events.specs.declared.records.Body.TheVariants.{Dependences, TaskSchedule, SyncRegion, Cancel}
 use Rattle.online.specs.Replays.{call_of, calls_of, and_call, IsReplayed, Makes, own_of, call_on}
+use Rattle.online.specs.Replays.{replay_room}
 
 -- ---- one call more
 
@@ -37,29 +33,24 @@ abbrev pub next_step : List Record → Record → Step
 next_step rs r = step_of (calls_of rs) r.thread None (call_of r.body)
 
 progress_more : (nests : Bool) (steps : List Step) (s : Step)
-    → progress nests (steps ++ s ∷ []) ≡ progress_after nests (progress nests steps) s
-progress_more nests steps s = fold_push (progress_after nests) no_progress steps s
+    → progress replay_room nests (steps ++ s ∷ [])
+    ≡ progress_after replay_room nests (progress replay_room nests steps) s
+progress_more nests steps s = fold_push (progress_after replay_room nests) no_progress steps s
 
 -- a step that its recorder accepts
 progress_accepted : (nests : Bool) (steps : List Step) (s : Step)
-    → step_refusal nests (progress nests steps) s ≡ None
-    → progress nests (steps ++ s ∷ []) ≡ progress_with nests (progress nests steps) s
+    → step_refusal replay_room nests (progress replay_room nests steps) s ≡ None
+    → progress replay_room nests (steps ++ s ∷ []) ≡ progress_with nests (progress replay_room nests steps) s
 progress_accepted nests steps s accepts =
-    let p = progress nests steps in
+    let p = progress replay_room nests steps in
     progress_more nests steps s
     ∙ ap (λ (o : Option CallFault). cond (is_some o) p (progress_with nests p s)) accepts
 
 -- ---- a script with one step more
 
-rules_more : (steps : List Step) (s : Step) → IsScript steps → length steps < max_records
-    → task_count steps + cond (is_some (made s.body)) 1 0 ≤ max_tasks → s.line ≡ length steps + 2
+rules_more : (steps : List Step) (s : Step) → IsScript steps → s.line ≡ length steps + 2
     → may_follow steps s.after s.body ≡ true → IsScript (steps ++ s ∷ [])
-rules_more steps s script room tasks line follows = record {
-  few_steps = omega (arith, length_push steps s, room);
-  few_tasks =
-      let more : task_count (steps ++ s ∷ []) ≡ task_count steps + cond (is_some (made s.body)) 1 0 =
-      sum_by_push (λ (x : Step). cond (is_some (made x.body)) 1 0) steps s in
-      omega (arith, more, tasks);
+rules_more steps s script line follows = record {
   lines = λ i x is. elim (pushed_cases steps s x i is) [
     | inl old ↦ script.lines i x old
     | inr (last, same) ↦ subst (λ (y : Step). y.line ≡ i + 2) same (line ∙ ap (λ n. n + 2) (sym last))
@@ -78,43 +69,35 @@ rules_more steps s script room tasks line follows = record {
 
 -- no step is refused
 accepted_more : (nests : Bool) (steps : List Step) (s : Step)
-    → ((at : ℕ) → refused_at (record { nests = nests; steps = steps }) at ≡ None)
-    → step_refusal nests (progress nests steps) s ≡ None
-    → (at : ℕ) → refused_at (record { nests = nests; steps = steps ++ s ∷ [] }) at ≡ None
+    → ((at : ℕ) → refused_at (record { nests = nests; room = replay_room; steps = steps }) at ≡ None)
+    → step_refusal replay_room nests (progress replay_room nests steps) s ≡ None
+    → (at : ℕ) → refused_at (record { nests = nests; room = replay_room; steps = steps ++ s ∷ [] }) at ≡ None
 accepted_more nests steps s accepted accepts at = of (slice_get (steps ++ s ∷ []) at) refl
   where
     after : List Step
     after = steps ++ s ∷ []
 
     of : (o : Option Step) → slice_get after at ≡ o
-        → option_and_then (λ (x : Step). step_refusal nests (progress nests (take at after)) x) o ≡ None
+        → option_and_then
+        (λ (x : Step). step_refusal replay_room nests (progress replay_room nests (take at after)) x)
+        o
+        ≡ None
     of None is = refl
     of (Some x) is = elim (pushed_cases steps s x at is) [
       | inl old ↦
-          ap (λ (before : List Step). step_refusal nests (progress nests before) x)
+          ap (λ (before : List Step). step_refusal replay_room nests (progress replay_room nests before) x)
           (take-append-le at steps (s ∷ []) (let w = slice_get_within steps at x old in omega (arith, w)))
-          ∙ sym (ap (option_and_then (λ (y : Step). step_refusal nests (progress nests (take at steps)) y))
+          ∙ sym (ap (option_and_then
+          (λ (y : Step). step_refusal replay_room nests (progress replay_room nests (take at steps)) y))
           old)
           ∙ accepted at
       | inr (last, same) ↦
-          ap (λ (before : List Step). step_refusal nests (progress nests before) x)
+          ap (λ (before : List Step). step_refusal replay_room nests (progress replay_room nests before) x)
           (take_at steps (s ∷ []) at (sym last))
-          ∙ ap (step_refusal nests (progress nests steps)) (sym same) ∙ accepts
+          ∙ ap (step_refusal replay_room nests (progress replay_room nests steps)) (sym same) ∙ accepts
     ]
 
 -- ---- a record more
-
-pub call_made : (body : Body) → made (call_of body) ≡ made body
-call_made (ThreadBegin kind) = refl
-call_made ThreadEnd = refl
-call_made (ParallelBegin requested task parallel) = refl
-call_made (ParallelEnd task parallel) = refl
-call_made (ImplicitTask endpoint actual index given parallel task) = refl
-call_made (TaskCreate deps given task child) = refl
-call_made (Dependences task list) = refl
-call_made (TaskSchedule status turns prior next claimed) = refl
-call_made (SyncRegion kind endpoint parallel task) = refl
-call_made (Cancel given task claimed) = refl
 
 value_same : (f g : Values) → ((task : ℕ) → f task ≡ g task) → (o : Option ℕ) → value f o ≡ value g o
 value_same f g same None = refl
@@ -147,20 +130,16 @@ row thread nests seq body = record { thread = thread; nests = nests; seq = seq; 
 
 pub replayed_more : (nests : Bool) (rs : List Record) (values later : Values) (r : Record)
     → IsReplayed nests rs values → r.nests ≡ nests → r.seq ≡ length (own_of rs r.thread)
-    → length (calls_of rs) < max_records
-    → task_count (calls_of rs) + cond (is_some (made r.body)) 1 0 ≤ max_tasks
     → may_follow (calls_of rs) None (call_of r.body) ≡ true
     → Makes nests r.thread (own_of rs r.thread) values r.body
     → ((task : ℕ) → later task ≡ values_after values (call_on r.thread r.body) task)
     → IsReplayed nests (rs ++ r ∷ []) later
-replayed_more nests rs values later r before kind seq room tasks follows makes left = record {
-  rules =
-      subst IsScript (sym more)
-      (rules_more steps s before.rules room
-      (subst (λ o. task_count steps + cond (is_some o) 1 0 ≤ max_tasks) (sym (call_made r.body)) tasks) refl
-      follows);
+replayed_more nests rs values later r before kind seq follows makes left = record {
+  rules = subst IsScript (sym more) (rules_more steps s before.rules refl follows);
   accepted =
-      subst (λ (l : List Step). (at : ℕ) → refused_at (record { nests = nests; steps = l }) at ≡ None)
+      subst
+      (λ (l : List Step). (at : ℕ)
+      → refused_at (record { nests = nests; room = replay_room; steps = l }) at ≡ None)
       (sym more)
       (accepted_more nests steps s before.accepted accepts);
   records =
@@ -180,7 +159,7 @@ replayed_more nests rs values later r before kind seq room tasks follows makes l
     s = next_step rs r
 
     p : Progress
-    p = progress nests steps
+    p = progress replay_room nests steps
 
     more : calls_of (rs ++ r ∷ []) ≡ steps ++ s ∷ []
     more = calls_more rs r
@@ -191,19 +170,19 @@ replayed_more nests rs values later r before kind seq room tasks follows makes l
     second_same : value values (second_given s.body) ≡ value p.values (second_given s.body)
     second_same = value_same values p.values before.values_are (second_given s.body)
 
-    accepts : step_refusal nests p s ≡ None
+    accepts : step_refusal replay_room nests p s ≡ None
     accepts =
-        ap (λ (l : List Record). call_refusal (recorder_with nests s.thread (thread_records l s.thread))
-        s.body
+        ap (λ (l : List Record).
+        call_refusal (recorder_with replay_room nests s.thread (thread_records l s.thread)) s.body
         (value p.values (first_given s.body)) (value p.values (second_given s.body))) before.records
-        ∙ ap (λ v. call_refusal (recorder_with nests s.thread (own_of rs s.thread)) s.body v
+        ∙ ap (λ v. call_refusal (recorder_with replay_room nests s.thread (own_of rs s.thread)) s.body v
         (value p.values (second_given s.body))) (sym first_same)
-        ∙ ap (λ v. call_refusal (recorder_with nests s.thread (own_of rs s.thread)) s.body
+        ∙ ap (λ v. call_refusal (recorder_with replay_room nests s.thread (own_of rs s.thread)) s.body
         (value values (first_given s.body)) v) (sym second_same)
         ∙ makes.accepts
 
-    grown : progress nests (calls_of (rs ++ r ∷ [])) ≡ progress_with nests p s
-    grown = ap (progress nests) more ∙ progress_accepted nests steps s accepts
+    grown : progress replay_room nests (calls_of (rs ++ r ∷ [])) ≡ progress_with nests p s
+    grown = ap (progress replay_room nests) more ∙ progress_accepted nests steps s accepts
 
     made_row : Record
     made_row = row r.thread nests (length (thread_records p.records r.thread))

@@ -104,11 +104,12 @@ before_suspension nests rs values a task turn replayed suspends =
     in
     (omega (arith, within), omega (arith, few, current))
 
--- and behind its resumption
-behind_resumption : (nests : Bool) (rs : List Record) (values : Values) (b task turn : ℕ)
+-- so many turns are begun before the one that begins there, and one more behind it
+at_begin : (nests : Bool) (rs : List Record) (values : Values) (b task turn : ℕ)
     → IsReplayed nests rs values → at begun_turn rs b ≡ Some (task, turn)
-    → begun (script_of nests rs).steps task (suc b) ≡ suc turn
-behind_resumption nests rs values b task turn replayed begins_it =
+    → (begun (script_of nests rs).steps task b ≡ turn)
+    × (begun (script_of nests rs).steps task (suc b) ≡ suc turn)
+at_begin nests rs values b task turn replayed begins_it =
     let script = script_of nests rs in
     let whole = replayed_whole nests rs values replayed in
     let (x, is, says) = get_at begun_turn rs b (task, turn) begins_it in
@@ -118,9 +119,23 @@ behind_resumption nests rs values b task turn replayed begins_it =
     let holds =
     or_left (is_task task (started o.step.body)) (is_task task (begun_root o.step.body))
     (the_task task (started o.step.body) starts_step) in
-    (begins script.steps task b o.step o.stands holds).1
-    ∙ ap suc (sym (next_is script b o.step task whole o.stands starts_step)
-    ∙ ap next_turn (sym o.body_is) ∙ turn_x)
+    let count : begun script.steps task b ≡ turn =
+    sym (next_is script b o.step task whole o.stands starts_step) ∙ ap next_turn (sym o.body_is) ∙ turn_x in
+    (count, (begins script.steps task b o.step o.stands holds).1 ∙ ap suc count)
+
+-- a turn begins once
+pub begins_once : (nests : Bool) (rs : List Record) (values : Values) (a b task turn : ℕ)
+    → IsReplayed nests rs values → at begun_turn rs a ≡ Some (task, turn)
+    → at begun_turn rs b ≡ Some (task, turn) → a < b → ⊥
+begins_once nests rs values a b task turn replayed first second less =
+    let steps = (script_of nests rs).steps in
+    let (x, is, says) = get_at begun_turn rs b (task, turn) second in
+    let o = of_step nests rs values b x replayed is in
+    let within = slice_get_within steps b o.step o.stands in
+    let many = (at_begin nests rs values a task turn replayed first).1 in
+    let few = (at_begin nests rs values b task turn replayed second).0 in
+    let rise = begun_rises steps task (suc a) b (omega (arith, less)) (omega (arith, within)) in
+    omega (arith, few, many, rise)
 
 pub replayed_resumes : (nests : Bool) (rs : List Record) (values : Values) (a b : ℕ)
     → IsReplayed nests rs values → IsResumption rs a b → a < b
@@ -131,7 +146,7 @@ replayed_resumes nests rs values a b replayed is = elim (cases_lt a b) [
     | inr apart ↦
         let steps = (script_of nests rs).steps in
         let (within, few) = before_suspension nests rs values a is.task is.turn replayed is.suspends in
-        let many = behind_resumption nests rs values b is.task (is.turn + 1) replayed is.resumes in
+        let many = (at_begin nests rs values b is.task (is.turn + 1) replayed is.resumes).1 in
         let low : suc b ≤ a = omega (arith, from, apart) in
         let rise = begun_rises steps is.task (suc b) a low within in
         absurd (omega (arith, few, many, rise))

@@ -1,21 +1,20 @@
 -- What is kept of the records so far, behind one record more.
-use Rattle.std.proofs.Common.{◌≡◌, ◌≢◌, ◌∙◌, ◌==◌, ℕ, ◌<◌, ◌≤◌, ◌+◌, true, false, cond, List, [], ◌∷◌}
+use Rattle.std.proofs.Common.{◌≡◌, ◌≢◌, ◌∙◌, ◌==◌, ℕ, ◌<◌, ◌+◌, true, false, cond, List, [], ◌∷◌}
 use Rattle.std.proofs.Common.{◌++◌}
 use Rattle.std.proofs.Common.{length, set, Vec, Global, Option, Some, None, refl, sym, ap, subst, arith, inl}
 use Rattle.std.proofs.Common.{inr}
-use Rattle.std.specs.Prelude.{is_some, slice_get, map, fold, ◌||◌}
+use Rattle.std.specs.Prelude.{is_some, slice_get, map, fold, ◌||◌, ◌^◌}
 use Rattle.std.proofs.lemmas.Bool.{cases_eq, eq-eqb, ne_eqb, false≢true}
 use Rattle.std.proofs.lemmas.Option.{same_Some, slice_get_within}
 use Rattle.std.proofs.lemmas.List.{length_push, map-append, append-nil}
 use Rattle.std.proofs.lemmas.List.Elements.{filter-append}
-use Rattle.std.proofs.lemmas.List.Sums.{fold_push, sum_by_push}
+use Rattle.std.proofs.lemmas.List.Sums.{fold_push}
 use Rattle.ompt_events.specs.declared.records.Record.{Record}
 use Rattle.ompt_events.specs.Records.{made}
 use Rattle.ompt_events.specs.States.{is_task}
-use Rattle.ompt_events.specs.Limits.{max_records, max_tasks}
 use Rattle.scripts.specs.declared.script.Step.{Step}
 use Rattle.scripts.specs.declared.lives.Life.{Life}
-use Rattle.scripts.specs.Scripts.{life, life_after, task_count, step_of, may_follow}
+use Rattle.scripts.specs.Scripts.{life, life_after, step_of, may_follow}
 use Rattle.scripts.specs.Progress.{thread_records, without_seen}
 use Rattle.scripts.specs.RunCalls.{first_given}
 use Rattle.task_tree.proofs.LinkLemmas.{get_set_same, get_set_other}
@@ -26,7 +25,7 @@ use Rattle.online.specs.ThreadStates.{IsThreadOf}
 use Rattle.online.specs.Tasks.{value_of}
 use Rattle.online.specs.Replays.{call_of, calls_of, and_call, own_of, Takes, IsReplayed, IsReplayOf}
 use Rattle.online.specs.Replays.{IsNextThere, IsCalled, IsNoted, IsAdvanced}
-use Rattle.online.proofs.ReplayLemmas.{calls_more, next_step, replayed_more, call_made}
+use Rattle.online.proofs.ReplayLemmas.{calls_more, next_step, replayed_more}
 use Rattle.online.proofs.LiveLemmas.{live_after, used_after, may_follow_live}
 
 -- ---- the calls so far
@@ -50,13 +49,6 @@ life_more rs r task =
     ap (λ (l : List Step). life l task) (calls_more rs r)
     ∙ fold_push (λ (before : Option Life) (s : Step). life_after before s.body task) None (calls_of rs)
     (next_step rs r)
-
-tasks_more : (rs : List Record) (r : Record)
-    → task_count (calls_of (rs ++ r ∷ [])) ≡ task_count (calls_of rs) + cond (is_some (made r.body)) 1 0
-tasks_more rs r =
-    ap task_count (calls_more rs r)
-    ∙ sum_by_push (λ (s : Step). cond (is_some (made s.body)) 1 0) (calls_of rs) (next_step rs r)
-    ∙ ap (λ o. task_count (calls_of rs) + cond (is_some o) 1 0) (call_made r.body)
 
 -- ---- the records of a thread
 
@@ -87,7 +79,7 @@ pub record IsTaken (old later : Replay) (r : Record) (t next : Thread) : Type 0 
   pub here : slice_get old.threads.items r.thread ≡ Some t
   pub kind : r.nests ≡ old.nests
   pub seq : r.seq ≡ t.count
-  pub room : old.count < max_records
+  pub room : old.count < 2 ^ 63
   pub takes : (own : List Record) → IsThreadOf own t → t.state.nests ≡ old.nests
       → Takes old.nests r.thread own r.body old.tasks later.tasks
   pub next_of : (own : List Record) → IsThreadOf own t → IsThreadOf (own ++ without_seen r ∷ []) next
@@ -95,9 +87,7 @@ pub record IsTaken (old later : Replay) (r : Record) (t next : Thread) : Type 0 
   pub threads : later.threads.items ≡ set old.threads.items r.thread next
   pub used : (task : ℕ) → has later.used task
       ≡ (is_task task (made r.body) || has old.used task)
-  pub new : (task : ℕ) → made r.body ≡ Some task
-      → (has old.used task ≡ false) × (old.made < max_tasks)
-  pub made_more : later.made ≡ old.made + cond (is_some (made r.body)) 1 0
+  pub new : (task : ℕ) → made r.body ≡ Some task → has old.used task ≡ false
   pub nests : later.nests ≡ old.nests
   pub count : later.count ≡ old.count + 1
 
@@ -107,9 +97,7 @@ replay_taken rs old later r t next kept taken = record {
   replayed =
       subst (λ n. IsReplayed n (rs ++ r ∷ []) (value_of later.tasks)) (sym taken.nests)
       (replayed_more old.nests rs (value_of old.tasks) (value_of later.tasks) r kept.replayed taken.kind
-      (taken.seq ∙ of_thread.1) (omega (arith, calls_long rs, kept.count, taken.room)) tasks follows
-      takes.made
-      takes.left);
+      (taken.seq ∙ of_thread.1) follows takes.made takes.left);
   threads = λ thread x there. elim (cases_eq r.thread thread) [
     | inl same ↦
         subst (λ own. IsThreadOf own x) (sym (own_here rs r thread same))
@@ -136,9 +124,7 @@ replay_taken rs old later r t next kept taken = record {
       ∙ sym (used_after (life (calls_of rs)) r.body first_had task)
       ∙ sym (ap is_some (life_more rs r task));
   count = taken.count ∙ (let more = length_push rs r in omega (arith, more, kept.count));
-  tasks_made =
-      taken.made_more ∙ ap (λ n. n + cond (is_some (made r.body)) 1 0) kept.tasks_made
-      ∙ sym (tasks_more rs r);
+  few = omega (arith, taken.count, taken.room);
 }
   where
     of_thread : IsThreadOf (own_of rs r.thread) t
@@ -159,15 +145,8 @@ replay_taken rs old later r t next kept taken = record {
     follows =
         may_follow_live (calls_of rs) r.body (λ task given. kept.live task (takes.first task given))
         (λ task given. kept.live task (takes.second task given))
-        (λ task makes. unused (life (calls_of rs) task) (sym (kept.used task) ∙ (taken.new task makes).0))
+        (λ task makes. unused (life (calls_of rs) task) (sym (kept.used task) ∙ taken.new task makes))
         takes.apart
-
-    tasks : task_count (calls_of rs) + cond (is_some (made r.body)) 1 0 ≤ max_tasks
-    tasks = of (made r.body) refl
-      where
-        of : (o : Option ℕ) → made r.body ≡ o → task_count (calls_of rs) + cond (is_some o) 1 0 ≤ max_tasks
-        of None none = omega (arith, kept.replayed.rules.few_tasks)
-        of (Some task) makes = omega (arith, (taken.new task makes).1, kept.tasks_made)
 
     within : r.thread < length old.threads.items
     within = slice_get_within old.threads.items r.thread t taken.here
@@ -188,14 +167,14 @@ replay_taken rs old later r t next kept taken = record {
 
 -- the same by what the steps of taking it do
 pub replay_more : (rs : List Record) (old called noted later : Replay) (r : Record) → IsReplayOf rs old
-    → r.nests ≡ old.nests → old.count < max_records → IsNextThere old r → IsCalled old called r
+    → r.nests ≡ old.nests → IsNextThere old r → IsCalled old called r
     → IsNoted called noted (made r.body) → IsAdvanced noted later r → IsReplayOf (rs ++ r ∷ []) later
-replay_more rs old called noted later r kept kind room (t, here, is_next) calls notes advanced =
+replay_more rs old called noted later r kept kind (t, here, is_next) calls notes advanced =
     replay_taken rs old later r t advanced.next kept (record {
       here = here;
       kind = kind;
       seq = is_next.seq;
-      room = room;
+      room = omega (arith, advanced.few, notes.count, calls.count);
       takes = λ own of nests.
           subst (λ n. Takes n r.thread own r.body old.tasks later.tasks) nests
           (subst (Takes t.state.nests r.thread own r.body old.tasks)
@@ -212,12 +191,7 @@ replay_more rs old called noted later r kept kind room (t, here, is_next) calls 
           ap (λ s. has s task) advanced.used ∙ notes.used task
           ∙ ap (λ s. is_task task (made r.body) || has s task) calls.used;
       new = λ task makes.
-          let found = notes.new_one task makes in (
-            sym (ap (λ s. has s task) calls.used) ∙ found.0,
-            subst (λ n. n < max_tasks) calls.made found.1,
-          );
-      made_more =
-          advanced.made ∙ notes.made_more ∙ ap (λ n. n + cond (is_some (made r.body)) 1 0) calls.made;
+          sym (ap (λ s. has s task) calls.used) ∙ notes.new_one task makes;
       nests = advanced.nests ∙ notes.nests ∙ calls.nests;
       count = advanced.count ∙ ap (λ n. n + 1) (notes.count ∙ calls.count);
     })

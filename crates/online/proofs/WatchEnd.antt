@@ -3,7 +3,6 @@ use Rattle.std.proofs.Common.{ℕ, ◌≡◌, ◌≤◌, ◌∙◌, List, length
 use Rattle.std.proofs.Common.{inr, ◌⊎◌}
 use Rattle.std.specs.Prelude.{Contains}
 use Rattle.std.proofs.lemmas.Bool.{cases_lt}
-use Rattle.std.proofs.lemmas.List.{take_all}
 use Rattle.std.proofs.lemmas.Option.{none-some, same_Some}
 use Rattle.ompt_events.specs.declared.records.Record.{Record}
 use Rattle.ompt_events.specs.declared.cause.Cause.{Cause}
@@ -35,10 +34,10 @@ use Rattle.online.specs.Rosters.{AreWhole}
 use Rattle.online.specs.Tasks.{value_of}
 use Rattle.online.specs.Teams.{AreTeamsOf, AreBarriersBegun, IsMemberOf}
 use Rattle.online.specs.Watches.{IsWatchOf}
-use Rattle.online.proofs.AwaitLemmas.{awaited_last}
 use Rattle.online.proofs.BarrierLemmas.{region_begin, barrier_runs}
 use Rattle.online.proofs.ClearLaw.{none_shown}
 use Rattle.online.proofs.EndLemmas.{complete_at}
+use Rattle.online.proofs.ListOrder.{awaited_missing}
 use Rattle.online.proofs.OrderLemmas.{order_linear, order_greedy}
 use Rattle.online.proofs.PassLemmas.{none_twice}
 use Rattle.online.proofs.PhaseLemmas.{phase_number}
@@ -52,21 +51,13 @@ use Rattle.online.proofs.WatchLemmas.{watchable_exactly}
 -- where no list is missing, no thread awaits one
 pub none_awaited : (rs : List Record) (items : Items) → IsItemsOf rs items
     → ((parent : ℕ) → awaited_of items parent ≡ None) → NoneAwaited rs
-none_awaited rs items (history, ends, gone, uses, listings) none thread = of (awaited_by thread rs) refl
+none_awaited rs items is none thread = of (awaited_by thread rs) refl
   where
     of : (o : Option ℕ) → awaited_by thread rs ≡ o → awaited_by thread rs ≡ None
-    of None is = is
-    of (Some task) is =
-        let whole = take_all (length rs) rs (omega arith) in
-        let (a, last, creates) =
-        awaited_last rs (length rs) thread task (omega arith) (ap (awaited_by thread) whole ∙ is) in
-        elim (listings.followed a task creates) [
-          | inl (b, followed) ↦
-              absurd
-              (last.none b followed.next.later followed.next.within
-              (sym followed.next.same_thread ∙ last.of_it))
-          | inr (parent, awaits) ↦ absurd (none-some task (sym (none parent) ∙ awaits))
-        ]
+    of None same = same
+    of (Some task) same =
+        let (parent, awaits, missing) = awaited_missing rs items is thread task same in
+        absurd (none-some task (sym (none parent) ∙ awaits))
 
 watched_once : (rs : List Record) (w : Watch) → IsWatchOf rs w → IsFreeOf rs CreatedTwice
 watched_once rs w kept = none_twice rs kept.passes

@@ -28,7 +28,7 @@ use Rattle.online.specs.declared.missed.Awaited.{Awaited}
 use Rattle.online.specs.declared.replay.Replay.{Replay}
 use Rattle.online.specs.declared.watch.Watch.{Watch}
 use Rattle.online.specs.Kept.{kept_by}
-use Rattle.online.specs.Missed.{IsMissed, IsFoundAt, AreAwaitedAt, at_taskwait, at_taskgroup, at_barrier}
+use Rattle.online.specs.Missed.{EndsTooEarly, IsFoundAt, AreAwaitedAt, at_taskwait, at_taskgroup, at_barrier}
 use Rattle.online.specs.Replays.{IsReplayOf, calls_of}
 use Rattle.online.specs.Tasks.{value_of}
 use Rattle.online.specs.Waits.{IsSameTable, IsOver, ends_region}
@@ -94,7 +94,7 @@ not_ended steps task script live over =
     may : may_follow steps None (SyncRegion Taskwait Begin None task) ≡ true
     may = ap (λ (o : Option Life). may_be_named false o && true) live
 
-live_unfinished : (rs : List Record) (kept : Replay) (task : ℕ) → IsReplayOf rs kept
+pub live_unfinished : (rs : List Record) (kept : Replay) (task : ℕ) → IsReplayOf rs kept
     → is_some (value_of kept.tasks task) ≡ true → (k : ℕ) (p : Part) → at finish rs k ≡ Some (task, p)
     → p ≡ part.Body
 live_unfinished rs kept task is live k p says = of p says
@@ -154,7 +154,7 @@ awaited_ends table own kind _ awaited (at_barrier barrier inside) = refl
 pub missed_found : (w : Watch) (r : Record) (own task : ℕ) (kind : SyncKind) (endpoint : Endpoint)
     → region r.body ≡ Some (own, kind, endpoint) → (kind ≡ Taskwait → w.outside ≡ true)
     → IsFoundAt w.replay (kept_by w.waits) own kind endpoint task → (records : List Record)
-    → HasRefused records r w → IsMissed records r task
+    → HasRefused records r w → EndsTooEarly records r task
 missed_found w r own task kind endpoint says outside (awaited, are, (live, reached)) records refused =
     let ends = ap ends_region says ∙ awaited_ends (kept_by w.waits) own kind endpoint awaited are in
     let (rs, alike, refusal) = refused ends in

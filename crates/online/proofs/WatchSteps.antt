@@ -1,5 +1,5 @@
 -- One record more that a watch takes.
-use Rattle.std.proofs.Common.{ℕ, ◌≡◌, ◌∙◌, ◌<◌, ◌==◌, List, [], ◌∷◌, ◌++◌, length, take, Option}
+use Rattle.std.proofs.Common.{ℕ, ◌≡◌, ◌∙◌, ◌<◌, ◌==◌, ◌+◌, ◌^◌, List, [], ◌∷◌, ◌++◌, length, take, Option}
 use Rattle.std.proofs.Common.{Some}
 use Rattle.std.proofs.Common.{None, Bool, true, false, refl, sym, ap, subst, arith, inl, inr, cond}
 use Rattle.std.specs.Prelude.{slice_get, option_and_then, option_map}
@@ -49,6 +49,7 @@ use Rattle.online.specs.Items.{MayBeRead, IsRead, Reads}
 use Rattle.online.specs.Kept.{kept_by, teams_by}
 use Rattle.online.specs.Lengths as lengths
 use Rattle.online.specs.Lengths.{IsLengthsOf, NamesLength}
+use Rattle.online.specs.Lists.{AreListsOf, TakesLists}
 use Rattle.online.specs.Online.{EachRecord, ComesAfter, PassesAfter, IsSettledAfter, IsWatchable}
 use Rattle.online.specs.Online.{IsUnfinishedAfter, IsCompleteAfter, IsDependentAt, ListsAwaited}
 use Rattle.online.specs.Online.{is_told_at_once}
@@ -59,7 +60,9 @@ use Rattle.online.specs.Teams.{AreTeamsOf, FindsRoom}
 use Rattle.online.specs.Waits.{IsWaitsOf, IsCoverComplete, MayFollow}
 use Rattle.online.specs.Watches.{AreRegionsOf, BeginsNewRegion, dependent_of, parent_in, MayList, IsWatchOf}
 use Rattle.online.specs.Watches.{CreatesOutside}
+use Rattle.online.proofs.KeptLists.{lists_more}
 use Rattle.online.proofs.LengthLemmas.{may_follow}
+use Rattle.online.proofs.ListOrder.{order_more}
 use Rattle.online.proofs.ListingLemmas.{listed_no_creation}
 use Rattle.online.proofs.OutsideLemmas.{outside_more}
 use Rattle.online.proofs.PassLemmas.{each_more, none_twice}
@@ -98,6 +101,7 @@ pub record IsWatched (old new : Watch) (r : Record) (parent : Option ℕ) : Type
   pub covers : (rs : List Record) → MayFollow rs r → FindsRoom rs r → IsWaitsOf rs (kept_by old.waits)
       → AreTeamsOf rs (kept_by old.waits) (teams_by old.waits) → IsCoverComplete rs r
   pub items : Reads old.items new.items r parent
+  pub lists : TakesLists old.lists new.lists r parent old.replay.count
   pub outside : new.outside ≡ true → (old.outside ≡ true) × CreatesOutside old.replay r.body
 
 -- ---- no task and no region begins twice
@@ -251,6 +255,8 @@ pub record MayComeNext (rs : List Record) (r : Record) (old new : Watch) : Type 
   pub comes : EachRecord ComesAfter (rs ++ r ∷ [])
   pub watchable : IsWatchable (rs ++ r ∷ [])
   pub follows : MayFollow rs r
+  pub placed : EachRecord ListsAwaited (rs ++ r ∷ [])
+  pub awaits : ListsAwaited rs r
 
 pub is_next : (rs : List Record) (old new : Watch) (r : Record) → IsWatchOf rs old → IsFollowed old new r
     → MayComeNext rs r old new
@@ -262,7 +268,11 @@ is_next rs old new r kept followed = record {
   once = once;
   comes = comes;
   watchable = watchable;
-  follows = replayed_follows old.replay.nests rs r values replayed watchable once;
+  follows = replayed_follows old.replay.nests rs r values replayed watchable once few;
+  placed = placed;
+  awaits =
+      subst (λ l. ListsAwaited l r) (take_at rs (r ∷ []) (length rs) refl)
+      (placed (length rs) r (get_last rs r (length rs) refl));
 }
   where
     values : Values
@@ -297,6 +307,12 @@ is_next rs old new r kept followed = record {
     watchable : IsWatchable (rs ++ r ∷ [])
     watchable = (watchable_exactly (rs ++ r ∷ []) once).0 comes
 
+    placed : EachRecord ListsAwaited (rs ++ r ∷ [])
+    placed = replayed_placed old.replay.nests (rs ++ r ∷ []) values replayed
+
+    few : length rs + 2 < 2 ^ 64
+    few = omega (arith, kept.replay.count, kept.replay.few)
+
 -- ---- so the record is taken
 
 pub watch_more : (rs : List Record) (old new : Watch) (r : Record) (parent : Option ℕ) → IsWatchOf rs old
@@ -309,13 +325,16 @@ watch_more rs old new r parent kept watched = record {
   waits = watched.waits rs follows kept.waits;
   teams = watched.teams rs follows room kept.waits kept.teams;
   items = read.kept;
+  lists = lists;
+  in_order =
+      order_more rs r old.items kept.items next.watchable next.once next.awaits kept.in_order;
   outside = λ so.
       let (before, there) = watched.outside so in
       outside_more old.replay rs r more (kept.outside before) there;
   comes = next.comes;
   passes = each_more PassesAfter rs r kept.passes (record {
     clear = clear;
-    in_place = subst (λ l. ListsAwaited l r) before (placed (length rs) r last);
+    in_place = next.awaits;
   });
   settled = each_more IsSettledAfter rs r kept.settled (record {
     unfinished =
@@ -368,9 +387,6 @@ watch_more rs old new r parent kept watched = record {
     follows : MayFollow rs r
     follows = next.follows
 
-    placed : EachRecord ListsAwaited all
-    placed = replayed_placed nests all values replayed
-
     clear : (cause : Cause) → is_told_at_once cause ≡ true → HasCause all (length rs) cause → ⊥
     clear SeqGap told has = replayed_numbered nests all values replayed (length rs) has
     clear CreatedTwice told has = next.once (length rs) has
@@ -408,7 +424,7 @@ watch_more rs old new r parent kept watched = record {
     may_be_read = record {
       watchable = next.watchable;
       once = next.once;
-      in_place = placed;
+      in_place = next.placed;
       lists = λ task list lists_it.
           let (p, given, t, was, runs) = watched.may_list task list lists_it in
           let (u, found, above) = parent_found old.replay task p
@@ -441,6 +457,14 @@ watch_more rs old new r parent kept watched = record {
     read : IsRead rs r new.items
     read = watched.items rs may_be_read kept.items
 
+    lists : AreListsOf all new.lists
+    lists =
+        lists_more rs r parent old.lists new.lists
+        (subst (TakesLists old.lists new.lists r parent) kept.replay.count watched.lists)
+        (λ task list says.
+        let (p, given, above, going) = may_be_read.lists task list says in (p, given, above))
+        kept.lists
+
     complete : IsCompleteAfter rs r
     complete task (covered covers) = watched.covers rs follows room kept.waits kept.teams task covers
     complete task (preceding {dependent = dependent} explicit starts precedes) =
@@ -459,6 +483,8 @@ watch_forgets rs w known kept still = record {
   waits = kept.waits;
   teams = kept.teams;
   items = kept.items;
+  lists = kept.lists;
+  in_order = kept.in_order;
   outside = kept.outside;
   comes = kept.comes;
   passes = kept.passes;

@@ -1,5 +1,5 @@
 -- The task that is missed where a region ends: which children the end waits for, by what is kept of tasks,
--- and which tasks are below them.
+-- and which tasks are below them. And the predecessor that is missed where a task starts.
 use Rattle.std.specs.Prelude.{ℕ, ◌≡◌, ◌≢◌, ◌<◌, ◌≤◌, ◌+◌, true, List, [], ◌∷◌, ◌++◌, length}
 use Rattle.std.specs.Prelude.{Option, Some, is_some, Contains}
 use Rattle.ompt_events.specs.declared.records.Record.{Record}
@@ -14,18 +14,31 @@ use Rattle.ompt_events.specs.Places.{at, seen_at}
 use Rattle.ompt_events.specs.Tree.{IsCreatedAt}
 use Rattle.ompt_events.specs.Regions.{is_barrier, open_regions, kind_at}
 use Rattle.ompt_events.specs.Coverage.{Covers}
+use Rattle.ompt_events.specs.Dependences.{IsPredecessor}
 use Rattle.online.specs.declared.kin.Kin.{Kin}
 use Rattle.online.specs.declared.missed.Awaited.{Awaited}
 use Rattle.online.specs.declared.missed.Awaited.TheVariants.{Children, Group, Team}
 use Rattle.online.specs.declared.replay.Replay.{Replay}
+use Rattle.online.specs.Online.{IsDependentAt}
 use Rattle.online.specs.Tasks.{value_of}
 use Rattle.online.specs.Teams.{IsInTeams, EndsBarrierAt, AreSettledUpTo}
 use Rattle.online.specs.Waits.{IsWaitsOf, MayFollow}
 
--- the last record ends a region that waits for the task, and no record finishes the task whole, or its event
-pub record IsMissed (rs : List Record) (r : Record) (task : ℕ) : Type 0 where
+-- no record finishes the task whole, or its event
+abbrev pub IsUnfinished : List Record → ℕ → Type 0
+IsUnfinished rs task = (k : ℕ) (part : Part) → at finish rs k ≡ Some (task, part) → part ≡ Body
+
+-- the last record ends a region that waits for the task, which is not finished
+pub record EndsTooEarly (rs : List Record) (r : Record) (task : ℕ) : Type 0 where
   pub covered : Covers (rs ++ r ∷ []) (length rs) task
-  pub unfinished : (k : ℕ) (part : Part) → at finish (rs ++ r ∷ []) k ≡ Some (task, part) → part ≡ Body
+  pub unfinished : IsUnfinished (rs ++ r ∷ []) task
+
+-- at the last record the dependent task starts, or is a taskwait that is complete, and a task that it depends
+-- on (OpenMP 5.2, 15.9.5) is not finished
+pub record StartsTooEarly (rs : List Record) (r : Record) (dependent predecessor : ℕ) : Type 0 where
+  pub dependent_at : IsDependentAt (rs ++ r ∷ []) (length rs) dependent
+  pub precedes : IsPredecessor (rs ++ r ∷ []) dependent predecessor
+  pub unfinished : IsUnfinished (rs ++ r ∷ []) predecessor
 
 -- no task creates a child while a taskwait of its own is open
 abbrev pub AreCreatedOutside : List Record → Type 0

@@ -1,12 +1,12 @@
 -- Records that are taken one after another as calls of recorders: what the tasks and the threads are after
 -- them.
-use Rattle.std.specs.Prelude.{ℕ, ◌≡◌, ◌≢◌, ◌<◌, ◌++◌, ◌∷◌, Bool, true, List, [], Some, None, map, fold}
+use Rattle.std.specs.Prelude.{ℕ, ◌≡◌, ◌≢◌, ◌<◌, ◌≤◌, ◌^◌, ◌++◌, ◌∷◌, Bool, true, List, [], Some, None}
+use Rattle.std.specs.Prelude.{map, fold}
 use Rattle.std.specs.Prelude.{length, set}
 use Rattle.std.specs.Prelude.{false, slice_get, is_some, Option, ◌||◌, ◌+◌, if◌then◌else◌}
 use Rattle.ompt_events.specs.declared.records.Record.{Record}
 use Rattle.ompt_events.specs.declared.records.Body.{Body}
 use Rattle.ompt_events.specs.declared.records.Body.TheVariants.{TaskSchedule, Cancel}
-use Rattle.ompt_events.specs.Limits.{max_records, max_tasks}
 use Rattle.ompt_events.specs.States.{is_task}
 use Rattle.packed_trace.specs.Named.{subject, object}
 use Rattle.callbacks.specs.Standing.{allows}
@@ -20,7 +20,7 @@ use Rattle.online.specs.Tasks.{value_of}
 use Rattle.online.specs.declared.replay.Replay.{Replay}
 use Rattle.scripts.specs.declared.script.Step.{Step}
 use Rattle.scripts.specs.declared.lives.Life.TheVariants.{Live}
-use Rattle.scripts.specs.Scripts.{ScriptView, IsScript, step_of, life, task_count}
+use Rattle.scripts.specs.Scripts.{ScriptView, IsScript, step_of, life}
 use Rattle.scripts.specs.Progress.{Values, value, values_after, progress, recorder_with, without_seen}
 use Rattle.scripts.specs.Progress.{refused_at, thread_records}
 use Rattle.scripts.specs.RunCalls.{first_given, second_given, recorded_body, call_refusal}
@@ -38,22 +38,26 @@ and_call steps r = steps ++ step_of steps r.thread None (call_of r.body) ∷ []
 abbrev pub calls_of : List Record → List Step
 calls_of rs = fold and_call [] rs
 
-abbrev pub script_of : Bool → List Record → ScriptView
-script_of nests rs = record { nests = nests; steps = calls_of rs }
+-- how many records a thread can number: more than recorders keep
+abbrev pub replay_room : ℕ
+replay_room = 2 ^ 32
 
--- recorders that are given the calls of these records make them, but for the ledger lengths, and leave these
--- values of the tasks
+abbrev pub script_of : Bool → List Record → ScriptView
+script_of nests rs = record { nests = nests; room = replay_room; steps = calls_of rs }
+
+-- recorders with room for all that a thread can number, which are given the calls of these records, make
+-- them, but for the ledger lengths, and leave these values of the tasks
 pub record IsReplayed (nests : Bool) (rs : List Record) (values : Values) : Type 0 where
   pub rules : IsScript (calls_of rs)
   pub accepted : (at : ℕ) → refused_at (script_of nests rs) at ≡ None
-  pub records : (progress nests (calls_of rs)).records ≡ map without_seen rs
-  pub values_are : (task : ℕ) → values task ≡ (progress nests (calls_of rs)).values task
+  pub records : (progress replay_room nests (calls_of rs)).records ≡ map without_seen rs
+  pub values_are : (task : ℕ) → values task ≡ (progress replay_room nests (calls_of rs)).values task
 
 -- a recorder of the thread that has made these records, given the call of a record with this body by these
 -- values, makes the record
 pub record Makes (nests : Bool) (thread : ℕ) (own : List Record) (values : Values) (body : Body) : Type 0
   where
-    pub accepts : call_refusal (recorder_with nests thread own) (call_of body)
+    pub accepts : call_refusal (recorder_with replay_room nests thread own) (call_of body)
         (value values (first_given (call_of body))) (value values (second_given (call_of body))) ≡ None
     pub makes : recorded_body (call_of body) (value values (first_given (call_of body)))
         (value values (second_given (call_of body))) ≡ body
@@ -66,7 +70,7 @@ call_on thread body = record { line = 0; thread = thread; after = None; body = c
 pub record MayTake (own : List Record) (place : Place) (body : Body) : Type 0 where
   pub left : IsLeft own place.state.now
   pub allowed : allows place.state.now.nests own body ≡ true
-  pub few : length own < max_records
+  pub few : length own < replay_room
 
 -- the record with this body is made, and the values of the tasks become those after its call
 pub record Takes (nests : Bool) (thread : ℕ) (own : List Record) (body : Body) (old new : Tasks) : Type 0
@@ -92,15 +96,13 @@ pub record IsReplayOf (rs : List Record) (kept : Replay) : Type 0 where
   pub live : (task : ℕ) → is_some (value_of kept.tasks task) ≡ true → life (calls_of rs) task ≡ Some Live
   pub used : (task : ℕ) → has kept.used task ≡ is_some (life (calls_of rs) task)
   pub count : kept.count ≡ length rs
-  pub tasks_made : kept.made ≡ task_count (calls_of rs)
+  pub few : kept.count ≤ 2 ^ 63
 
 -- the id of the task that is made, if one is, is new and is noted, and nothing else
 pub record IsNoted (old new : Replay) (made : Option ℕ) : Type 0 where
   pub used : (task : ℕ) → has new.used task
       ≡ (is_task task made || has old.used task)
-  pub new_one : (task : ℕ) → made ≡ Some task
-      → (has old.used task ≡ false) × (old.made < max_tasks)
-  pub made_more : new.made ≡ old.made + (if is_some made then 1 else 0)
+  pub new_one : (task : ℕ) → made ≡ Some task → has old.used task ≡ false
   pub nests : new.nests ≡ old.nests
   pub threads : new.threads ≡ old.threads
   pub tasks : new.tasks ≡ old.tasks
@@ -109,7 +111,7 @@ pub record IsNoted (old new : Replay) (made : Option ℕ) : Type 0 where
 -- the record is the next one of the thread, by its number there and by what the thread's records allow
 pub record IsNextOf (t : Thread) (r : Record) : Type 0 where
   pub seq : r.seq ≡ t.count
-  pub few : t.count < max_records
+  pub few : t.count < replay_room
   pub allowed : (own : List Record) → IsLeft own t.state → allows t.state.nests own r.body ≡ true
 
 abbrev pub IsNextThere : Replay → Record → Type 0
@@ -118,13 +120,12 @@ IsNextThere kept r = (t : Thread) × (slice_get kept.threads.items r.thread ≡ 
 -- the tasks are those after the call of the record, if its thread allows the record
 pub record IsCalled (old new : Replay) (r : Record) : Type 0 where
   pub takes : (t : Thread) (own : List Record) → slice_get old.threads.items r.thread ≡ Some t
-      → IsLeft own t.state → allows t.state.nests own r.body ≡ true → length own < max_records
+      → IsLeft own t.state → allows t.state.nests own r.body ≡ true → length own < replay_room
       → Takes t.state.nests r.thread own r.body old.tasks new.tasks
   pub nests : new.nests ≡ old.nests
   pub threads : new.threads ≡ old.threads
   pub used : new.used ≡ old.used
   pub count : new.count ≡ old.count
-  pub made : new.made ≡ old.made
 
 -- the record's thread is behind it, and the record counts
 pub record IsAdvanced (old new : Replay) (r : Record) : Type 0 where
@@ -138,5 +139,5 @@ pub record IsAdvanced (old new : Replay) (r : Record) : Type 0 where
   pub nests : new.nests ≡ old.nests
   pub tasks : new.tasks ≡ old.tasks
   pub used : new.used ≡ old.used
-  pub made : new.made ≡ old.made
   pub count : new.count ≡ old.count + 1
+  pub few : old.count < 2 ^ 63

@@ -10,7 +10,7 @@ use Rattle.ompt_events.specs.declared.names.Status.TheVariants.{TaskwaitComplete
 use Rattle.ompt_events.specs.declared.names.SyncKind.TheVariants.{Taskwait}
 use Rattle.ompt_events.specs.declared.deps.Dep.{Dep}
 use Rattle.ompt_events.specs.Records.{forked, region_named, dependences, started, next_turn, creation}
-use Rattle.ompt_events.specs.Records.{region}
+use Rattle.ompt_events.specs.Records.{region, begun_turn, wait_completed}
 use Rattle.ompt_events.specs.Causes.{IsForked}
 use Rattle.ompt_events.specs.Ends.{AreSameButForEnds}
 use Rattle.ompt_events.specs.Places.{at}
@@ -22,6 +22,7 @@ use Rattle.online.specs.Ids.{has}
 use Rattle.online.specs.Items.{IsItemsOf}
 use Rattle.online.specs.Kept.{kept_by, teams_by}
 use Rattle.online.specs.Lengths.{IsLengthsOf}
+use Rattle.online.specs.Lists.{AreListsOf, AreListsInOrder}
 use Rattle.online.specs.Missed.{AreCreatedOutside, AreTasksLeft}
 use Rattle.online.specs.Online.{EachRecord, ComesAfter, PassesAfter, IsSettledAfter}
 use Rattle.online.specs.Replays.{IsReplayOf}
@@ -96,6 +97,8 @@ pub record IsWatchOf (rs : List Record) (w : Watch) : Type 0 where
   pub waits : IsWaitsOf rs (kept_by w.waits)
   pub teams : AreTeamsOf rs (kept_by w.waits) (teams_by w.waits)
   pub items : IsItemsOf rs w.items
+  pub lists : AreListsOf rs w.lists
+  pub in_order : AreListsInOrder rs
   pub outside : w.outside ≡ true → AreCreatedOutside rs
   pub comes : EachRecord ComesAfter rs
   pub passes : EachRecord PassesAfter rs
@@ -119,3 +122,22 @@ abbrev pub HasRefused : List Record → Record → Watch → Type 0
 HasRefused records r w =
     ends_region (region r.body) ≡ true
     → (rs : List Record) × AreSameButForEnds records rs × IsRefusedWatch rs r w
+
+-- ---- where a record failed the test of predecessors
+
+-- what a task depends on must be complete at a record with this body: the task starts there, or is a taskwait
+-- that is complete there
+abbrev pub MustBePreceded : Body → ℕ → Type 0
+MustBePreceded body task = (begun_turn body ≡ Some (task, 0)) ⊎ (wait_completed body ≡ Some task)
+
+-- the replay has taken these records, the last of which is refused, and the lists are among theirs
+pub record IsRefusedStart (rs : List Record) (w : Watch) : Type 0 where
+  pub replay : IsReplayOf rs w.replay
+  pub lists : AreListsOf rs w.lists
+  pub in_order : AreListsInOrder rs
+
+-- this is kept where a task must be preceded at the record, but for what ends of roots say of their teams
+abbrev pub HasRefusedStart : List Record → Record → Watch → Type 0
+HasRefusedStart records r w =
+    (task : ℕ) → MustBePreceded r.body task
+    → (rs : List Record) × AreSameButForEnds records rs × IsRefusedStart (rs ++ r ∷ []) w

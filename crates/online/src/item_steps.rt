@@ -160,7 +160,7 @@ fn started(record: &Record) -> Option<u64>
 
 /// Returns the task that the record completes: it finishes the task whole, or its event, and its body was
 /// finished before.
-fn completed(record: &Record) -> Option<u64>
+pub(crate) fn completed(record: &Record) -> Option<u64>
     ensures { result ≡ completed_by (say.finish «record».now.body) }
 {
     match finish(record) {

@@ -1,6 +1,6 @@
 //! When the order of a file is an order of its records, and what the records up to a place tell of it. These are
 //! laws about the definitions alone, proved for all records. The functions do nothing.
-ghost use Rattle.std.specs.Prelude.{Bool, ◌≡◌, ◌<◌, ◌≤◌, ◌+◌, ◌↔◌, ◌⊎◌, ◌∷◌, ◌++◌, ℕ, true, List, [], length, Option};
+ghost use Rattle.std.specs.Prelude.{Bool, ◌≡◌, ◌<◌, ◌≤◌, ◌+◌, ◌^◌, ◌↔◌, ◌⊎◌, ◌∷◌, ◌++◌, ℕ, true, List, [], length, Option};
 ghost use Rattle.ompt_events.specs.declared.records.Record.{Record};
 ghost use Rattle.ompt_events.specs.declared.names.SyncKind.{SyncKind};
 ghost use Rattle.ompt_events.specs.declared.cause.Cause.{Cause};
@@ -234,7 +234,7 @@ pub fn replayed_records_show_no_cause_of_threads()
 /// - `comes`: it passes the tests by which records are watchable, if it names a length that the ledger may have.
 /// - `placed`: each record lists the dependences that its thread awaits.
 /// - `unfinished`: no task has a record behind the end of its body.
-/// - `follows`: it may follow the others, as the steps of `Waits` ask.
+/// - `follows`: it may follow the others, as the steps of `Waits` ask, if they can be counted in 64 bits.
 pub fn replayed_records_follow_each_other()
     ensures comes { (nests : Bool) (rs : List Record) (r : Record) (values : Values)
         → IsReplayed nests (rs ++ r ∷ []) values → NamesLength rs r → ComesAfter rs r }
@@ -244,7 +244,7 @@ pub fn replayed_records_follow_each_other()
         → EachRecord IsUnfinishedAfter rs }
     ensures follows { (nests : Bool) (rs : List Record) (r : Record) (values : Values)
         → IsReplayed nests (rs ++ r ∷ []) values → IsWatchable (rs ++ r ∷ [])
-        → IsFreeOf (rs ++ r ∷ []) CreatedTwice → waits.MayFollow rs r }
+        → IsFreeOf (rs ++ r ∷ []) CreatedTwice → length rs + 2 < 2 ^ 64 → waits.MayFollow rs r }
 {}
 
 /// Some records need no step of what is kept for the ends of taskwaits, taskgroups and barriers (`Waits`).

@@ -2,13 +2,12 @@
 ghost use Rattle.std.specs.Prelude.{◌≡◌, ◌<◌, ◌≤◌, ◌+◌, ◌^◌, ◌++◌, ◌∷◌, [], List, IfOk, OnOk, IsTrue};
 ghost use Rattle.ompt_events.specs.declared.records.Record.{Record};
 ghost use Rattle.ompt_events.specs.Records.{made, fulfilled, suspended};
-ghost use Rattle.ompt_events.specs.Limits.{max_records};
 ghost use Rattle.callbacks.specs.Logs.{known_from};
 ghost use Rattle.online.specs.Lengths.{IsLengthsOf, MayFollow, NamesLength, NamesEntry, IsAdvancedBy};
 ghost use Rattle.online.specs.Lengths.{ReachesTasks, ReachesNext, ReachesAny, ReachesCreation};
 ghost use Rattle.online.specs.Lengths.{ReachesSuspensions, AddsSuspension, AddsMade};
 
-use ompt_events::{Body, MAX_RECORDS, Record, Status, finish};
+use ompt_events::{Body, Record, Status, finish};
 use std::alloc::{AllocError, Global};
 use std::collections::HashMap;
 
@@ -61,7 +60,7 @@ impl Lengths {
             → IsLengthsOf rs self.old
             → NamesLength rs «record».now × IsLengthsOf (rs ++ «record».now ∷ []) self.new) }
     {
-        if self.entries >= MAX_RECORDS as u32 || !self.names_entry(record) {
+        if self.entries == u32::MAX || !self.names_entry(record) {
             return Ok(false);
         }
         if !reaches_tasks(&self.tasks, &record.body, record.seen) {
@@ -100,7 +99,7 @@ impl Lengths {
     /// is known. Returns false where a length greater than `seen` was known there before, or where there is
     /// no such thread.
     fn advance(&mut self, thread: u8, seen: u32, known: u32) -> bool
-        requires { (seen ≤ known) × (self.old.entries + known < 2 ^ 32) }
+        requires { (seen ≤ known) × (known ≤ seen + 1) × (self.old.entries + 1 < 2 ^ 32) }
         ensures { IsTrue result → IsAdvancedBy self.old self.new thread seen known }
     {
         let Some(length) = self.threads.get_mut(usize::from(thread)) else {
@@ -117,7 +116,7 @@ impl Lengths {
 
 /// Returns the length that is known after the record.
 fn known_after(record: &Record) -> u32
-    requires { «record».now.seen ≤ max_records }
+    requires { «record».now.seen + 1 < 2 ^ 32 }
     ensures { result ≡ known_from «record».now.seen «record».now.body }
 {
     if finish(record).is_some() {

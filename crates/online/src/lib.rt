@@ -8,7 +8,8 @@
 //! `Items` answers, when a dependent task starts or a taskwait with dependences is complete, whether all its
 //! predecessors are complete: read `item_steps`, one step for each record, then `items`, what a record may ask,
 //! `uses`, the uses of locations by siblings, and `groups`, how many tasks of a group of uses are not complete.
-//! `item_laws` says what an answer means at the record.
+//! `item_laws` says what an answer means at the record. `lists` looks for a predecessor that is missed where an answer
+//! is no.
 //!
 //! `Waits` takes records one after another too, and answers, when a taskwait, a taskgroup or a barrier ends, whether
 //! all that it covers is complete: read `wait_steps`, which says which step a record has, then `waits`, the steps,
@@ -32,6 +33,7 @@ mod kin;
 mod kins;
 pub mod laws;
 mod lengths;
+mod lists;
 mod missed;
 mod phase;
 mod regions;
@@ -53,4 +55,4 @@ pub use lengths::Lengths;
 pub use replay::Replay;
 pub use rosters::Rosters;
 pub use waits::Waits;
-pub use watch::{Test, Watch};
+pub use watch::{EarlyStart, Test, Watch};

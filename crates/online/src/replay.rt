@@ -2,7 +2,6 @@
 ghost use Rattle.std.specs.Prelude.{ℕ, List, Bool, true, false, Some, None, ◌≡◌, ◌<◌, ◌^◌, ◌++◌, ◌∷◌, [], IsTrue, IfOk, IfSome, OnOk, Contains, is_some, length, nat_eq, option_and_then};
 ghost use Rattle.ompt_events.specs.declared.records.Record.{Record};
 ghost use Rattle.ompt_events.specs.Records.{made};
-ghost use Rattle.ompt_events.specs.Limits.{max_records};
 ghost use Rattle.callbacks.specs.Standing.{allows};
 ghost use Rattle.callbacks.specs.Logs.{IsLeft};
 ghost use Rattle.ompt_events.specs.declared.records.Body.TheVariants.{ImplicitTask};
@@ -16,11 +15,17 @@ use crate::calls::{Place, take};
 use crate::ids::Ids;
 use crate::tasks::Tasks;
 use crate::thread::Thread;
-use ompt_events::{Body, MAX_RECORDS, MAX_TASKS, Record, SyncKind};
+use ompt_events::{Body, Record, SyncKind};
 use std::alloc::{AllocError, Global};
 
 /// Thread numbers are below this.
 const THREADS: usize = 256;
+
+/// No thread has more records, since each has a number of 32 bits there.
+const ROOM: u64 = 1 << 32;
+
+/// No more records are taken in all.
+const MOST: usize = 1 << 63;
 
 /// What the records so far leave: of each thread, of each task that is live, and which ids tasks have had.
 #[derive(Drop)]
@@ -30,9 +35,8 @@ pub struct Replay {
     threads: Vec<Thread>,
     tasks: Tasks,
     used: Ids,
-    /// How many records there are, and how many tasks they make.
+    /// How many records there are.
     count: usize,
-    made: usize,
 }
 
 impl Replay {
@@ -51,7 +55,6 @@ impl Replay {
             tasks: Tasks::new(alloc),
             used: Ids::new(alloc),
             count: 0,
-            made: 0,
         })
     }
 
@@ -62,7 +65,7 @@ impl Replay {
             → IsReplayOf (rs ++ «record».now ∷ []) self.new) }
         ensures kind { IfOk result (λ taken. IsTrue taken → self.new.nests ≡ self.old.nests) }
     {
-        if record.nests != self.nests || self.count >= MAX_RECORDS || !self.fits(record) {
+        if record.nests != self.nests || !self.fits(record) {
             return Ok(false);
         }
         if !self.take_call(record)? {
@@ -72,6 +75,13 @@ impl Replay {
             return Ok(false);
         }
         self.advance(record)
+    }
+
+    /// Returns how many records there are so far.
+    pub(crate) fn count(&self) -> usize
+        ensures { result ≡ self.now.count }
+    {
+        self.count
     }
 
     /// Returns the parent of the task, if the task is live and has one.
@@ -148,14 +158,14 @@ impl Replay {
     }
 
     /// Goes on with the thread behind its record, and counts the record. Returns false where there is no such
-    /// thread.
+    /// thread, or no number for the record.
     fn advance(&mut self, record: &Record) -> Result<bool, AllocError>
         ensures { IfOk result (λ done. IsTrue done → IsAdvanced self.old self.new «record».now) }
     {
         let Some(thread) = self.threads.get_mut(usize::from(record.thread)) else {
             return Ok(false);
         };
-        if thread.count >= MAX_RECORDS as u64 || self.count >= MAX_RECORDS {
+        if thread.count >= ROOM || self.count >= MOST {
             return Ok(false);
         }
         thread.advance(&record.body)?;
@@ -163,19 +173,14 @@ impl Replay {
         Ok(true)
     }
 
-    /// Notes the id of the task that the record makes, if it makes one. Returns false where a task had this id, or
-    /// where there are as many tasks as there may be.
+    /// Notes the id of the task that the record makes, if it makes one. Returns false where a task had this id.
     fn note_made(&mut self, body: &Body) -> Result<bool, AllocError>
         ensures { IfOk result (λ noted. IsTrue noted → IsNoted self.old self.new (made body.now)) }
     {
-        let Some(task) = body.made() else {
-            return Ok(true);
-        };
-        if self.made >= MAX_TASKS || !self.used.insert(task)? {
-            return Ok(false);
+        match body.made() {
+            Some(task) => self.used.insert(task),
+            None => Ok(true),
         }
-        self.made += 1;
-        Ok(true)
     }
 }
 
@@ -191,6 +196,6 @@ fn is_next(thread: &Thread, record: &Record) -> bool
     ensures { IsTrue result → IsNextOf thread.now «record».now }
 {
     u64::from(record.seq) == thread.count
-        && record.seq < MAX_RECORDS as u32
+        && thread.count < ROOM
         && thread.state.allows(&record.body)
 }

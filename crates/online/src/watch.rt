@@ -10,14 +10,16 @@ ghost use Rattle.ompt_events.specs.Linearization.{IsLinearization, IsGreedy};
 ghost use Rattle.ompt_events.specs.Places.{places};
 ghost use Rattle.ompt_events.specs.Violations.{IsRequired};
 ghost use Rattle.scripts.specs.Scripts.{ended};
-ghost use Rattle.ompt_events.specs.Records.{region};
-ghost use Rattle.online.specs.Missed.{IsMissed};
+ghost use Rattle.ompt_events.specs.Records.{region, begun_turn, wait_completed};
+ghost use Rattle.online.specs.Missed.{EndsTooEarly, StartsTooEarly};
 ghost use Rattle.online.specs.Waits.{ends_region};
 ghost use Rattle.online.specs.Watches.{IsWatchOf, HasWatched, IsRefusedWatch, HasRefused, CreatesOutside};
-ghost use Rattle.online.specs.Watches.{dependent_of, parent_in, MayList};
+ghost use Rattle.online.specs.Watches.{dependent_of, parent_in, MayList, IsRefusedStart, HasRefusedStart};
+ghost use Rattle.online.specs.Watches.{MustBePreceded};
 
 use crate::items::Items;
 use crate::lengths::Lengths;
+use crate::lists::Lists;
 use crate::regions::Regions;
 use crate::replay::Replay;
 use crate::rosters::Rosters;
@@ -44,6 +46,15 @@ pub enum Test {
     End,
 }
 
+/// A task that starts, or a taskwait with dependences that is complete, before a task that it depends on is.
+#[derive(Clone, Copy, Debug, PartialEq, Eq)]
+pub struct EarlyStart {
+    /// The task that starts, or the taskwait.
+    pub dependent: u64,
+    /// The task that it depends on: its parent created it before, with a dependence that conflicts.
+    pub predecessor: u64,
+}
+
 /// What is kept of the records so far.
 #[derive(Drop)]
 pub struct Watch {
@@ -53,6 +64,7 @@ pub struct Watch {
     lengths: Lengths,
     waits: Waits,
     items: Items,
+    lists: Lists,
     /// Whether no task has created a child inside a taskwait of its own so far.
     outside: bool,
 }
@@ -71,6 +83,7 @@ impl Watch {
             lengths: Lengths::new(alloc)?,
             waits: Waits::new(alloc),
             items: Items::new(alloc),
+            lists: Lists::new(alloc),
             outside: true,
         })
     }
@@ -78,12 +91,15 @@ impl Watch {
     /// Takes one more record, and returns none, only if it passes the tests by those before it: with them it shows no
     /// cause, and all is complete there that must be. What the end of a root says of its team is not tested. Else
     /// returns the test that it fails; then what is kept is of no use for later records, but [`Watch::missed`] may be
-    /// asked once where that is the test of waits. Fails only when out of memory.
+    /// asked once where that is the test of waits, and [`Watch::missed_predecessor`] where it is that of predecessors.
+    /// Fails only when out of memory.
     pub fn take(&mut self, record: &Record) -> Result<Option<Test>, AllocError>
         ensures passed { IfOk result (λ failed. failed ≡ None → (records : List Record) → HasWatched records self.old
             → HasWatched (records ++ «record».now ∷ []) self.new) }
         ensures refused { IfOk result (λ failed. failed ≡ Some Test.Waits → (records : List Record)
             → HasWatched records self.old → HasRefused records «record».now self.new) }
+        ensures early { IfOk result (λ failed. failed ≡ Some Test.Predecessors → (records : List Record)
+            → HasWatched records self.old → HasRefusedStart records «record».now self.new) }
     {
         match self.end_made(record) {
             Some(made) => self.take_made(&made),
@@ -95,7 +111,8 @@ impl Watch {
     /// begin of the root says.
     fn end_made(&self, record: &Record) -> Option<Record>
         ensures { IfSome result (λ made. (ending_alone «record».now ≡ ending_alone made)
-            × (region «record».now.body ≡ None)) }
+            × (region «record».now.body ≡ None) × (begun_turn «record».now.body ≡ None)
+            × (wait_completed «record».now.body ≡ None)) }
     {
         let Body::ImplicitTask {
             endpoint: Endpoint::End,
@@ -131,7 +148,10 @@ impl Watch {
             → IsWatchOf (rs ++ «record».now ∷ []) self.new) }
         ensures refused { IfOk result (λ failed. failed ≡ Some Test.Waits → (rs : List Record) → IsWatchOf rs self.old
             → ends_region (region «record».now.body) ≡ true → IsRefusedWatch rs «record».now self.new) }
+        ensures early { IfOk result (λ failed. failed ≡ Some Test.Predecessors → (rs : List Record)
+            → IsWatchOf rs self.old → IsRefusedStart (rs ++ «record».now ∷ []) self.new) }
     {
+        let place = self.replay.count();
         let parent = self.parent(&record.body);
         let outside = self.stays_outside(&record.body);
         if !self.may_list(&record.body, parent) || !self.replay.take(record)? {
@@ -152,6 +172,7 @@ impl Watch {
         if !self.items.take(record, parent)? {
             return Ok(Some(Test::Predecessors));
         }
+        self.lists.take(record, parent, place)?;
         self.outside = outside;
         self.forget(record);
         Ok(None)
@@ -162,7 +183,7 @@ impl Watch {
     /// no use. Fails only when out of memory.
     pub fn missed(&mut self, record: &Record) -> Result<Option<u64>, AllocError>
         ensures { IfOk result (λ found. IfSome found (λ task. (records : List Record)
-            → HasRefused records «record».now self.old → IsMissed records «record».now task)) }
+            → HasRefused records «record».now self.old → EndsTooEarly records «record».now task)) }
     {
         let Some((task, kind, endpoint)) = record.body.region() else {
             return Ok(None);
@@ -171,6 +192,22 @@ impl Watch {
             return Ok(None);
         }
         self.waits.missed(&self.replay, task, kind, endpoint)
+    }
+
+    /// Returns a task that starts at the record, or a taskwait with dependences that is complete there, and a task that
+    /// it depends on and that is not complete, the one of those that are found whose list of dependences came first,
+    /// where the record failed the test of predecessors just before. Returns none where it finds none.
+    pub fn missed_predecessor(&self, record: &Record) -> Option<EarlyStart>
+        ensures { IfSome result (λ found. (records : List Record)
+            → HasRefusedStart records «record».now self.now
+            → StartsTooEarly records «record».now found.dependent found.predecessor) }
+    {
+        let dependent = preceded(&record.body)?;
+        let predecessor = self.lists.first_before(&self.replay, dependent)?;
+        Some(EarlyStart {
+            dependent,
+            predecessor,
+        })
     }
 
     /// Forgets the lengths of a task that the record completes, or of a root that it ends: no record names it again.
@@ -260,6 +297,16 @@ fn ended(record: &Record) -> Option<u64>
         Some((_, Part::Body)) => None,
         None => record.body.ended_root(),
     }
+}
+
+/// Returns the task whose predecessors must be complete at a record with this body, if it has dependences.
+fn preceded(body: &Body) -> Option<u64>
+    ensures { IfSome result (MustBePreceded body.now) }
+{
+    if let Some((task, 0)) = body.begun_turn() {
+        return Some(task);
+    }
+    body.wait_completed()
 }
 
 /// Returns the task whose predecessors may have to be complete at a record with this body, or whose dependences it

@@ -1,10 +1,9 @@
-use Rattle.std.proofs.Common.{◌≡◌, ◌∙◌, ◌<◌, Bool, true, false, List, ◌++◌, ◌∷◌, [], refl, arith}
+use Rattle.std.proofs.Common.{◌≡◌, ◌∙◌, Bool, true, false, List, ◌++◌, ◌∷◌, [], refl}
 use Rattle.std.specs.Prelude.{IsTrue, not}
 use Rattle.std.proofs.Math.Bool.{beq}
 use Rattle.std.proofs.lemmas.Bool.{true≢false}
 use Rattle.std.proofs.lemmas.Result.{IfOk-weaker}
 use Rattle.ompt_events.specs.declared.records.Record.{Record}
-use Rattle.ompt_events.specs.Limits.{max_records}
 use Rattle.online.specs.Replays.{IsReplayOf, IsAdvanced}
 use Rattle.online.proofs.TakenLemmas.{replay_more}
 use Rattle.online.proofs.replay.Replay.take.Goals as goal
@@ -15,13 +14,11 @@ returns-clause-made c =
     let noted = c.note_made.new.self in
     let later = c.advance.new.self in
     let r = c.args.«record».now in
-    let room : old.count < max_records =
-    let full = c.if-self-ge-MAX_RECORDS.false in omega (arith, full) in
     IfOk-weaker c.advance.result (λ done. IsTrue done → IsAdvanced noted later r)
     (λ taken. IsTrue taken → (rs : List Record) → IsReplayOf rs old → IsReplayOf (rs ++ r ∷ []) later)
     (λ done advanced is rs kept. replay_more rs old c.take_call.new.self noted later r kept
     (same_kind r.nests old.nests c.if-record-self.false)
-    room (c.if-not-fits.ensures refl) (c.in_ok-take_call.ensures c.if-not-branch.false)
+    (c.if-not-fits.ensures refl) (c.in_ok-take_call.ensures c.if-not-branch.false)
     (c.in_ok-note_made.ensures c.if-not-branch-2.false) (advanced is))
     c.advance.ensures
   where

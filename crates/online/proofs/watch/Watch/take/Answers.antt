@@ -1,6 +1,7 @@
 use Rattle.std.proofs.Common.{refl}
 use Rattle.std.proofs.lemmas.Result.{IfOk-weaker}
 use Rattle.online.proofs.WatchedLemmas.{watched_more}
+use Rattle.online.proofs.WatchEarly.{early_root, early_same}
 use Rattle.online.proofs.WatchMissed.{refused_root, refused_same}
 use Rattle.online.proofs.watch.Watch.take.Goals as goal
 
@@ -19,6 +20,14 @@ returns-in-Some-clause-refused c =
     refused_root c.take_made.new.self c.args.«record».now c.in-Some.ensures.1 records)
     c.take_made.ensures.refused
 
+pub returns-in-Some-clause-early : goal.returns-in-Some-clause-early
+returns-in-Some-clause-early c =
+    IfOk-weaker c.take_made.result _ _
+    (λ failed taken early records kept.
+    early_root c.take_made.new.self c.args.«record».now c.in-Some.ensures.2 c.in-Some.ensures.3
+    records)
+    c.take_made.ensures.early
+
 pub returns-in-None-clause-passed : goal.returns-in-None-clause-passed
 returns-in-None-clause-passed c =
     IfOk-weaker c.take_made-in-None.result _ _
@@ -33,3 +42,10 @@ returns-in-None-clause-refused c =
     (λ failed taken waits.
     refused_same c.args.self.now c.take_made-in-None.new.self c.args.«record».now (taken waits))
     c.take_made-in-None.ensures.refused
+
+pub returns-in-None-clause-early : goal.returns-in-None-clause-early
+returns-in-None-clause-early c =
+    IfOk-weaker c.take_made-in-None.result _ _
+    (λ failed taken early.
+    early_same c.args.self.now c.take_made-in-None.new.self c.args.«record».now (taken early))
+    c.take_made-in-None.ensures.early

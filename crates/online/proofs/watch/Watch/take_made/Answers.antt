@@ -1,4 +1,6 @@
-use Rattle.std.proofs.Common.{◌++◌, ◌∷◌, [], refl}
+use Rattle.std.proofs.Common.{◌++◌, ◌∷◌, [], refl, subst}
+use Rattle.online.specs.Lists.{TakesLists}
+use Rattle.online.proofs.WatchEarly.{early_refused}
 use Rattle.online.proofs.WatchMissed.{watch_refused}
 use Rattle.online.proofs.WatchSteps.{watch_more}
 use Rattle.online.proofs.watch.Watch.take_made.Goals as goal
@@ -6,6 +8,9 @@ use Rattle.online.proofs.watch.Watch.take_made.Goals as goal
 pub returns-clause-passed : goal.returns-clause-passed
 returns-clause-passed c passed rs kept =
     let r = c.args.«record».now in
+    let takes :
+    TakesLists c.args.self.now.lists c.take-7.new.self r c.parent-parent.result c.count-place.result =
+    record { noted = c.in_ok-take-7.ensures.noted; dropped = c.in_ok-take-7.ensures.dropped } in
     c.forget.ensures (rs ++ r ∷ []) (watch_more rs c.args.self.now (record {
       replay = c.take.new.self;
       regions = c.take-2.new.self;
@@ -13,6 +18,7 @@ returns-clause-passed c passed rs kept =
       lengths = c.take-4.new.self;
       waits = c.take-5.new.self;
       items = c.take-6.new.self;
+      lists = c.take-7.new.self;
       outside = c.stays_outside-outside.result;
     }) r c.parent-parent.result kept (record {
       followed = record {
@@ -32,6 +38,9 @@ returns-clause-passed c passed rs kept =
         listed = c.in_ok-take-6.ensures.listed c.if-not-branch-6.false before may_be items;
         complete = c.in_ok-take-6.ensures.complete c.if-not-branch-6.false before may_be items;
       };
+      lists =
+          subst (TakesLists c.args.self.now.lists c.take-7.new.self r c.parent-parent.result)
+          c.count-place.ensures takes;
       outside = c.stays_outside-outside.ensures;
     }))
 
@@ -45,6 +54,7 @@ returns-then-not-branch-5-clause-refused c waits rs kept ends =
       lengths = c.take-4.new.self;
       waits = c.take-5.new.self;
       items = c.args.self.now.items;
+      lists = c.args.self.now.lists;
       outside = c.args.self.now.outside;
     }) r kept (record {
       followed = record {
@@ -56,3 +66,23 @@ returns-then-not-branch-5-clause-refused c waits rs kept ends =
       same = c.in_ok-take-5.ensures.refused c.if-not-branch-5.true ends;
       outside = refl;
     })
+
+pub returns-then-not-branch-6-clause-early : goal.returns-then-not-branch-6-clause-early
+returns-then-not-branch-6-clause-early c early rs kept =
+    let r = c.args.«record».now in
+    early_refused rs c.args.self.now (record {
+      replay = c.take.new.self;
+      regions = c.take-2.new.self;
+      rosters = c.take-3.new.self;
+      lengths = c.take-4.new.self;
+      waits = c.take-5.new.self;
+      items = c.take-6.new.self;
+      lists = c.args.self.now.lists;
+      outside = c.args.self.now.outside;
+    }) r kept (record {
+      nests = c.in_ok-take.ensures.kind c.if-not-branch.false;
+      replay = c.in_ok-take.ensures.made c.if-not-branch.false;
+      regions = λ before. c.in_ok-take-2.ensures c.if-not-branch-2.false before r refl;
+      lengths = c.in_ok-take-4.ensures c.if-not-branch-4.false;
+    })
+    refl
