@@ -1,6 +1,6 @@
 -- What a watch claims of a file whose records it has taken, and of one of which it has refused a record.
-use Rattle.std.proofs.Common.{◌≡◌, ◌∙◌, ◌⊎◌, ◌+◌, ℕ, List, Option, Some, length, take, refl, sym, ap, subst}
-use Rattle.std.proofs.Common.{Result, Ok, Err, OnOk, IfOk, IfErr}
+use Rattle.std.proofs.Common.{◌≡◌, ◌∙◌, ◌+◌, ℕ, List, Option, Some, length, take, refl, sym, ap, subst}
+use Rattle.std.proofs.Common.{None, Result, Ok, Err, OnOk, IfOk, IfErr}
 use Rattle.std.specs.Io.KnownBytes.{Appends}
 use Rattle.ompt_events.specs.declared.records.Record.{Record}
 use Rattle.ompt_events.specs.declared.cause.Cause.{Cause}
@@ -8,28 +8,29 @@ use Rattle.ompt_events.specs.Causes.{HasCause}
 use Rattle.ompt_events.specs.Completion.{IsCompleteAt}
 use Rattle.ompt_events.specs.Linearization.{IsLinearization, IsGreedy}
 use Rattle.ompt_events.specs.Places.{places}
-use Rattle.ompt_events.specs.Traces.{TraceView}
 use Rattle.ompt_events.specs.Violations.{IsRequired}
 use Rattle.ompt_events.proofs.ListLemmas.{get_last}
 use Rattle.certificate.specs.Keeping.{and_record}
 use Rattle.certificate.specs.Taking.{FirstLinesSay}
 use Rattle.certificate.specs.declared.faults.WriteFault.TheVariants as write
-use Rattle.checker.specs.declared.verdict.Verdict.{Verdict}
+use Rattle.checker.specs.Verdicts.{IsVerdict}
 use Rattle.checker.specs.declared.verdict.Verdict.TheVariants as verdict
 use Rattle.checker.proofs.EndYesLemmas.{yes_but_for_ends}
+use Rattle.online.specs.declared.watch.Test.{Test}
+use Rattle.online.specs.declared.watch.Test.TheVariants.{Calls, Regions, Teams, Lengths, Waits, Predecessors}
+use Rattle.online.specs.declared.watch.Test.TheVariants.{End}
 use Rattle.online.specs.declared.watch.Watch.{Watch}
-use Rattle.online.specs.Watches.{IsWatchOf}
+use Rattle.online.specs.Watches.{HasRefused, HasRefusedStart, IsWatchOf}
 use Rattle.taskaudit.specs.declared.watching.Missed.{Missed}
 use Rattle.taskaudit.specs.declared.watching.Watching.{Watching}
 use Rattle.taskaudit.specs.declared.work.AuditFault.{AuditFault}
 use Rattle.taskaudit.specs.declared.work.AuditFault.TheVariants.{Read, Write, Check, Call, Upgrade}
 use Rattle.taskaudit.specs.declared.work.AuditFault.TheVariants.{Undecided, Memory}
 use Rattle.taskaudit.specs.declared.work.Outcome.{Outcome}
-use Rattle.taskaudit.specs.declared.work.Outcome.TheVariants.{Yes}
-use Rattle.taskaudit.specs.declared.work.Printed.TheVariants.{Report}
-use Rattle.taskaudit.specs.Audits.{BreaksOff, IsJudged, IsWriteFault, Prints}
-use Rattle.taskaudit.specs.Reports.{AreCounts, yes_text, no_text, place_text, record_place}
-use Rattle.taskaudit.specs.Watchings.{IsTaken, IsRefused, IsNoOf, Watches, BreaksOffNo, LeavesWatch}
+use Rattle.taskaudit.specs.Audits.{IsWriteFault}
+use Rattle.taskaudit.specs.Reports.{AreCounts, yes_text, place_text, record_place}
+use Rattle.taskaudit.specs.Watchings.{IsWholeTaken, StopsAt, IsYesOf, IsNoOf, BreaksOffWatch, LeavesWatch}
+use Rattle.taskaudit.specs.Watchings.{HasFailed, early_text}
 use Rattle.taskaudit.proofs.HeadlineLemmas.{synchronised}
 
 -- the records so far may be all
@@ -43,58 +44,45 @@ pub record MayEnd (w : Watch) : Type 0 where
 abbrev pub TellsYes : Watching → List ℕ → Type 0
 TellsYes w text = (rs : List Record) → length rs ≡ w.count → AreCounts rs w.counts → text ≡ yes_text rs
 
--- a yes, with the order of the file
-abbrev yes_on : TraceView → Verdict
-yes_on trace = verdict.Yes (places trace.records)
-
-module _ (bytes : Option (List ℕ)) (w : Watching) (ends : MayEnd w.watch) (all : IsTaken bytes w) where
-  judged_yes : IsJudged bytes all.trace (yes_on all.trace)
-  judged_yes =
+module _ (bytes : Option (List ℕ)) (w : Watching) (ends : MayEnd w.watch) (all : IsWholeTaken bytes w) where
+  verdict_yes : IsVerdict all.trace.records (verdict.Yes (places all.trace.records))
+  verdict_yes =
       let (rs, alike, kept) = all.taken.watched in
-      record {
-        file = all.file;
-        right =
-            yes_but_for_ends all.trace.version all.trace.records rs all.is_trace alike (ends.clear rs kept)
-            (ends.complete rs kept) (ends.order rs kept).0;
-      }
+      yes_but_for_ends all.trace.version all.trace.records rs all.records.known all.records.fit alike
+      (ends.clear rs kept) (ends.complete rs kept) (ends.order rs kept).0
 
-  prints_yes : (text : List ℕ) → TellsYes w text → Prints Report all.trace (yes_on all.trace) text
-  prints_yes text tells = tells all.trace.records (sym all.taken.count) all.taken.counts
-
-  pub watches_yes : (old new : Option (List ℕ)) (text : List ℕ) → TellsYes w text → Appends old new text
-      → Watches bytes old new Yes
-  watches_yes old new text tells written = record {
+  pub yes_of : (text : List ℕ) → TellsYes w text → IsYesOf bytes text
+  yes_of text tells = record {
     trace = all.trace;
-    verdict = yes_on all.trace;
-    judged = judged_yes;
-    text = text;
-    printed = prints_yes text tells;
-    written = written;
-    kind = refl;
-    kept = λ yes. synchronised all.trace.records (yes_on all.trace) judged_yes.right refl;
-  }
-
-  pub yes_breaks_off : (old new : Option (List ℕ)) (text : List ℕ) → TellsYes w text → (count : ℕ)
-      → Appends old new (take count text) → BreaksOff (Prints Report) bytes old new
-  yes_breaks_off old new text tells count part = record {
-    trace = all.trace;
-    verdict = yes_on all.trace;
-    judged = judged_yes;
-    text = text;
-    printed = prints_yes text tells;
-    count = count;
-    written = part;
+    records = all.records;
+    file = all.file;
+    right = verdict_yes;
+    kept = synchronised all.trace.records (verdict.Yes (places all.trace.records)) verdict_yes refl;
+    report = tells all.trace.records (sym all.taken.count) all.taken.counts;
   }
 
 -- ---- a record that was refused
+
+-- what is kept there, by what a watch says of its two tests
+pub has_failed : (failed : Option Test) (rs : List Record) (r : Record) (w : Watch)
+    → (failed ≡ Some Waits → HasRefused rs r w) → (failed ≡ Some Predecessors → HasRefusedStart rs r w)
+    → HasFailed failed rs r w
+has_failed None rs r w waits starts = tt
+has_failed (Some Calls) rs r w waits starts = tt
+has_failed (Some Regions) rs r w waits starts = tt
+has_failed (Some Teams) rs r w waits starts = tt
+has_failed (Some Lengths) rs r w waits starts = tt
+has_failed (Some Waits) rs r w waits starts = waits refl
+has_failed (Some Predecessors) rs r w waits starts = starts refl
+has_failed (Some End) rs r w waits starts = tt
 
 -- the text tells that the task is missed at a record that stands there
 abbrev pub TellsNo : ℕ → Missed → List ℕ → Type 0
 TellsNo line m text =
     (rs : List Record) (i : ℕ) → place_text line m.thread m.seq ≡ record_place rs i
-    → text ≡ no_text rs i m.task
+    → text ≡ early_text m.dependent rs i m.task
 
-module _ (bytes : Option (List ℕ)) (line : ℕ) (w : Watching) (m : Missed) (refused : IsRefused bytes line w)
+module _ (bytes : Option (List ℕ)) (line : ℕ) (w : Watching) (m : Missed) (refused : StopsAt bytes line w)
     (known : w.missed ≡ Some m) where
   -- the record on the line stands there
   place_of : place_text line m.thread m.seq
@@ -116,9 +104,10 @@ module _ (bytes : Option (List ℕ)) (line : ℕ) (w : Watching) (m : Missed) (r
       record {
         before = u.before;
         event = u.event;
+        dependent = m.dependent;
         task = m.task;
         lines = subst P u.line u.lines;
-        is_trace = u.is_trace;
+        records = u.records;
         missed = (u.refused m known).task;
         report = tells (and_record u.before u.event).records (length u.before.records) place_of;
       }
@@ -139,8 +128,7 @@ unless P Q (Err f) left gives = gives f left
 
 -- where the text breaks off
 pub broken : (bytes old new : Option (List ℕ)) (text : List ℕ)
-    → ((count : ℕ) → Appends old new (take count text)
-    → BreaksOff (Prints Report) bytes old new ⊎ BreaksOffNo bytes old new)
+    → ((count : ℕ) → Appends old new (take count text) → BreaksOffWatch bytes old new)
     → (f : AuditFault) → IsWriteFault (λ n. Appends old new (take n text)) f → LeavesWatch bytes old new f
 broken bytes old new text off (Write write.Device) h = off h.0 h.1
 broken bytes old new text off (Write write.Memory) h = absurd h

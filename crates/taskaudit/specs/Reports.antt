@@ -75,12 +75,15 @@ no_text rs i task =
 abbrev pub dependent_at : List Record → ℕ → ℕ
 dependent_at rs i = unwrap_or (option_or (at started rs i) (at wait_completed rs i)) 0
 
--- the predecessor is unfinished there
-abbrev pub late_text : List Record → ℕ → ℕ → List ℕ
-late_text rs i predecessor =
+-- the predecessor is unfinished there, which the dependent task must wait for
+abbrev pub precedes_text : List Record → ℕ → ℕ → ℕ → List ℕ
+precedes_text rs i predecessor dependent =
     codes "no: " ++ (record_place rs i
     ++ (codes ": task " ++ (decimal predecessor
-    ++ (codes " must precede task " ++ (decimal (dependent_at rs i) ++ codes "\n")))))
+    ++ (codes " must precede task " ++ (decimal dependent ++ codes "\n")))))
+
+abbrev pub late_text : List Record → ℕ → ℕ → List ℕ
+late_text rs i predecessor = precedes_text rs i predecessor (dependent_at rs i)
 
 -- the record at the place i has the cause
 abbrev pub malformed_text : List Record → ℕ → Cause → List ℕ

@@ -5,7 +5,7 @@ ghost use Rattle.ompt_events.specs.Places.{at as says_at};
 ghost use Rattle.ompt_events.specs.Records.{started, wait_completed};
 ghost use Rattle.clap.specs.Words.{kind_of};
 ghost use Rattle.taskaudit.specs.FileFaults.{file_fault_text_of};
-ghost use Rattle.taskaudit.specs.Reports.{AreCounts, report_of, fault_text_of, yes_text, no_text, late_text, dependent_at, malformed_text, place_text, record_place};
+ghost use Rattle.taskaudit.specs.Reports.{AreCounts, report_of, fault_text_of, yes_text, no_text, late_text, precedes_text, dependent_at, malformed_text, place_text, record_place};
 ghost use Rattle.taskaudit.specs.Statuses.{fault_status_of, usage_status_of};
 
 use crate::work::{AuditFault, FileFault};
@@ -188,8 +188,22 @@ fn late_text(
 ) -> Result<String, AllocError>
     ensures { IfOk result (λ text. string_bytes text ≡ late_text trace.now.records at predecessor) }
 {
-    let place = Place::of(trace, at);
     let task = dependent_at(trace, at);
+    late_line(alloc, Place::of(trace, at), predecessor, task)
+}
+
+/// Returns the report of a no: the predecessor should have been finished at the record that stands there, where the
+/// task starts, or is a taskwait that is complete.
+pub(crate) fn late_line(
+    alloc: Global,
+    place: Place,
+    predecessor: u64,
+    task: u64,
+) -> Result<String, AllocError>
+    ensures { IfOk result (λ text. (rs : List Record) (i : ℕ)
+        → place_text place.line place.thread place.seq ≡ record_place rs i
+        → string_bytes text ≡ precedes_text rs i predecessor task) }
+{
     format!(in alloc; "no: {place}: task {predecessor} must precede task {task}\n")
 }
 

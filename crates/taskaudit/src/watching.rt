@@ -1,21 +1,25 @@
 //! The audit of a file record by record, in the memory of what is alive.
-ghost use Rattle.std.specs.Prelude.{◌≡◌, ◌≢◌, ◌≤◌, ℕ, List, Option, ◌++◌, ◌∷◌, [], IfOk, IfErr, IfSome, Err, None, true, IsTrue, length};
+ghost use Rattle.std.specs.Prelude.{◌≡◌, ◌≢◌, ◌≤◌, ℕ, List, Option, ◌++◌, ◌∷◌, [], IfOk, IfErr, IfSome, Err, None, true, IsTrue, length, string_bytes};
 ghost use Rattle.std.specs.Result.{result_map_both};
-ghost use Rattle.ompt_events.specs.Limits.{max_records};
+ghost use Rattle.online.specs.Watches.{HasRefused, HasRefusedStart};
 ghost use Rattle.certificate.specs.Counts.{breaks_written};
-ghost use Rattle.online.specs.Watches.{HasRefused};
-ghost use Rattle.taskaudit.specs.Audits.{IsReadRightly};
+ghost use Rattle.certificate.specs.Limits.{max_numbered};
 ghost use Rattle.taskaudit.specs.Devices.{TellsDevices, AsksForTurns, read_cause_of, written_of};
-ghost use Rattle.taskaudit.specs.Watchings.{CountsOne, IsTaken, IsWatching, LeavesWatch, Watches};
-ghost use Rattle.taskaudit.specs.Watchings.{IsMissedBy, IsMissedHere, IsRefused};
+ghost use Rattle.taskaudit.specs.Watchings.{CountsOne, IsWatching, IsWholeTaken, LeavesWatch, Watches};
+ghost use Rattle.taskaudit.specs.Watchings.{HasFailed, IsLongReadRightly, IsMissedBy, IsMissedHere, StopsAt};
+ghost use Rattle.taskaudit.specs.Watchings.{early_text};
+ghost use Rattle.taskaudit.specs.Reports.{place_text, record_place};
 
 use crate::auditing::tell;
-use crate::report::{Counts, Place, no_line, yes_line};
+use crate::report::{Counts, Place, late_line, no_line, yes_line};
 use crate::work::{AuditFault, Outcome};
 use certificate::{Sink, Source, Taken, Taker, WriteFault, read_each};
 use ompt_events::Record;
 use online::{Test, Watch};
 use std::alloc::{AllocError, Global};
+
+/// No more records are counted: there are no numbers for more lines.
+const MOST: usize = u32::MAX as usize - 2;
 
 /// What is kept of the records so far.
 #[derive(Drop)]
@@ -36,12 +40,15 @@ struct Missed {
     thread: u8,
     seq: u32,
     task: u64,
+    /// The task that starts there, or the taskwait that is complete there, if it must wait for that one.
+    dependent: Option<u64>,
 }
 
 /// Reads a trace file record by record, to its end or to the first record that fails a test of [`Watch`], and
-/// writes the report of a yes; or of a no, where that record ends a taskwait, taskgroup or barrier, and a task is
-/// known that this waits for and that no record so far completes. Keeps no record. Where a record, or the end of
-/// the file, fails a test otherwise there is no verdict: then [`audit`](crate::auditing::audit) has one.
+/// writes the report of a yes; or of a no, where that record ends a taskwait, taskgroup or barrier, starts a task, or
+/// completes a taskwait with dependences, and a task is known that this waits for and that no record so far
+/// completes. Keeps no record, and takes up to 2^32 - 3. Where a record, or the end of the file, fails a test
+/// otherwise there is no verdict: then [`audit`](crate::auditing::audit) has one, if it takes the file.
 pub fn watch<I: Source, O: Sink>(
     alloc: Global,
     source: &mut I,
@@ -51,7 +58,7 @@ pub fn watch<I: Source, O: Sink>(
         (Watches (I.remaining source.old) (O.contents sink.old) (O.contents sink.new)) }
     ensures leaves { IfErr result
         (LeavesWatch (I.remaining source.old) (O.contents sink.old) (O.contents sink.new)) }
-    ensures unreadable { IfErr result (IsReadRightly (I.remaining source.old) (I.remaining source.new)) }
+    ensures unreadable { IfErr result (IsLongReadRightly (I.remaining source.old) (I.remaining source.new)) }
 
     // A fault of the source or of the sink is told exactly where it occurs.
     ensures devices { TellsDevices result
@@ -91,20 +98,32 @@ impl Watching {
         ensures counted { IsTrue result → CountsOne self.old self.new event.now }
         ensures missed { self.new.missed ≡ self.old.missed }
     {
-        let Some(count) = self.count.checked_add(1) else {
+        if self.count >= MOST {
             return false;
-        };
+        }
         let Some(counts) = self.counts.with(event) else {
             return false;
         };
-        self.count = count;
+        self.count += 1;
         self.counts = counts;
         true
     }
 
     /// Returns the task that is missed at the record, where one is found and the record has just failed the test of
-    /// waits. Fails only when out of memory.
+    /// waits or that of predecessors. Fails only when out of memory.
     fn find_missed(&mut self, event: &Record) -> Result<Option<Missed>, AllocError>
+        ensures { IfOk result (λ found. IfSome found (λ m. (rs : List Record)
+            → HasFailed self.old.failed rs event.now self.old.watch → IsMissedHere rs event.now m)) }
+    {
+        match self.failed {
+            Some(Test::Waits) => self.find_waited_for(event),
+            Some(Test::Predecessors) => Ok(self.find_predecessor(event)),
+            _ => Ok(None),
+        }
+    }
+
+    /// Returns the task that is missed at the end of a region. Fails only when out of memory.
+    fn find_waited_for(&mut self, event: &Record) -> Result<Option<Missed>, AllocError>
         ensures { IfOk result (λ found. IfSome found (λ m. (rs : List Record) → HasRefused rs event.now self.old.watch
             → IsMissedHere rs event.now m)) }
     {
@@ -115,18 +134,33 @@ impl Watching {
             thread: event.thread,
             seq: event.seq,
             task,
+            dependent: None,
         }))
+    }
+
+    /// Returns the predecessor that is missed where a task starts, or a taskwait is complete.
+    fn find_predecessor(&self, event: &Record) -> Option<Missed>
+        ensures { IfSome result (λ m. (rs : List Record) → HasRefusedStart rs event.now self.now.watch
+            → IsMissedHere rs event.now m) }
+    {
+        let found = self.watch.missed_predecessor(event)?;
+        Some(Missed {
+            thread: event.thread,
+            seq: event.seq,
+            task: found.predecessor,
+            dependent: Some(found.dependent),
+        })
     }
 
     /// Writes the report of a no, where a task is missed at the record on this line, which was not taken. Else there
     /// is no verdict.
     fn refuse<O: Sink>(&self, line: u32, sink: &mut O) -> Result<Outcome, AuditFault>
-        ensures reports { IfOk result (λ outcome. (bytes : Option (List ℕ)) → IsRefused bytes line self.now
+        ensures reports { IfOk result (λ outcome. (bytes : Option (List ℕ)) → StopsAt bytes line self.now
             → Watches bytes (O.contents sink.old) (O.contents sink.new) outcome) }
-        ensures leaves { IfErr result (λ fault. (bytes : Option (List ℕ)) → IsRefused bytes line self.now
+        ensures leaves { IfErr result (λ fault. (bytes : Option (List ℕ)) → StopsAt bytes line self.now
             → LeavesWatch bytes (O.contents sink.old) (O.contents sink.new) fault) }
         ensures unread { read_cause_of result ≡ None }
-        ensures rightly { (bytes left : Option (List ℕ)) → IfErr result (IsReadRightly bytes left) }
+        ensures rightly { (bytes left : Option (List ℕ)) → IfErr result (IsLongReadRightly bytes left) }
         ensures breaks { O.breaks sink.new ≡ breaks_written (written_of result) (O.breaks sink.old) }
         ensures turns { AsksForTurns result (O.stalls sink.old) (O.stalls sink.new) }
         ensures memory { result ≢ Err (AuditFault.Write WriteFault.Memory) }
@@ -138,7 +172,7 @@ impl Watching {
             });
         };
         let place = Place::on(line, missed.thread, missed.seq);
-        let Ok(text) = no_line(self.alloc, place, missed.task) else {
+        let Ok(text) = early_line(self.alloc, place, missed.dependent, missed.task) else {
             return Err(AuditFault::Memory);
         };
         tell(Outcome::No, text.as_bytes(), sink)
@@ -146,13 +180,13 @@ impl Watching {
 
     /// Writes the report of a yes, where the records so far may be all.
     fn conclude<O: Sink>(&self, sink: &mut O) -> Result<Outcome, AuditFault>
-        requires { self.now.count ≤ max_records }
-        ensures reports { IfOk result (λ outcome. (bytes : Option (List ℕ)) → IsTaken bytes self.now
+        requires { self.now.count ≤ max_numbered }
+        ensures reports { IfOk result (λ outcome. (bytes : Option (List ℕ)) → IsWholeTaken bytes self.now
             → Watches bytes (O.contents sink.old) (O.contents sink.new) outcome) }
-        ensures leaves { IfErr result (λ fault. (bytes : Option (List ℕ)) → IsTaken bytes self.now
+        ensures leaves { IfErr result (λ fault. (bytes : Option (List ℕ)) → IsWholeTaken bytes self.now
             → LeavesWatch bytes (O.contents sink.old) (O.contents sink.new) fault) }
         ensures unread { read_cause_of result ≡ None }
-        ensures rightly { (bytes left : Option (List ℕ)) → IfErr result (IsReadRightly bytes left) }
+        ensures rightly { (bytes left : Option (List ℕ)) → IfErr result (IsLongReadRightly bytes left) }
         ensures breaks { O.breaks sink.new ≡ breaks_written (written_of result) (O.breaks sink.old) }
         ensures turns { AsksForTurns result (O.stalls sink.old) (O.stalls sink.new) }
         ensures memory { result ≢ Err (AuditFault.Write WriteFault.Memory) }
@@ -185,10 +219,27 @@ impl Taker for Watching {
 
     fn take(&mut self, event: &Record) -> Result<bool, AllocError> {
         self.failed = self.watch.take(event)?;
-        if let Some(Test::Waits) = self.failed {
+        if self.failed.is_some() {
             self.missed = self.find_missed(event)?;
             return Ok(false);
         }
-        Ok(self.failed.is_none() && self.count_one(event))
+        Ok(self.count_one(event))
+    }
+}
+
+/// Returns the report of a no: the task is unfinished at the record that stands there, or must precede this one.
+fn early_line(
+    alloc: Global,
+    place: Place,
+    dependent: Option<u64>,
+    task: u64,
+) -> Result<String, AllocError>
+    ensures { IfOk result (λ text. (rs : List Record) (i : ℕ)
+        → place_text place.line place.thread place.seq ≡ record_place rs i
+        → string_bytes text ≡ early_text dependent rs i task) }
+{
+    match dependent {
+        Some(dependent) => late_line(alloc, place, task, dependent),
+        None => no_line(alloc, place, task),
     }
 }

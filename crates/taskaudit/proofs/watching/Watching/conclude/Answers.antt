@@ -4,7 +4,7 @@ use Rattle.std.specs.Io.KnownBytes.{Appends, Keeps}
 use Rattle.taskaudit.specs.declared.work.Outcome.TheVariants.{Yes}
 use Rattle.taskaudit.specs.Audits.{IsWriteFault}
 use Rattle.taskaudit.specs.Watchings.{at_the_end}
-use Rattle.taskaudit.proofs.WatchingLemmas.{watches_yes, yes_breaks_off, told, unless, broken}
+use Rattle.taskaudit.proofs.WatchingLemmas.{yes_of, told, unless, broken}
 use Rattle.taskaudit.proofs.watching.Watching.conclude.Goals as goal
 
 pub returns-then-not-may_end-clause-leaves : goal.returns-then-not-may_end-clause-leaves
@@ -19,14 +19,17 @@ returns-clause-reports g c =
     let new = g.O.Sink.contents c.tell.new.sink in
     let P : List ℕ → Type 0 = λ text. OnOk c.tell.result (Appends old new text) in
     told _ Yes c.tell.result c.tell.ensures.kind (subst P c.as_bytes.ensures.value c.tell.ensures.written)
-    (λ written bytes all.
-    watches_yes bytes c.args.self.now
-    (record {
-      clear = c.may_end.ensures.clear c.if-not-may_end.false;
-      complete = c.may_end.ensures.complete c.if-not-may_end.false;
-      order = c.may_end.ensures.order c.if-not-may_end.false;
-    })
-    all old new (string_bytes c.in-Ok.text) c.in-Ok.ensures written)
+    (λ written bytes all. (
+      string_bytes c.in-Ok.text,
+      yes_of bytes c.args.self.now
+          (record {
+            clear = c.may_end.ensures.clear c.if-not-may_end.false;
+            complete = c.may_end.ensures.complete c.if-not-may_end.false;
+            order = c.may_end.ensures.order c.if-not-may_end.false;
+          })
+          all (string_bytes c.in-Ok.text) c.in-Ok.ensures,
+      written,
+    ))
 
 pub returns-clause-leaves : goal.returns-clause-leaves
 returns-clause-leaves g c =
@@ -37,13 +40,17 @@ returns-clause-leaves g c =
     unless _ _ c.tell.result (subst P c.as_bytes.ensures.value c.tell.ensures.part)
     (λ f part bytes all.
     broken bytes old new (string_bytes c.in-Ok.text)
-    (λ count written.
-    inl
-    (yes_breaks_off bytes c.args.self.now
-    (record {
-      clear = c.may_end.ensures.clear c.if-not-may_end.false;
-      complete = c.may_end.ensures.complete c.if-not-may_end.false;
-      order = c.may_end.ensures.order c.if-not-may_end.false;
-    })
-    all old new (string_bytes c.in-Ok.text) c.in-Ok.ensures count written))
+    (λ count written. (
+      string_bytes c.in-Ok.text,
+      inl
+          (yes_of bytes c.args.self.now
+          (record {
+            clear = c.may_end.ensures.clear c.if-not-may_end.false;
+            complete = c.may_end.ensures.complete c.if-not-may_end.false;
+            order = c.may_end.ensures.order c.if-not-may_end.false;
+          })
+          all (string_bytes c.in-Ok.text) c.in-Ok.ensures),
+      count,
+      written,
+    ))
     f part)

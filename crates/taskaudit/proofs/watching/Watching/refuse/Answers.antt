@@ -30,11 +30,11 @@ returns-clause-leaves g c =
     unless _ _ c.tell.result (subst P c.as_bytes.ensures.value c.tell.ensures.part)
     (λ f part bytes refused.
     broken bytes old new (string_bytes c.in-Ok.text)
-    (λ count written.
-    inr (
+    (λ count written. (
       string_bytes c.in-Ok.text,
-      no_of bytes c.args.line c.args.self.now c.in-Some.missed refused known (string_bytes c.in-Ok.text)
-          (λ rs i at. c.in-Ok.ensures rs i (c.on-place.ensures ∙ at)),
+      inr
+          (no_of bytes c.args.line c.args.self.now c.in-Some.missed refused known (string_bytes c.in-Ok.text)
+          (λ rs i at. c.in-Ok.ensures rs i (c.on-place.ensures ∙ at))),
       count,
       written,
     ))
