@@ -3,7 +3,7 @@ import os
 from collections import Counter, namedtuple
 
 from outcomes import Outcome, counts_in_words
-from recording import ENDING, Recording
+from recording import ENDING, TAIL, Recording
 
 # The greatest number that a seed may be.
 GREATEST = 2**63 - 1
@@ -115,6 +115,6 @@ class Repetition:
 def remove(files):
     """Removes the files of a run, and what is beside those that were written while it ran."""
     for it in files:
-        for name in (it, it + ENDING):
+        for name in (it, it + ENDING, it + TAIL):
             if os.path.isfile(name):
                 os.remove(name)

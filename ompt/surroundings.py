@@ -57,7 +57,7 @@ class Place:
         with open(self.list, 'wb'):
             pass
         if is_watched:
-            self.told['TASKAUDIT_WATCH'] = os.path.join(self.folder.name.replace('%', '%%'), 'pipe.%p')
+            self.told['TASKAUDIT_WATCH'] = os.path.join(self.folder.name.replace('%', '%%'), 'pipe.%p.%r.jsonl')
         if runtime:
             os.symlink(os.path.abspath(runtime), os.path.join(self.folder.name, 'libgomp.so.1'))
             path = filter(None, [self.folder.name, os.environ.get('LD_LIBRARY_PATH')])

@@ -31,6 +31,9 @@ class Contents:
     but as a root; `made` and `regions` the first line that makes a task or begins a region. Of each creation there are the
     turn of the parent, the line, the parent and the child."""
 
+    # The line of the first record.
+    first = 2
+
     def __init__(self, path, tells_turns, progress):
         self.tells_turns, self.roles, self.lengths = tells_turns, bytearray(2), array('Q', [0, 0])
         self.threads, self.tasks = defaultdict(lambda: array('L')), defaultdict(list)
@@ -38,7 +41,7 @@ class Contents:
         takes = {'parallel_begin': self.take_fork, 'parallel_end': self.take_other, 'implicit_task': self.take_root,
                  'task_create': self.take_creation, 'dependences': self.take_list, 'cancel': self.take_cancel,
                  'task_schedule': self.take_schedule, 'sync_region': self.take_wait}
-        for number, it in enumerate(self.values(path, progress), 2):
+        for number, it in enumerate(self.values(path, progress), self.first):
             take = takes.get(it['cb'])
             self.roles.append(take(number, it) if take else 0)
             self.lengths.append(it['seen'])

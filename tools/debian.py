@@ -44,11 +44,11 @@ exec "${script%/*}/../lib/taskaudit/bin/taskaudit" "$@"
 # The scripts, by the names of the links to them in usr/bin.
 SCRIPTS = {'taskaudit-run': 'ompt/taskaudit-run', 'taskaudit-explain': 'tools/explain', 'taskaudit-audit': 'tools/audit'}
 # What the scripts import and read.
-NEEDED = ('ompt/outcomes.py', 'ompt/repeating.py', 'ompt/running.py', 'ompt/runs.py', 'ompt/surroundings.py',
-          'ompt/watching.py', 'tools/answers.py', 'tools/arrows.py', 'tools/checkers.py', 'tools/chosen.py',
-          'tools/contents.py', 'tools/explanations.py', 'tools/fields.py', 'tools/judging.py',
-          'tools/junit.py', 'tools/orders.py', 'tools/page.py', 'tools/progress.py', 'tools/recording.py',
-          'tools/sheet.py', 'tools/summary.py', 'tools/timeline.py', 'tools/traces.py', 'tools/walks.py',
+NEEDED = ('ompt/naming.py', 'ompt/outcomes.py', 'ompt/relaying.py', 'ompt/repeating.py', 'ompt/running.py',
+          'ompt/runs.py', 'ompt/surroundings.py', 'ompt/watching.py', 'tools/answers.py', 'tools/arrows.py',
+          'tools/checkers.py', 'tools/chosen.py', 'tools/contents.py', 'tools/explanations.py', 'tools/fields.py',
+          'tools/judging.py', 'tools/junit.py', 'tools/orders.py', 'tools/page.py', 'tools/progress.py', 'tools/recording.py',
+          'tools/sheet.py', 'tools/summary.py', 'tools/tails.py', 'tools/timeline.py', 'tools/traces.py', 'tools/walks.py',
           'tools/texts/version', 'tests/model.py', 'docs/trace.schema.json')
 LIBRARIES = ('libtaskaudit_ompt.so', 'libtaskaudit_beside.so', 'libtaskaudit_gomp.so')
 # The scripts have match statements.

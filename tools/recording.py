@@ -60,6 +60,8 @@ PARTIAL_OF_LIVE = {
 }
 # Behind the name of a live file is this in the name of the one that says how the process ended.
 ENDING = '.end'
+# Behind the name that a file has, or would have, is this in the name of a tail of what was watched.
+TAIL = '.tail'
 NOT_ENDED = ('it does not say how the process ended: that still runs, or it was killed, or left by _exit or exec;'
              ' {file} what was written until then')
 # Reasons that come with the end. Where the reader of a pipe left before, they say nothing of what was read.
