@@ -9,7 +9,7 @@ group of one type of dependence, not only for those that are in conflict with it
 import json
 from collections import defaultdict, namedtuple
 
-from model import BARRIERS, known_after, read
+from model import BARRIERS, conflict, known_after, read
 from online_model import Watch, families, incomplete, length_back, team_short
 from record_model import Thread, record_of, refusal
 from scripts import script
@@ -19,8 +19,10 @@ SCRIPTS = script('script_files')
 # Uses of a location by which tasks need not wait for each other, where both are of the same type.
 SHARED = ('in', 'inoutset', 'mutexinoutset')
 # Where `watch` ends without a yes: the line, the text of the test, and the record and the task that is missed there, if
-# one is told.
-Failure = namedtuple('Failure', 'line test record missed')
+# one is told, with the task that starts there or the taskwait that is complete there, if it must be preceded by that one.
+Failure = namedtuple('Failure', 'line test record missed dependent')
+# The list of dependences of a task, and its parent.
+Listed = namedtuple('Listed', 'parent deps')
 
 
 class Calls:
@@ -95,13 +97,15 @@ class Tests:
         # by team how many of its barriers have ended, and by parent the child whose dependences must follow
         self.over, self.awaited = defaultdict(int), {}
         self.begun, self.named = set(), set()
+        # by task its list, the one that came first first
+        self.lists = {}
         # whether no task has created a child inside a taskwait of its own; and the task that is missed where a region
         # has just ended
-        self.outside, self.missed = True, None
+        self.outside, self.missed, self.dependent = True, None, None
 
     def failed(self, i, line, record):
         """The name of the first test that the record fails, or None."""
-        self.missed = None
+        self.missed = self.dependent = None
         if not self.calls.make(line):
             return 'Calls'
         if not self.take_region_names(record):
@@ -119,7 +123,24 @@ class Tests:
         self.watch.take(i, record)
         if record.region and incomplete(self.required_by_region(i, record), record.seen):
             return 'Waits'
-        return None if self.may_go_on(record) else 'Predecessors'
+        if self.may_go_on(record):
+            return None
+        self.missed = self.missed_predecessor(record)
+        return 'Predecessors'
+
+    def missed_predecessor(self, record):
+        """Of the predecessors of the task that starts, or of the taskwait that is complete, the first one created that
+        no record so far completes, or None."""
+        starts = record.begun_turn and record.begun_turn[1] == 0
+        self.dependent = record.started if starts else record.wait_completed
+        own = self.lists.get(self.dependent)
+        for task, other in self.lists.items():
+            if task == self.dependent:
+                break
+            if (own and other.parent == own.parent and self.watch.tasks[task].fin() is None
+                    and any(conflict(a, b) for a in other.deps for b in own.deps)):
+                return task
+        return None
 
     def take_region_names(self, record):
         """Notes the regions that the record names. Returns whether one that it begins is new."""
@@ -165,7 +186,9 @@ class Tests:
         complete. Notes the dependences that the record lists."""
         if record.dependences:
             task, items = record.dependences
-            self.uses.list(self.awaited.pop(task), task, items)
+            parent = self.awaited.pop(task)
+            self.uses.list(parent, task, items)
+            self.lists[task] = Listed(parent, items)
         if record.created_with_deps is not None:
             self.awaited[record.created] = record.running
         starts = record.begun_turn and record.begun_turn[1] == 0
@@ -191,8 +214,9 @@ def failure(data):
     for i, (line, record) in enumerate(zip(lines, read(data))):
         failed = tests.failed(i, line, record)
         if failed:
-            return Failure(i + 2, said(failed), record, tests.missed if failed == 'Waits' else None)
-    return None if tests.may_end() else Failure(len(lines) + 2, said('End'), None, None)
+            is_told = failed in ('Waits', 'Predecessors')
+            return Failure(i + 2, said(failed), record, tests.missed if is_told else None, tests.dependent)
+    return None if tests.may_end() else Failure(len(lines) + 2, said('End'), None, None, None)
 
 
 def said(test):
@@ -207,4 +231,5 @@ def answer(data, report):
     if found.missed is None:
         return b'', f'undecided: line {found.line}: {found.test}\n'.encode(), 6
     place = f'line {found.line}, thread {found.record.thread}, seq {found.record.seq}'
-    return f'no: {place}: task {found.missed} unfinished\n'.encode(), b'', 1
+    how = 'unfinished' if found.dependent is None else f'must precede task {found.dependent}'
+    return f'no: {place}: task {found.missed} {how}\n'.encode(), b'', 1
