@@ -290,7 +290,7 @@ pub refused-late : (old : RecorderView) (log kept : LogView) (first id : TableId
       thread = log.thread;
       nests = log.nests;
       records = log.records;
-      room = max_records;
+      capacity = max_records;
       known = log.known;
       ledger = first;
       before = before;
@@ -302,7 +302,7 @@ pub refused-late : (old : RecorderView) (log kept : LogView) (first id : TableId
       thread = kept.thread;
       nests = kept.nests;
       records = kept.records;
-      room = max_records;
+      capacity = max_records;
       known = kept.known;
       ledger = id;
       before = before;
@@ -314,7 +314,7 @@ refused-late old log kept first id before v w entry seen fault is same same_id l
       thread = kept.thread;
       nests = kept.nests;
       records = kept.records;
-      room = max_records;
+      capacity = max_records;
       known = kept.known;
       ledger = id;
       before = before;

@@ -33,7 +33,7 @@ pub record RecorderView : Type 0 where
   pub thread : ℕ
   pub nests : Bool
   pub records : List Record
-  pub room : ℕ
+  pub capacity : ℕ
   pub known : ℕ
   pub ledger : TableId
   pub before : List Step
@@ -112,7 +112,7 @@ recorded r seen seat body = record {
     seen = seen;
     body = body;
   } ∷ [];
-  room = r.room;
+  capacity = r.capacity;
   known = known_from seen body;
   ledger = r.ledger;
   before = r.before;
@@ -155,7 +155,7 @@ pub data IsFinishRefused (old : RecorderView) (found : Option CallFault) (entry 
 -- ---- when a call fails
 
 abbrev pub is_log_full : RecorderView → Bool
-is_log_full r = nat_le r.room (length r.records)
+is_log_full r = nat_le r.capacity (length r.records)
 
 -- the thread's records show no reason against a record with this body
 abbrev pub allowed : RecorderView → Body → Bool

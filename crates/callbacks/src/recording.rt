@@ -48,7 +48,7 @@ impl Model for Recorder {
       thread = recorder.log.thread;
       nests = recorder.log.nests;
       records = recorder.log.records;
-      room = max_records;
+      capacity = max_records;
       known = recorder.log.known;
       ledger = seat_id recorder.seat;
       before = recorder.past.calls;
@@ -99,7 +99,7 @@ impl Recorder {
         ensures thread { result.thread ≡ thread }
         ensures nests { result.nests ≡ false }
         ensures records { result.records ≡ [] }
-        ensures room { result.room ≡ max_records }
+        ensures capacity { result.capacity ≡ max_records }
         ensures known { result.known ≡ 0 }
         ensures ledger { result.ledger ≡ seat_id seat }
         ensures before { result.before ≡ (view_of seat).own }
@@ -119,7 +119,7 @@ impl Recorder {
         ensures thread { result.thread ≡ thread }
         ensures nests { result.nests ≡ true }
         ensures records { result.records ≡ [] }
-        ensures room { result.room ≡ max_records }
+        ensures capacity { result.capacity ≡ max_records }
         ensures known { result.known ≡ 0 }
         ensures ledger { result.ledger ≡ seat_id seat }
         ensures before { result.before ≡ (view_of seat).own }
@@ -133,10 +133,10 @@ impl Recorder {
         }
     }
 
-    /// Returns the number of the thread. It may have 2^22 records.
+    /// Returns the number of the thread. As each recorder, this one has a capacity of 2^22 records.
     pub fn thread(&self) -> u8
         ensures value { result ≡ self.now.thread }
-        ensures room { self.now.room ≡ max_records }
+        ensures capacity { self.now.capacity ≡ max_records }
     {
         self.log.thread()
     }
@@ -199,7 +199,7 @@ impl Recorder {
         ensures thread { self.new.thread ≡ self.old.thread }
         ensures nests { self.new.nests ≡ self.old.nests }
         ensures records { self.new.records ≡ self.old.records }
-        ensures room { self.new.room ≡ self.old.room }
+        ensures capacity { self.new.capacity ≡ self.old.capacity }
         ensures ledger { self.new.ledger ≡ self.old.ledger }
         ensures before { self.new.before ≡ self.old.before }
         ensures looked { Extends (told_of self.old.seat note.seat) Look self.new.known self.new.seat }

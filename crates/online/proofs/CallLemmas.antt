@@ -38,21 +38,21 @@ use Rattle.scripts.specs.RunCalls.{first_given, second_given, recorded_body, cal
 use Rattle.online.specs.declared.calls.Place.{Place}
 use Rattle.online.specs.declared.tasks.Tasks.{Tasks}
 use Rattle.online.specs.Tasks.{value_of, IsChanged}
-use Rattle.online.specs.Replays.{call_of, call_on, replay_room, Makes, Takes, MayTake}
+use Rattle.online.specs.Replays.{call_of, call_on, max_replayed, Makes, Takes, MayTake}
 
 -- ---- a call is accepted
 
 pub accepted : (nests : Bool) (thread : ℕ) (own : List Record) (may deep full : Bool) (body : Body)
-    → may ≡ true → allows nests own body ≡ true → deep ≡ false → full ≡ false → length own < replay_room
-    → refusal_at (recorder_with replay_room nests thread own) may deep full body ≡ None
+    → may ≡ true → allows nests own body ≡ true → deep ≡ false → full ≡ false → length own < max_replayed
+    → refusal_at (recorder_with max_replayed nests thread own) may deep full body ≡ None
 unfolding refusal_at
 accepted nests thread own may deep full body may_is allowed deep_is full_is few =
-    rw (may_is, allowed, deep_is, full_is, lt-leb replay_room (length own) few) refl
+    rw (may_is, allowed, deep_is, full_is, lt-leb max_replayed (length own) few) refl
 
 -- the same where its tasks allow it
 allowed_here : (own : List Record) (place : Place) (may : Bool) (body : Body) → may ≡ true
     → MayTake own place body
-    → refusal_at (recorder_with replay_room place.state.now.nests place.number own) may false false body
+    → refusal_at (recorder_with max_replayed place.state.now.nests place.number own) may false false body
     ≡ None
 allowed_here own place may body may_is may_take =
     accepted place.state.now.nests place.number own may false false body may_is may_take.allowed refl refl
@@ -115,7 +115,7 @@ thread_takes own place tasks body of_thread may = elim of_thread [
 -- a call that is given one live task, and leaves it as it is
 one_task : (own : List Record) (place : Place) (tasks : Tasks) (task : ℕ) (t : TaskView) (body : Body)
     → value_of tasks task ≡ Some t
-    → call_refusal (recorder_with replay_room place.state.now.nests place.number own) body (Some t) None
+    → call_refusal (recorder_with max_replayed place.state.now.nests place.number own) body (Some t) None
     ≡ None
     → first_given (call_of body) ≡ Some task → second_given (call_of body) ≡ None → object body ≡ None
     → ((o : Option TaskView) → recorded_body (call_of body) o None ≡ body)
@@ -142,7 +142,7 @@ one_task own place tasks task t body is accepts first second object_is makes lef
 }
   where
     r : RecorderView
-    r = recorder_with replay_room place.state.now.nests place.number own
+    r = recorder_with max_replayed place.state.now.nests place.number own
 
     f : Values
     f = value_of tasks
@@ -218,7 +218,7 @@ pub end_takes : (own : List Record) (place : Place) (tasks later : Tasks) (t : T
 end_takes own place tasks later t parallel is home may changed = record {
   made = record {
     accepts =
-        ap (λ o. call_refusal (recorder_with replay_room place.state.now.nests place.number own)
+        ap (λ o. call_refusal (recorder_with max_replayed place.state.now.nests place.number own)
         (end_of_root t parallel)
         o None)
         is
@@ -257,7 +257,7 @@ create_takes own place tasks middle later deps given task child t is apart named
     }
   where
     r : RecorderView
-    r = recorder_with replay_room place.state.now.nests place.number own
+    r = recorder_with max_replayed place.state.now.nests place.number own
 
     body : Body
     body = TaskCreate deps given task child
@@ -297,7 +297,7 @@ pub region_begin_takes : (own : List Record) (place : Place) (tasks later : Task
 region_begin_takes own place tasks later kind parallel task t is free may changed = record {
   made = record {
     accepts =
-        ap (λ o. call_refusal (recorder_with replay_room place.state.now.nests place.number own)
+        ap (λ o. call_refusal (recorder_with max_replayed place.state.now.nests place.number own)
         (SyncRegion kind Begin parallel task) o None) is
         ∙ allowed_here own place (not (is_barred t kind)) (SyncRegion kind Begin parallel task) (ap not free)
         may;
@@ -317,7 +317,7 @@ pub region_end_takes : (own : List Record) (place : Place) (tasks later : Tasks)
 region_end_takes own place tasks later kind parallel task t is free innermost may changed = record {
   made = record {
     accepts =
-        ap (λ o. call_refusal (recorder_with replay_room place.state.now.nests place.number own)
+        ap (λ o. call_refusal (recorder_with max_replayed place.state.now.nests place.number own)
         (SyncRegion kind End parallel task) o None) is
         ∙ allowed_here own place (is_innermost_region t kind && not (is_barred t kind))
         (SyncRegion kind End parallel task) (rw (innermost, free) refl) may;
@@ -343,7 +343,7 @@ cancel_takes own place tasks given task t is named kept may =
     refl refl refl (λ o. made o) (λ id. rw kept refl) refl
   where
     r : RecorderView
-    r = recorder_with replay_room place.state.now.nests place.number own
+    r = recorder_with max_replayed place.state.now.nests place.number own
 
     made : (o : Option TaskView) → recorded_body (Cancel given task None) o None ≡ Cancel given task None
     made None = refl
@@ -377,7 +377,7 @@ discard_takes own place tasks later given t is named discards may_be may changed
 }
   where
     r : RecorderView
-    r = recorder_with replay_room place.state.now.nests place.number own
+    r = recorder_with max_replayed place.state.now.nests place.number own
 
     flags_same : with_discarded given ≡ given
     flags_same = ap (λ bits. record { 0 = bits })
@@ -388,7 +388,7 @@ discard_takes own place tasks later given t is named discards may_be may changed
 pub schedule_made : (own : List Record) (place : Place) (tasks : Tasks) (t : TaskView) (status : Status)
     (next : Option TaskView) → value_of tasks t.id ≡ Some t
     → value (value_of tasks) (option_map (λ (n : TaskView). n.id) next) ≡ next
-    → may_schedule (recorder_with replay_room place.state.now.nests place.number own)
+    → may_schedule (recorder_with max_replayed place.state.now.nests place.number own)
     (schedule_of t status next)
     ≡ true
     → is_last_turn (schedule_of t status next) ≡ false
@@ -408,7 +408,7 @@ schedule_made own place tasks t status next is next_is may_be more may = record 
 }
   where
     r : RecorderView
-    r = recorder_with replay_room place.state.now.nests place.number own
+    r = recorder_with max_replayed place.state.now.nests place.number own
 
     f : Values
     f = value_of tasks
@@ -423,7 +423,7 @@ schedule_made own place tasks t status next is next_is may_be more may = record 
 pub told_makes : (own : List Record) (place : Place) (tasks : Tasks) (s : ScheduleView) (t : TaskView)
     (status : Status) (turns : Option Turns) (prior : ℕ) (next : Option ℕ) (claimed : Option Claim)
     → value_of tasks prior ≡ Some t → s.prior ≡ t → value (value_of tasks) next ≡ s.next
-    → may_schedule (recorder_with replay_room place.state.now.nests place.number own) s ≡ true
+    → may_schedule (recorder_with max_replayed place.state.now.nests place.number own) s ≡ true
     → is_last_turn s ≡ false
     → schedule_body s (option_map (λ (_ : Part). t.claim) (status_part s.status))
     ≡ TaskSchedule status turns prior next claimed

@@ -7,7 +7,7 @@ use Rattle.ompt_events.specs.declared.records.Record.{Record}
 use Rattle.scripts.specs.Progress.{Values, progress, thread_records, without_seen}
 use Rattle.scripts.proofs.ValueSteps.{IsWhole}
 use Rattle.scripts.proofs.HandOverLemmas.{AreRecords}
-use Rattle.online.specs.Replays.{calls_of, script_of, replay_room, IsReplayed}
+use Rattle.online.specs.Replays.{calls_of, script_of, max_replayed, IsReplayed}
 
 pub without_first : (thread : ℕ) (rs : List Record)
     → map without_seen (thread_records rs thread) ≡ thread_records (map without_seen rs) thread
@@ -34,5 +34,5 @@ replayed_records nests rs values replayed thread =
     without_first thread rs
     ∙ ap (λ (l : List Record). thread_records l thread)
     (sym replayed.records
-    ∙ ap (λ steps. (progress replay_room nests steps).records)
+    ∙ ap (λ steps. (progress max_replayed nests steps).records)
     (sym (take_all (length (calls_of rs)) (calls_of rs) (omega arith))))

@@ -21,7 +21,7 @@ use Rattle.scripts.specs.RunCalls.{call_refusal}
 use Rattle.packed_trace.specs.Named.{subject, object}
 use Rattle.ompt_events.specs.States.{is_task}
 use Rattle.online.specs.Replays.{call_of, calls_of, and_call, IsReplayed, Makes, own_of, call_on}
-use Rattle.online.specs.Replays.{replay_room}
+use Rattle.online.specs.Replays.{max_replayed}
 
 -- ---- one call more
 
@@ -33,16 +33,17 @@ abbrev pub next_step : List Record → Record → Step
 next_step rs r = step_of (calls_of rs) r.thread None (call_of r.body)
 
 progress_more : (nests : Bool) (steps : List Step) (s : Step)
-    → progress replay_room nests (steps ++ s ∷ [])
-    ≡ progress_after replay_room nests (progress replay_room nests steps) s
-progress_more nests steps s = fold_push (progress_after replay_room nests) no_progress steps s
+    → progress max_replayed nests (steps ++ s ∷ [])
+    ≡ progress_after max_replayed nests (progress max_replayed nests steps) s
+progress_more nests steps s = fold_push (progress_after max_replayed nests) no_progress steps s
 
 -- a step that its recorder accepts
 progress_accepted : (nests : Bool) (steps : List Step) (s : Step)
-    → step_refusal replay_room nests (progress replay_room nests steps) s ≡ None
-    → progress replay_room nests (steps ++ s ∷ []) ≡ progress_with nests (progress replay_room nests steps) s
+    → step_refusal max_replayed nests (progress max_replayed nests steps) s ≡ None
+    → progress max_replayed nests (steps ++ s ∷ [])
+    ≡ progress_with nests (progress max_replayed nests steps) s
 progress_accepted nests steps s accepts =
-    let p = progress replay_room nests steps in
+    let p = progress max_replayed nests steps in
     progress_more nests steps s
     ∙ ap (λ (o : Option CallFault). cond (is_some o) p (progress_with nests p s)) accepts
 
@@ -69,9 +70,10 @@ rules_more steps s script line follows = record {
 
 -- no step is refused
 accepted_more : (nests : Bool) (steps : List Step) (s : Step)
-    → ((at : ℕ) → refused_at (record { nests = nests; room = replay_room; steps = steps }) at ≡ None)
-    → step_refusal replay_room nests (progress replay_room nests steps) s ≡ None
-    → (at : ℕ) → refused_at (record { nests = nests; room = replay_room; steps = steps ++ s ∷ [] }) at ≡ None
+    → ((at : ℕ) → refused_at (record { nests = nests; capacity = max_replayed; steps = steps }) at ≡ None)
+    → step_refusal max_replayed nests (progress max_replayed nests steps) s ≡ None
+    → (at : ℕ)
+    → refused_at (record { nests = nests; capacity = max_replayed; steps = steps ++ s ∷ [] }) at ≡ None
 accepted_more nests steps s accepted accepts at = of (slice_get (steps ++ s ∷ []) at) refl
   where
     after : List Step
@@ -79,22 +81,22 @@ accepted_more nests steps s accepted accepts at = of (slice_get (steps ++ s ∷ 
 
     of : (o : Option Step) → slice_get after at ≡ o
         → option_and_then
-        (λ (x : Step). step_refusal replay_room nests (progress replay_room nests (take at after)) x)
+        (λ (x : Step). step_refusal max_replayed nests (progress max_replayed nests (take at after)) x)
         o
         ≡ None
     of None is = refl
     of (Some x) is = elim (pushed_cases steps s x at is) [
       | inl old ↦
-          ap (λ (before : List Step). step_refusal replay_room nests (progress replay_room nests before) x)
+          ap (λ (before : List Step). step_refusal max_replayed nests (progress max_replayed nests before) x)
           (take-append-le at steps (s ∷ []) (let w = slice_get_within steps at x old in omega (arith, w)))
           ∙ sym (ap (option_and_then
-          (λ (y : Step). step_refusal replay_room nests (progress replay_room nests (take at steps)) y))
+          (λ (y : Step). step_refusal max_replayed nests (progress max_replayed nests (take at steps)) y))
           old)
           ∙ accepted at
       | inr (last, same) ↦
-          ap (λ (before : List Step). step_refusal replay_room nests (progress replay_room nests before) x)
+          ap (λ (before : List Step). step_refusal max_replayed nests (progress max_replayed nests before) x)
           (take_at steps (s ∷ []) at (sym last))
-          ∙ ap (step_refusal replay_room nests (progress replay_room nests steps)) (sym same) ∙ accepts
+          ∙ ap (step_refusal max_replayed nests (progress max_replayed nests steps)) (sym same) ∙ accepts
     ]
 
 -- ---- a record more
@@ -139,7 +141,7 @@ replayed_more nests rs values later r before kind seq follows makes left = recor
   accepted =
       subst
       (λ (l : List Step). (at : ℕ)
-      → refused_at (record { nests = nests; room = replay_room; steps = l }) at ≡ None)
+      → refused_at (record { nests = nests; capacity = max_replayed; steps = l }) at ≡ None)
       (sym more)
       (accepted_more nests steps s before.accepted accepts);
   records =
@@ -159,7 +161,7 @@ replayed_more nests rs values later r before kind seq follows makes left = recor
     s = next_step rs r
 
     p : Progress
-    p = progress replay_room nests steps
+    p = progress max_replayed nests steps
 
     more : calls_of (rs ++ r ∷ []) ≡ steps ++ s ∷ []
     more = calls_more rs r
@@ -170,19 +172,19 @@ replayed_more nests rs values later r before kind seq follows makes left = recor
     second_same : value values (second_given s.body) ≡ value p.values (second_given s.body)
     second_same = value_same values p.values before.values_are (second_given s.body)
 
-    accepts : step_refusal replay_room nests p s ≡ None
+    accepts : step_refusal max_replayed nests p s ≡ None
     accepts =
         ap (λ (l : List Record).
-        call_refusal (recorder_with replay_room nests s.thread (thread_records l s.thread)) s.body
+        call_refusal (recorder_with max_replayed nests s.thread (thread_records l s.thread)) s.body
         (value p.values (first_given s.body)) (value p.values (second_given s.body))) before.records
-        ∙ ap (λ v. call_refusal (recorder_with replay_room nests s.thread (own_of rs s.thread)) s.body v
+        ∙ ap (λ v. call_refusal (recorder_with max_replayed nests s.thread (own_of rs s.thread)) s.body v
         (value p.values (second_given s.body))) (sym first_same)
-        ∙ ap (λ v. call_refusal (recorder_with replay_room nests s.thread (own_of rs s.thread)) s.body
+        ∙ ap (λ v. call_refusal (recorder_with max_replayed nests s.thread (own_of rs s.thread)) s.body
         (value values (first_given s.body)) v) (sym second_same)
         ∙ makes.accepts
 
-    grown : progress replay_room nests (calls_of (rs ++ r ∷ [])) ≡ progress_with nests p s
-    grown = ap (progress replay_room nests) more ∙ progress_accepted nests steps s accepts
+    grown : progress max_replayed nests (calls_of (rs ++ r ∷ [])) ≡ progress_with nests p s
+    grown = ap (progress max_replayed nests) more ∙ progress_accepted nests steps s accepts
 
     made_row : Record
     made_row = row r.thread nests (length (thread_records p.records r.thread))

@@ -25,7 +25,7 @@ use Rattle.scripts.proofs.OrderedLemmas.{scripted, scripted_next, scripted_lengt
 use Rattle.scripts.proofs.OrderedLemmas.{whole_script}
 use Rattle.scripts.proofs.SaidLemmas.{IsOfCall, said_by_call}
 use Rattle.scripts.proofs.ValueSteps.{IsWhole, first_at, second_at, first_id_is, second_id_is}
-use Rattle.online.specs.Replays.{calls_of, script_of, replay_room, IsReplayed}
+use Rattle.online.specs.Replays.{calls_of, script_of, max_replayed, IsReplayed}
 use Rattle.online.proofs.ReplayLaw.{replayed_whole, without_first}
 
 -- ---- the step of a record
@@ -34,7 +34,7 @@ use Rattle.online.proofs.ReplayLaw.{replayed_whole, without_first}
 pub replayed_script : (nests : Bool) (rs : List Record) (values : Values) → IsReplayed nests rs values
     → whole_script (script_of nests rs) ≡ map without_seen rs
 replayed_script nests rs values replayed =
-    ap (λ steps. (progress replay_room nests steps).records)
+    ap (λ steps. (progress max_replayed nests steps).records)
     (take_all (length (calls_of rs)) (calls_of rs) (omega arith))
     ∙ replayed.records
 

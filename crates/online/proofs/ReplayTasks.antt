@@ -48,7 +48,7 @@ use Rattle.scripts.proofs.ValueSteps.{second_has, first_id_is, values_next}
 use Rattle.online.specs.declared.replay.Replay.{Replay}
 use Rattle.online.specs.Items.{HasEnded, IsUntouched}
 use Rattle.online.specs.Online.{IsDependentAt}
-use Rattle.online.specs.Replays.{calls_of, script_of, replay_room, IsReplayed, IsReplayOf}
+use Rattle.online.specs.Replays.{calls_of, script_of, max_replayed, IsReplayed, IsReplayOf}
 use Rattle.online.specs.Tasks.{value_of}
 use Rattle.online.proofs.ReplayEnds.{over_behind, moves_explicit}
 use Rattle.online.proofs.ReplayLaw.{replayed_whole}
@@ -76,7 +76,7 @@ pub value_before : (kept : Replay) (rs : List Record) (r : Record) (task : ℕ) 
     → value_of kept.tasks task ≡ values_at (script_with kept rs r) (length rs) task
 value_before kept rs r task more =
     more.before.replayed.values_are task
-    ∙ ap (λ steps. (progress replay_room kept.nests steps).values task)
+    ∙ ap (λ steps. (progress max_replayed kept.nests steps).values task)
     (sym
     (ap (take (length rs)) (calls_more rs r)
     ∙ take_at (calls_of rs) (next_step rs r ∷ []) (length rs) (calls_long rs)))

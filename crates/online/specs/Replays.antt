@@ -39,25 +39,25 @@ abbrev pub calls_of : List Record → List Step
 calls_of rs = fold and_call [] rs
 
 -- how many records a thread can number: more than recorders keep
-abbrev pub replay_room : ℕ
-replay_room = 2 ^ 32
+abbrev pub max_replayed : ℕ
+max_replayed = 2 ^ 32
 
 abbrev pub script_of : Bool → List Record → ScriptView
-script_of nests rs = record { nests = nests; room = replay_room; steps = calls_of rs }
+script_of nests rs = record { nests = nests; capacity = max_replayed; steps = calls_of rs }
 
--- recorders with room for all that a thread can number, which are given the calls of these records, make
--- them, but for the ledger lengths, and leave these values of the tasks
+-- recorders with a capacity for all that a thread can number, which are given the calls of these records,
+-- make them, but for the ledger lengths, and leave these values of the tasks
 pub record IsReplayed (nests : Bool) (rs : List Record) (values : Values) : Type 0 where
   pub rules : IsScript (calls_of rs)
   pub accepted : (at : ℕ) → refused_at (script_of nests rs) at ≡ None
-  pub records : (progress replay_room nests (calls_of rs)).records ≡ map without_seen rs
-  pub values_are : (task : ℕ) → values task ≡ (progress replay_room nests (calls_of rs)).values task
+  pub records : (progress max_replayed nests (calls_of rs)).records ≡ map without_seen rs
+  pub values_are : (task : ℕ) → values task ≡ (progress max_replayed nests (calls_of rs)).values task
 
 -- a recorder of the thread that has made these records, given the call of a record with this body by these
 -- values, makes the record
 pub record Makes (nests : Bool) (thread : ℕ) (own : List Record) (values : Values) (body : Body) : Type 0
   where
-    pub accepts : call_refusal (recorder_with replay_room nests thread own) (call_of body)
+    pub accepts : call_refusal (recorder_with max_replayed nests thread own) (call_of body)
         (value values (first_given (call_of body))) (value values (second_given (call_of body))) ≡ None
     pub makes : recorded_body (call_of body) (value values (first_given (call_of body)))
         (value values (second_given (call_of body))) ≡ body
@@ -70,7 +70,7 @@ call_on thread body = record { line = 0; thread = thread; after = None; body = c
 pub record MayTake (own : List Record) (place : Place) (body : Body) : Type 0 where
   pub left : IsLeft own place.state.now
   pub allowed : allows place.state.now.nests own body ≡ true
-  pub few : length own < replay_room
+  pub few : length own < max_replayed
 
 -- the record with this body is made, and the values of the tasks become those after its call
 pub record Takes (nests : Bool) (thread : ℕ) (own : List Record) (body : Body) (old new : Tasks) : Type 0
@@ -111,7 +111,7 @@ pub record IsNoted (old new : Replay) (made : Option ℕ) : Type 0 where
 -- the record is the next one of the thread, by its number there and by what the thread's records allow
 pub record IsNextOf (t : Thread) (r : Record) : Type 0 where
   pub seq : r.seq ≡ t.count
-  pub few : t.count < replay_room
+  pub few : t.count < max_replayed
   pub allowed : (own : List Record) → IsLeft own t.state → allows t.state.nests own r.body ≡ true
 
 abbrev pub IsNextThere : Replay → Record → Type 0
@@ -120,7 +120,7 @@ IsNextThere kept r = (t : Thread) × (slice_get kept.threads.items r.thread ≡ 
 -- the tasks are those after the call of the record, if its thread allows the record
 pub record IsCalled (old new : Replay) (r : Record) : Type 0 where
   pub takes : (t : Thread) (own : List Record) → slice_get old.threads.items r.thread ≡ Some t
-      → IsLeft own t.state → allows t.state.nests own r.body ≡ true → length own < replay_room
+      → IsLeft own t.state → allows t.state.nests own r.body ≡ true → length own < max_replayed
       → Takes t.state.nests r.thread own r.body old.tasks new.tasks
   pub nests : new.nests ≡ old.nests
   pub threads : new.threads ≡ old.threads

@@ -61,11 +61,16 @@ pub record BeginsOne (old new : Regions) (parallel : ℕ) : Type 0 where
 
 -- ---- the task that has predecessors
 
--- the task whose predecessors may have to be complete at the record, or whose dependences it lists
+-- the task whose predecessors may have to be complete at the record: a taskwait that is complete there, or a
+-- task that begins its first turn
+abbrev pub preceded_of : Body → Option ℕ
+preceded_of (TaskSchedule TaskwaitComplete turns prior next claimed) = Some prior
+preceded_of body = if next_turn body == 0 then started body else None
+
+-- that task, or the one whose dependences the record lists
 abbrev pub dependent_of : Body → Option ℕ
 dependent_of (Dependences task list) = Some task
-dependent_of (TaskSchedule TaskwaitComplete turns prior next claimed) = Some prior
-dependent_of body = if next_turn body == 0 then started body else None
+dependent_of body = preceded_of body
 
 -- the parent of the task, where the task is live and has one
 abbrev pub parent_in : Replay → ℕ → Option ℕ

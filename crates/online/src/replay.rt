@@ -22,7 +22,7 @@ use std::alloc::{AllocError, Global};
 const THREADS: usize = 256;
 
 /// No thread has more records, since each has a number of 32 bits there.
-const ROOM: u64 = 1 << 32;
+const CAPACITY: u64 = 1 << 32;
 
 /// No more records are taken in all.
 const MOST: usize = 1 << 63;
@@ -165,7 +165,7 @@ impl Replay {
         let Some(thread) = self.threads.get_mut(usize::from(record.thread)) else {
             return Ok(false);
         };
-        if thread.count >= ROOM || self.count >= MOST {
+        if thread.count >= CAPACITY || self.count >= MOST {
             return Ok(false);
         }
         thread.advance(&record.body)?;
@@ -196,6 +196,6 @@ fn is_next(thread: &Thread, record: &Record) -> bool
     ensures { IsTrue result → IsNextOf thread.now «record».now }
 {
     u64::from(record.seq) == thread.count
-        && thread.count < ROOM
+        && thread.count < CAPACITY
         && thread.state.allows(&record.body)
 }

@@ -15,7 +15,7 @@ ghost use Rattle.online.specs.Missed.{EndsTooEarly, StartsTooEarly};
 ghost use Rattle.online.specs.Waits.{ends_region};
 ghost use Rattle.online.specs.Watches.{IsWatchOf, HasWatched, IsRefusedWatch, HasRefused, CreatesOutside};
 ghost use Rattle.online.specs.Watches.{dependent_of, parent_in, MayList, IsRefusedStart, HasRefusedStart};
-ghost use Rattle.online.specs.Watches.{MustBePreceded};
+ghost use Rattle.online.specs.Watches.{MustBePreceded, preceded_of};
 
 use crate::items::Items;
 use crate::lengths::Lengths;
@@ -301,21 +301,10 @@ fn ended(record: &Record) -> Option<u64>
 
 /// Returns the task whose predecessors must be complete at a record with this body, if it has dependences.
 fn preceded(body: &Body) -> Option<u64>
-    ensures { IfSome result (MustBePreceded body.now) }
-{
-    if let Some((task, 0)) = body.begun_turn() {
-        return Some(task);
-    }
-    body.wait_completed()
-}
-
-/// Returns the task whose predecessors may have to be complete at a record with this body, or whose dependences it
-/// lists.
-fn dependent(body: &Body) -> Option<u64>
-    ensures { result ≡ dependent_of body.now }
+    ensures value { result ≡ preceded_of body.now }
+    ensures must { IfSome result (MustBePreceded body.now) }
 {
     match body {
-        Body::Dependences { task, .. } => Some(*task),
         Body::TaskSchedule {
             status: Status::TaskwaitComplete,
             prior,
@@ -325,5 +314,15 @@ fn dependent(body: &Body) -> Option<u64>
             Some((task, 0)) => Some(task),
             _ => None,
         },
+    }
+}
+
+/// Returns that task, or the one whose dependences the record lists.
+fn dependent(body: &Body) -> Option<u64>
+    ensures { result ≡ dependent_of body.now }
+{
+    match body {
+        Body::Dependences { task, .. } => Some(*task),
+        _ => preceded(body),
     }
 }

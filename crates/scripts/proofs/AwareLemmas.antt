@@ -244,7 +244,7 @@ own_step_grows script thread at s is = elim (cases_eq s.thread thread) [
         let same : progress_to script (at + 1) ≡ p =
         progress_next script at s is
         ∙ ap (λ found. cond (is_some found) p (progress_with script.nests p s))
-        (sym (ap (option_and_then (λ q. step_refusal script.room script.nests p q)) is) ∙ refused) in
+        (sym (ap (option_and_then (λ q. step_refusal script.capacity script.nests p q)) is) ∙ refused) in
         let equal = ap (λ (q : Progress). length (thread_records q.records s.thread)) same in
         omega (arith, equal)
 

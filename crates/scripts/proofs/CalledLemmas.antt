@@ -384,13 +384,13 @@ recorded_to script (suc n) is_script accepted = elim (cases_lt n (length script.
       let before = recorded_to script n is_script (λ at before. accepted at (omega arith)) in
       record {
         values = λ task makes on.
-            subst (λ (l : List Step). Has ((progress script.room script.nests l).values task) task) same
+            subst (λ (l : List Step). Has ((progress script.capacity script.nests l).values task) task) same
             (before.values task (subst (λ (l : List Step). IsMadeByStep l task) (sym same) makes)
             (λ ends. on (subst (λ (l : List Step). IsEnded l task) same ends)));
         calls = λ thread.
             subst
             (λ (l : List Step).
-            recorded_calls (thread_records (progress script.room script.nests l).records thread)
+            recorded_calls (thread_records (progress script.capacity script.nests l).records thread)
             ≡ calls_of l thread)
             same (before.calls thread);
       }

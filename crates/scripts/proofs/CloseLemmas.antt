@@ -193,11 +193,12 @@ one_of_kind nests [] x is each = (is, tt)
 one_of_kind nests (y ∷ rs) x is each = (each.0, one_of_kind nests rs x is each.1)
 
 -- the records of these steps are of the kind of those before them
-kind_kept : (room : ℕ) (nests : Bool) (steps : List Step) (p : Progress) → AreNesting nests p.records
-    → AreNesting nests (fold (progress_after room nests) p steps).records
-kind_kept room nests [] p all = all
-kind_kept room nests (s ∷ steps) p all =
-    kind_kept room nests steps (progress_after room nests p s) (by (is_some (step_refusal room nests p s)))
+kind_kept : (capacity : ℕ) (nests : Bool) (steps : List Step) (p : Progress) → AreNesting nests p.records
+    → AreNesting nests (fold (progress_after capacity nests) p steps).records
+kind_kept capacity nests [] p all = all
+kind_kept capacity nests (s ∷ steps) p all =
+    kind_kept capacity nests steps (progress_after capacity nests p s)
+    (by (is_some (step_refusal capacity nests p s)))
   where
     by : (b : Bool) → AreNesting nests (cond b p (progress_with nests p s)).records
     by true = all
@@ -208,7 +209,7 @@ kind_of_script : (script : ScriptView) (n i : ℕ) (x : Record)
 kind_of_script script n i x is =
     all_get (λ (y : Record). y.nests ≡ script.nests) (progress_to script n).records i x
     (All-from_recursion (λ (y : Record). y.nests ≡ script.nests) (progress_to script n).records
-    (kind_kept script.room script.nests (take n script.steps) no_progress tt)) is
+    (kind_kept script.capacity script.nests (take n script.steps) no_progress tt)) is
 
 -- each record of the trace is of the kind of the script
 pub of_kind : (script : ScriptView) (stop : Option Stop) (recorders : List RecorderView)
@@ -224,12 +225,12 @@ of_kind script stop recorders closed each same =
 -- ---- more steps
 
 -- what the steps leave goes on where the records before them end
-grown : (room : ℕ) (nests : Bool) (steps : List Step) (p : Progress)
-    → (more : List Record) × ((fold (progress_after room nests) p steps).records ≡ p.records ++ more)
-grown room nests [] p = ([], sym (append-nil p.records))
-grown room nests (s ∷ steps) p =
-    let (first, is) = one (is_some (step_refusal room nests p s)) in
-    let (rest, after) = grown room nests steps (progress_after room nests p s) in
+grown : (capacity : ℕ) (nests : Bool) (steps : List Step) (p : Progress)
+    → (more : List Record) × ((fold (progress_after capacity nests) p steps).records ≡ p.records ++ more)
+grown capacity nests [] p = ([], sym (append-nil p.records))
+grown capacity nests (s ∷ steps) p =
+    let (first, is) = one (is_some (step_refusal capacity nests p s)) in
+    let (rest, after) = grown capacity nests steps (progress_after capacity nests p s) in
     (first ++ rest, after ∙ ap (λ l. l ++ rest) is ∙ append_assoc p.records first rest)
   where
     one : (b : Bool)
@@ -242,12 +243,12 @@ reaches : (script : ScriptView) (n : ℕ)
     → (more : List Record)
     × ((progress_to script (length script.steps)).records ≡ (progress_to script n).records ++ more)
 reaches script n =
-    let (more, is) = grown script.room script.nests (drop n script.steps) (progress_to script n) in (
+    let (more, is) = grown script.capacity script.nests (drop n script.steps) (progress_to script n) in (
       more,
-      ap (λ l. (progress script.room script.nests l).records)
+      ap (λ l. (progress script.capacity script.nests l).records)
           (take_all (length script.steps) script.steps (omega arith) ∙ sym (take-append-drop n script.steps))
           ∙ ap (λ (p : Progress). p.records)
-          (fold-append (progress_after script.room script.nests) no_progress (take n script.steps)
+          (fold-append (progress_after script.capacity script.nests) no_progress (take n script.steps)
           (drop n script.steps))
           ∙ is,
     )
@@ -255,13 +256,13 @@ reaches script n =
 -- ---- sums
 
 -- what the records of the steps come to, where each comes to no more than its step
-weighed : (f : Record → ℕ) (g : Step → ℕ) (room : ℕ) (nests : Bool)
+weighed : (f : Record → ℕ) (g : Step → ℕ) (capacity : ℕ) (nests : Bool)
     → ((p : Progress) (s : Step) → f (last_of nests p s) ≤ g s) → (steps : List Step) (p : Progress)
-    → sum_by f (fold (progress_after room nests) p steps).records ≤ sum_by f p.records + sum_by g steps
-weighed f g room nests each [] p = omega arith
-weighed f g room nests each (s ∷ steps) p =
-    let rest = weighed f g room nests each steps (progress_after room nests p s) in
-    let first = one (is_some (step_refusal room nests p s)) in
+    → sum_by f (fold (progress_after capacity nests) p steps).records ≤ sum_by f p.records + sum_by g steps
+weighed f g capacity nests each [] p = omega arith
+weighed f g capacity nests each (s ∷ steps) p =
+    let rest = weighed f g capacity nests each steps (progress_after capacity nests p s) in
+    let first = one (is_some (step_refusal capacity nests p s)) in
     let both = sum_by-cons g s steps in
     omega (arith, rest, first, both)
   where
@@ -420,7 +421,7 @@ sum_within script stop recorders buffers f g each apart same seen low =
     sum_own script f has.at r seen has.run) in
     let own = own_within f (map (λ (r : RecorderView). r.thread) recorders) all apart in
     let by_step =
-    weighed f g script.room script.nests low (take (length script.steps) script.steps) no_progress in
+    weighed f g script.capacity script.nests low (take (length script.steps) script.steps) no_progress in
     let whole = ap (λ l. sum_by g l) (take_all (length script.steps) script.steps (omega arith)) in
     omega (arith, there, mine, own, by_step, whole)
 
@@ -505,7 +506,7 @@ fewer script stop recorders buffers k r at each apart same here run of accepted 
     (λ i q at_i. let has = all_get (HasStopped script stop) recorders i q each at_i in
     sum_own script one has.at q (λ x. refl) has.run) here (omega (arith, lacks, mine)) in
     let within = own_within one (map (λ (q : RecorderView). q.thread) recorders) all apart in
-    let by_step = weighed one step script.room script.nests (λ p t. omega arith)
+    let by_step = weighed one step script.capacity script.nests (λ p t. omega arith)
     (take (length script.steps) script.steps) no_progress in
     let whole = ap (λ l. sum_by step l) (take_all (length script.steps) script.steps (omega arith)) in
     let records = length_sum (gathered buffers) in

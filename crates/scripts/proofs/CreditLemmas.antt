@@ -56,7 +56,7 @@ ending_step script n root ends = by (slice_get script.steps n) refl ends
     by : (o : Option Step) → slice_get script.steps n ≡ o
         → option_map_or (λ (s : Step).
         is_task root (ended_root s.body)
-        && not (is_some (step_refusal script.room script.nests (progress_to script n) s))) o false
+        && not (is_some (step_refusal script.capacity script.nests (progress_to script n) s))) o false
         ≡ true
         → (s : Step) × (slice_get script.steps n ≡ Some s) × (ended_root s.body ≡ Some root)
     by None is none = absurd (false≢true none)
@@ -120,7 +120,7 @@ step_tiled script n s is_script is tiled =
     subst
     (λ (q : Progress).
     IsTiled script.steps (n + 1) (last q.values (values_at_end script (suc n))) q.records)
-    (sym (progress_next script n s is)) (by (step_refusal script.room script.nests p s) refl)
+    (sym (progress_next script n s is)) (by (step_refusal script.capacity script.nests p s) refl)
   where
     p : Progress
     p = progress_to script n
@@ -130,14 +130,14 @@ step_tiled script n s is_script is tiled =
 
     ending : (root : ℕ) → ends_root script n root
         ≡ (is_task root (ended_root s.body) && not
-        (is_some (step_refusal script.room script.nests (progress_to script n) s)))
+        (is_some (step_refusal script.capacity script.nests (progress_to script n) s)))
     ending root =
         ap
         (λ o. option_map_or (λ (x : Step).
         is_task root (ended_root x.body)
-        && not (is_some (step_refusal script.room script.nests (progress_to script n) x))) o false) is
+        && not (is_some (step_refusal script.capacity script.nests (progress_to script n) x))) o false) is
 
-    lefts : step_refusal script.room script.nests (progress_to script n) s ≡ None → (root : ℕ)
+    lefts : step_refusal script.capacity script.nests (progress_to script n) s ≡ None → (root : ℕ)
         → values_at_end script (suc n) root
         ≡ cond (is_task root (ended_root s.body)) ((progress_to script n).values root)
         (values_at_end script n root)
@@ -148,7 +148,7 @@ step_tiled script n s is_script is tiled =
         ∙ and_true (is_task root (ended_root s.body)))
 
     stays : (fault : CallFault)
-        → step_refusal script.room script.nests (progress_to script n) s ≡ Some fault
+        → step_refusal script.capacity script.nests (progress_to script n) s ≡ Some fault
         → (root : ℕ) → values_at_end script n root ≡ values_at_end script (suc n) root
     stays fault refused root =
         sym
@@ -169,7 +169,7 @@ step_tiled script n s is_script is tiled =
             (over_ended script n task t left))
 
     by : (found : Option CallFault)
-        → step_refusal script.room script.nests (progress_to script n) s ≡ found
+        → step_refusal script.capacity script.nests (progress_to script n) s ≡ found
         → IsTiled script.steps (n + 1)
         (last
         (cond (is_some found) (progress_to script n)
@@ -189,7 +189,7 @@ step_tiled script n s is_script is tiled =
           n = n;
           s = s;
           view =
-              recorder_with script.room script.nests s.thread
+              recorder_with script.capacity script.nests s.thread
               (thread_records (progress_to script n).records s.thread);
           nests = script.nests;
           own = thread_records (progress_to script n).records s.thread;
@@ -242,8 +242,8 @@ all_tiled script (suc n) is_script = elim (cases_lt n (length script.steps)) [
       subst
       (λ (l : List Step).
       IsTiled script.steps (suc n)
-      (last (progress script.room script.nests l).values (values_at_end script (suc n)))
-      (progress script.room script.nests l).records)
+      (last (progress script.capacity script.nests l).values (values_at_end script (suc n)))
+      (progress script.capacity script.nests l).records)
       same
       (subst
       (λ k.
@@ -261,7 +261,7 @@ all_tiled script (suc n) is_script = elim (cases_lt n (length script.steps)) [
       (λ o. cond
       (option_map_or (λ (x : Step).
       is_task task (ended_root x.body)
-      && not (is_some (step_refusal script.room script.nests (progress_to script n) x))) o false)
+      && not (is_some (step_refusal script.capacity script.nests (progress_to script n) x))) o false)
       ((progress_to script n).values task) (values_at_end script n task)) gone)))
       (all_tiled script n is_script)))
 ]

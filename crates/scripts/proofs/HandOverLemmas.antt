@@ -444,9 +444,9 @@ made_first steps task i j s t is_script is makes there names = elim (cases_lt j 
 -- the call of a step that is not refused
 step_accepts : (script : ScriptView) (n : ℕ) (s : Step) → AreAllAccepted script
     → slice_get script.steps n ≡ Some s
-    → step_refusal script.room script.nests (progress_to script n) s ≡ None
+    → step_refusal script.capacity script.nests (progress_to script n) s ≡ None
 step_accepts script n s accepted is =
-    sym (ap (option_and_then (λ q. step_refusal script.room script.nests (progress_to script n) q)) is)
+    sym (ap (option_and_then (λ q. step_refusal script.capacity script.nests (progress_to script n) q)) is)
     ∙ accepted n
 
 with_turn : (o : Option ℕ) (n task turn : ℕ) → option_map {U = ℕ × ℕ} (λ t. (t, n)) o ≡ Some (task, turn)
@@ -472,7 +472,7 @@ ends_first script rs task turn q r is_script accepted ends begins i j = elim (ca
       (made_up_to script.steps task j.index (j.index + 1) (omega arith) (was_made by_j)) (omega arith)
       (within i.index i.step i.stands) (begun by_j next_is) in
       let (t, was, its_turn) =
-      suspended_value (recorder_with script.room script.nests i.step.thread
+      suspended_value (recorder_with script.capacity script.nests i.step.thread
       (thread_records (progress_to script i.index).records i.step.thread)) i.step.body
       (first_at script i.index i.step) (second_at script i.index i.step) task turn
       (step_accepts script i.index i.step accepted i.stands)
@@ -507,7 +507,7 @@ ends_first script rs task turn q r is_script accepted ends begins i j = elim (ca
         (ap (λ (p : Progress). p.values task)
         (accepted_next script j.index j.step j.stands (accepted j.index))
         ∙ value_second (progress_to script j.index).values j.step task apart second))
-        (resumed_value (recorder_with script.room script.nests j.step.thread
+        (resumed_value (recorder_with script.capacity script.nests j.step.thread
         (thread_records (progress_to script j.index).records j.step.thread)) j.step.body
         (first_at script j.index j.step) (second_at script j.index j.step) task turn
         (step_accepts script j.index j.step accepted j.stands)

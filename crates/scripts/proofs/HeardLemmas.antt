@@ -69,10 +69,10 @@ told_done script seats thread other at since mine copy of less is tells =
 pub same_heard : (old new : RecorderView) (note : Option NoteView) → IsHeard old note new → IsSameRun old new
 same_heard old new None is =
     subst (IsSameRun old) (sym is)
-    (record { ledger = refl; thread = refl; nests = refl; records = refl; room = refl; fixed = refl })
+    (record { ledger = refl; thread = refl; nests = refl; records = refl; capacity = refl; fixed = refl })
 same_heard old new (Some note) is =
     subst (IsSameRun old) (sym is)
-    (record { ledger = refl; thread = refl; nests = refl; records = refl; room = refl; fixed = refl })
+    (record { ledger = refl; thread = refl; nests = refl; records = refl; capacity = refl; fixed = refl })
 
 pub further : (first second third : RecorderView) → IsSameRun first second → IsSameRun second third
     → IsSameRun first third
@@ -81,7 +81,7 @@ further first second third one two = record {
   thread = two.thread ∙ one.thread;
   nests = two.nests ∙ one.nests;
   records = two.records ∙ one.records;
-  room = two.room ∙ one.room;
+  capacity = two.capacity ∙ one.capacity;
   fixed = two.fixed ∙ one.fixed;
 }
 

@@ -64,7 +64,7 @@ use Rattle.scripts.proofs.PlaceLemmas.{none_between}
 
 -- the recorder with its records without their ledger lengths, and no ledger of its own
 abbrev pub bare : RecorderView → RecorderView
-bare r = recorder_with r.room r.nests r.thread (map without_seen r.records)
+bare r = recorder_with r.capacity r.nests r.thread (map without_seen r.records)
 
 standing_same : (own : List Record) → standing_of own ≡ standing_of (map without_seen own)
 standing_same own =
@@ -131,7 +131,7 @@ at_same : (r : RecorderView) (may deep full : Bool) (body : Body)
 unfolding refusal_at
 at_same r may deep full body =
     ap (λ b. refusal (may && b) deep (full || is_log_full r)) (allows_same r.nests r.records body)
-    ∙ ap (λ n. refusal (may && allowed (bare r) body) deep (full || nat_le r.room n))
+    ∙ ap (λ n. refusal (may && allowed (bare r) body) deep (full || nat_le r.capacity n))
     (sym (length-map r.records without_seen))
 
 parent_same : (r : RecorderView) (t : TaskView) (status : Status)
@@ -211,10 +211,10 @@ refusal_same r body None second = refl
 
 -- what the steps leave with one more
 pub progress_next : (script : ScriptView) (at : ℕ) (s : Step) → slice_get script.steps at ≡ Some s
-    → progress_to script (at + 1) ≡ progress_after script.room script.nests (progress_to script at) s
+    → progress_to script (at + 1) ≡ progress_after script.capacity script.nests (progress_to script at) s
 progress_next script at s is =
-    ap (progress script.room script.nests) (take_next script.steps at s is)
-    ∙ fold_push (progress_after script.room script.nests) no_progress (take at script.steps) s
+    ap (progress script.capacity script.nests) (take_next script.steps at s is)
+    ∙ fold_push (progress_after script.capacity script.nests) no_progress (take at script.steps) s
 
 -- the same of a step that is accepted
 pub accepted_next : (script : ScriptView) (at : ℕ) (s : Step) → slice_get script.steps at ≡ Some s
@@ -224,7 +224,7 @@ accepted_next script at s is accepted =
     let p = progress_to script at in
     progress_next script at s is
     ∙ ap (λ found. cond (is_some found) p (progress_with script.nests p s))
-    (sym (ap (option_and_then (λ q. step_refusal script.room script.nests p q)) is) ∙ accepted)
+    (sym (ap (option_and_then (λ q. step_refusal script.capacity script.nests p q)) is) ∙ accepted)
 
 -- what holds whether the step is accepted or not
 either_way : {X : Type 0} (b : Bool) (f : Progress → X) (p q : Progress) (x : X) → f p ≡ x → f q ≡ x
@@ -270,7 +270,7 @@ own_other script at s thread is other =
     record_by s.body s.thread script.nests (own_records script at s.thread)
     (value p.values (first_given s.body)) (value p.values (second_given s.body)) in
     ap (λ (q : Progress). thread_records q.records thread) (progress_next script at s is)
-    ∙ either_way (is_some (step_refusal script.room script.nests p s))
+    ∙ either_way (is_some (step_refusal script.capacity script.nests p s))
     (λ q. thread_records q.records thread) p (progress_with script.nests p s) (own_records script at thread)
     refl
     (filter-append (λ (r : Record). r.thread == thread) p.records (new ∷ [])
@@ -354,7 +354,7 @@ unused_value script task since at within unused = up_to at unused.up_to (omega a
           let one : suc n ≡ n + 1 = omega arith in
           ap (λ i. (progress_to script i).values task) one
           ∙ ap (λ (p : Progress). p.values task) (progress_next script n s is)
-          ∙ either_way (is_some (step_refusal script.room script.nests (progress_to script n) s))
+          ∙ either_way (is_some (step_refusal script.capacity script.nests (progress_to script n) s))
           (λ p. p.values task) (progress_to script n) (progress_with script.nests (progress_to script n) s)
           ((progress_to script n).values task) refl
           (value_other (progress_to script n).values s task
@@ -515,21 +515,22 @@ pub step_refused : (script : ScriptView) (at : ℕ) (s : Step) (r : RecorderView
 step_refused script at s r first second next =
     let p = progress_to script at in
     let refused : ℕ → Bool → ℕ → List Record → Option TaskView → Option TaskView → Option CallFault =
-    λ room nests thread own one two. call_refusal (recorder_with room nests thread own) s.body one two in
+    λ most nests thread own one two. call_refusal (recorder_with most nests thread own) s.body one two in
     refusal_same r s.body first second
-    ∙ ap (λ own. refused r.room r.nests r.thread own first second) next.run.records
-    ∙ ap (λ room. refused room r.nests r.thread (own_records script at r.thread) first second) next.run.room
-    ∙ ap (λ nests. refused script.room nests r.thread (own_records script at r.thread) first second)
+    ∙ ap (λ own. refused r.capacity r.nests r.thread own first second) next.run.records
+    ∙ ap (λ most. refused most r.nests r.thread (own_records script at r.thread) first second)
+    next.run.capacity
+    ∙ ap (λ nests. refused script.capacity nests r.thread (own_records script at r.thread) first second)
     next.run.nests
-    ∙ ap (λ thread. refused script.room script.nests thread (own_records script at thread) first second)
+    ∙ ap (λ thread. refused script.capacity script.nests thread (own_records script at thread) first second)
     (sym next.of_thread)
-    ∙ ap (λ one. refused script.room script.nests s.thread (own_records script at s.thread) one second)
+    ∙ ap (λ one. refused script.capacity script.nests s.thread (own_records script at s.thread) one second)
     next.first_is
     ∙ ap
-    (refused script.room script.nests s.thread (own_records script at s.thread)
+    (refused script.capacity script.nests s.thread (own_records script at s.thread)
     (value p.values (first_given s.body)))
     next.second_is
-    ∙ ap (option_and_then (λ (x : Step). step_refusal script.room script.nests p x)) (sym next.there)
+    ∙ ap (option_and_then (λ (x : Step). step_refusal script.capacity script.nests p x)) (sym next.there)
 
 -- a step whose call succeeds is not refused
 pub step_accepted : (script : ScriptView) (at : ℕ) (s : Step) (r called : RecorderView)

@@ -61,13 +61,13 @@ pub record IsAfter (script : ScriptView) (seats : List (Option View)) (thread co
 
 -- with no step taken
 pub after_none : (script : ScriptView) (seats : List (Option View)) (thread : ℕ) (r : RecorderView) (v : View)
-    → r.thread ≡ thread → r.nests ≡ script.nests → r.room ≡ script.room → r.records ≡ []
+    → r.thread ≡ thread → r.nests ≡ script.nests → r.capacity ≡ script.capacity → r.records ≡ []
     → seat_of seats thread ≡ Some v → r.seat ≡ v → IsNewSeat v → r.known ≡ 0
     → IsAfter script seats thread 0 r
-after_none script seats thread r v of_thread nests room none is seat new known = record {
+after_none script seats thread r v of_thread nests capacity none is seat new known = record {
   run = λ n within count. record {
     nests = nests;
-    room = room;
+    capacity = capacity;
     records = ap (λ rs. map without_seen rs) none ∙ sym (empty n within count)
         ∙ ap (own_records script n) (sym of_thread);
   };
@@ -91,7 +91,7 @@ pub after_more : (script : ScriptView) (seats : List (Option View)) (thread coun
 after_more script seats thread count at s r is own of_thread number before here run aware = record {
   run = λ n within same. record {
     nests = run.nests;
-    room = run.room;
+    capacity = run.capacity;
     records = run.records ∙ ap (own_records script (at + 1)) of_thread
         ∙ own_between script thread (at + 1) n (past n same) within (next ∙ sym same)
         ∙ ap (own_records script n) (sym of_thread);
@@ -503,9 +503,9 @@ pub run_whole : (script : ScriptView) (at : ℕ) (r : RecorderView)
     → HasRun script (length script.steps) r
 run_whole script at r past run = record {
   nests = run.nests;
-  room = run.room;
+  capacity = run.capacity;
   records = run.records
-      ∙ ap (λ l. thread_records (progress script.room script.nests l).records r.thread)
+      ∙ ap (λ l. thread_records (progress script.capacity script.nests l).records r.thread)
       (take_all at script.steps past ∙ sym (take_all (length script.steps) script.steps (omega arith)));
 }
 
@@ -532,7 +532,7 @@ all_accepted script recorders ended at = elim (cases_lt at (length script.steps)
       let (s, is) = get_within script.steps at within in
       passed script recorders None (length script.steps) ended (λ n behind. behind) at s within is
   | inr past ↦
-      ap (option_and_then (λ s. step_refusal script.room script.nests (progress_to script at) s))
+      ap (option_and_then (λ s. step_refusal script.capacity script.nests (progress_to script at) s))
       (slice_get_past script.steps at past)
 ]
 

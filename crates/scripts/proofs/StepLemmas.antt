@@ -62,7 +62,7 @@ pub run_same : (script : ScriptView) (at : ℕ) (old new : RecorderView) → IsS
     → HasRun script at old → HasRun script at new
 run_same script at old new same run = record {
   nests = same.nests ∙ run.nests;
-  room = same.room ∙ run.room;
+  capacity = same.capacity ∙ run.capacity;
   records =
       ap (map without_seen) same.records ∙ run.records ∙ ap (own_records script at) (sym same.thread);
 }
@@ -112,7 +112,7 @@ pub run_next : (script : ScriptView) (at : ℕ) (s : Step) (r called new : Recor
 run_next script at s r called new first second first_after second_after next made same =
     run_same script (at + 1) called new same record {
       nests = ap (λ (x : RecorderView). x.nests) made.recorded_is ∙ next.run.nests;
-      room = ap (λ (x : RecorderView). x.room) made.recorded_is ∙ next.run.room;
+      capacity = ap (λ (x : RecorderView). x.capacity) made.recorded_is ∙ next.run.capacity;
       records =
           ap (λ (x : RecorderView). map without_seen x.records) made.recorded_is
           ∙ map-append without_seen r.records (last ∷ [])
@@ -174,7 +174,7 @@ fault_same old new found told fault (refused reason same is) = record {
   thread = ap (λ (r : RecorderView). r.thread) same;
   nests = ap (λ (r : RecorderView). r.nests) same;
   records = ap (λ (r : RecorderView). r.records) same;
-  room = ap (λ (r : RecorderView). r.room) same;
+  capacity = ap (λ (r : RecorderView). r.capacity) same;
   fixed = ap fixed_of same;
 }
 fault_same old new found told fault (out_of_memory same) = record {
@@ -182,7 +182,7 @@ fault_same old new found told fault (out_of_memory same) = record {
   thread = ap (λ (r : RecorderView). r.thread) same;
   nests = ap (λ (r : RecorderView). r.nests) same;
   records = ap (λ (r : RecorderView). r.records) same;
-  room = ap (λ (r : RecorderView). r.room) same;
+  capacity = ap (λ (r : RecorderView). r.capacity) same;
   fixed = ap fixed_of same;
 }
 fault_same old new found told fault (in_ledger reason entry none made by) = record {
@@ -190,7 +190,7 @@ fault_same old new found told fault (in_ledger reason entry none made by) = reco
   thread = ap (λ (r : RecorderView). r.thread) by.unchanged;
   nests = ap (λ (r : RecorderView). r.nests) by.unchanged;
   records = ap (λ (r : RecorderView). r.records) by.unchanged;
-  room = ap (λ (r : RecorderView). r.room) by.unchanged;
+  capacity = ap (λ (r : RecorderView). r.capacity) by.unchanged;
   fixed =
       ap (λ b. (b, (new.seat.shares, new.seat.claims))) (ap (λ (r : RecorderView). r.before) by.unchanged)
       ∙ ap (λ s. (old.before, (s, new.seat.claims))) by.looked.shares

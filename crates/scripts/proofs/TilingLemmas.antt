@@ -509,9 +509,9 @@ step_next script n s is_script is are =
     let rules = step_rules script.steps n s is_script is in
     subst (λ (q : Progress). AreHeldApart script.steps (n + 1) (held q.values q.records))
     (sym (progress_next script n s is))
-    (by (step_refusal script.room script.nests p s) (λ accepted.
+    (by (step_refusal script.capacity script.nests p s) (λ accepted.
     body_next script.steps n s
-    (recorder_with script.room script.nests s.thread (thread_records p.records s.thread))
+    (recorder_with script.capacity script.nests s.thread (thread_records p.records s.thread))
     p.values p.records _ s.thread s.body is are refl rules.new rules.no_claim accepted refl))
   where
     later : AreHeldApart script.steps (n + 1)
@@ -561,8 +561,8 @@ all_apart script (suc n) is_script = elim (cases_lt n (length script.steps)) [
       let are = all_apart script n is_script in
       subst
       (λ (l : List Step).
-      AreHeldApart script.steps (suc n) (held (progress script.room script.nests l).values
-      (progress script.room script.nests l).records))
+      AreHeldApart script.steps (suc n) (held (progress script.capacity script.nests l).values
+      (progress script.capacity script.nests l).records))
       same
       (record {
         apart = are.apart;

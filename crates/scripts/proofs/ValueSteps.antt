@@ -54,7 +54,7 @@ second_at script at s = value (values_at script at) (second_given s.body)
 
 -- the recorder of a thread after the first n steps
 abbrev pub recorder_at : ScriptView → ℕ → ℕ → RecorderView
-recorder_at script n thread = recorder_with script.room script.nests thread (own_records script n thread)
+recorder_at script n thread = recorder_with script.capacity script.nests thread (own_records script n thread)
 
 -- ---- the call of a step
 
@@ -62,7 +62,7 @@ pub step_accepts : (script : ScriptView) (n : ℕ) (s : Step) → IsWhole script
     → slice_get script.steps n ≡ Some s
     → call_refusal (recorder_at script n s.thread) s.body (first_at script n s) (second_at script n s) ≡ None
 step_accepts script n s whole is =
-    sym (ap (option_and_then (λ q. step_refusal script.room script.nests (progress_to script n) q)) is)
+    sym (ap (option_and_then (λ q. step_refusal script.capacity script.nests (progress_to script n) q)) is)
     ∙ whole.accepted n
 
 pub first_has : (script : ScriptView) (n : ℕ) (s : Step) → IsWhole script → slice_get script.steps n ≡ Some s

@@ -282,7 +282,7 @@ pub record IsSameRun (old new : RecorderView) : Type 0 where
   pub thread : new.thread ≡ old.thread
   pub nests : new.nests ≡ old.nests
   pub records : new.records ≡ old.records
-  pub room : new.room ≡ old.room
+  pub capacity : new.capacity ≡ old.capacity
   pub fixed : fixed_of new ≡ fixed_of old
 
 -- it is the recorder of the same thread, with the same seat
@@ -306,7 +306,7 @@ pub record ArePlaces (steps : List Step) (n : ℕ) (threads : List (Vec ℕ)) : 
 -- the recorder has made the records of its thread among the first n steps
 pub record HasRun (script : ScriptView) (n : ℕ) (r : RecorderView) : Type 0 where
   pub nests : r.nests ≡ script.nests
-  pub room : r.room ≡ script.room
+  pub capacity : r.capacity ≡ script.capacity
   pub records : map without_seen r.records ≡ own_records script n r.thread
 
 -- the recorder is about to make the call of the step at this place, with the values of the tasks that the

@@ -45,11 +45,11 @@ no_progress = record { values = λ task. None; records = [] }
 -- the recorder of a thread with these records, which may have so many. Its refusals depend on nothing else,
 -- so its ledger is any
 abbrev pub recorder_with : ℕ → Bool → ℕ → List Record → RecorderView
-recorder_with room nests thread own = record {
+recorder_with capacity nests thread own = record {
   thread = thread;
   nests = nests;
   records = own;
-  room = room;
+  capacity = capacity;
   known = 0;
   ledger = record {
     words = 0;
@@ -66,8 +66,8 @@ recorder_with room nests thread own = record {
 
 -- why the recorder, which may have so many records, refuses a step after the earlier ones, if it does
 abbrev pub step_refusal : ℕ → Bool → Progress → Step → Option CallFault
-step_refusal room nests p s =
-    call_refusal (recorder_with room nests s.thread (thread_records p.records s.thread)) s.body
+step_refusal capacity nests p s =
+    call_refusal (recorder_with capacity nests s.thread (thread_records p.records s.thread)) s.body
     (value p.values (first_given s.body)) (value p.values (second_given s.body))
 
 -- one step more, which its recorder accepts
@@ -85,19 +85,20 @@ progress_with nests p s = record {
 
 -- one step more; a call that is refused changes nothing
 abbrev pub progress_after : ℕ → Bool → Progress → Step → Progress
-progress_after room nests p s = if is_some (step_refusal room nests p s) then p else progress_with nests p s
+progress_after capacity nests p s =
+    if is_some (step_refusal capacity nests p s) then p else progress_with nests p s
 
 abbrev pub progress : ℕ → Bool → List Step → Progress
-progress room nests steps = fold (progress_after room nests) no_progress steps
+progress capacity nests steps = fold (progress_after capacity nests) no_progress steps
 
 -- the same of the first n steps of a script
 abbrev pub progress_to : ScriptView → ℕ → Progress
-progress_to script n = progress script.room script.nests (take n script.steps)
+progress_to script n = progress script.capacity script.nests (take n script.steps)
 
 -- why the recorder refuses the step at this place of the script, if it does
 abbrev pub refused_at : ScriptView → ℕ → Option CallFault
 refused_at script at =
-    option_and_then (λ s. step_refusal script.room script.nests (progress_to script at) s)
+    option_and_then (λ s. step_refusal script.capacity script.nests (progress_to script at) s)
     (slice_get script.steps at)
 
 -- the records of a thread without their ledger lengths

@@ -19,12 +19,12 @@ use Rattle.scripts.specs.declared.fault.ScriptFault.TheVariants.{Memory, Full, M
 -- recorder of the run may have, and its steps
 pub record ScriptView : Type 0 where
   pub nests : Bool
-  pub room : ℕ
+  pub capacity : ℕ
   pub steps : List Step
 
 -- the script without a step, whose run has a trace of version 2
 abbrev pub empty_script : ScriptView
-empty_script = record { nests = false; room = max_records; steps = [] }
+empty_script = record { nests = false; capacity = max_records; steps = [] }
 
 -- ---- what becomes of a task
 

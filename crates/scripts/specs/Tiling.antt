@@ -45,7 +45,7 @@ pub data Holder : Type 0 where
 abbrev pub ends_root : ScriptView → ℕ → ℕ → Bool
 ends_root script at root = option_map_or (λ (s : Step).
     is_task root (ended_root s.body)
-    && not (is_some (step_refusal script.room script.nests (progress_to script at) s)))
+    && not (is_some (step_refusal script.capacity script.nests (progress_to script at) s)))
     (slice_get script.steps at) false
 
 -- the value that an ended root had at its end

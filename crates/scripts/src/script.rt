@@ -42,7 +42,7 @@ impl Model for Script {
 
     ghost Value = { ScriptView };
 
-    ghost view = { λ script. record { nests = script.nests; room = max_records; steps = script.steps.items } };
+    ghost view = { λ script. record { nests = script.nests; capacity = max_records; steps = script.steps.items } };
 
     ghost invariant = { λ script. IsScriptKept script.steps.items script.lives script.tally };
 }
@@ -81,7 +81,7 @@ impl Script {
         ensures value { result.now ≡ self.now.steps }
         ensures is_script { IsScript result.now }
         ensures short { IsShortScript result.now }
-        ensures room { self.now.room ≡ max_records }
+        ensures capacity { self.now.capacity ≡ max_records }
     {
         self.steps.as_slice()
     }

@@ -50,7 +50,7 @@ pub(crate) struct Shared<C: Context> {
     pub ghost of_the_script: { script ≡ C.script },
     pub ghost is_script: { IsScript C.script.steps },
     pub ghost is_short: { IsShortScript C.script.steps },
-    pub ghost has_room: { C.script.room ≡ max_records },
+    pub ghost of_capacity: { C.script.capacity ≡ max_records },
     pub ghost by_thread: { ArePlaces C.script.steps (length C.script.steps) threads.items },
     pub ghost by_step: { AreUses C.script.steps (length C.script.steps) uses.uses.items },
     pub ghost few: { length threads.items ≤ 256 },

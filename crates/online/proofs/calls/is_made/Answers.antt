@@ -5,7 +5,7 @@ use Rattle.ompt_events.specs.declared.records.Body.{Body}
 use Rattle.callbacks.specs.Schedules.{ScheduleView, may_schedule, is_last_turn, schedule_of}
 use Rattle.scripts.specs.Progress.{value, recorder_with}
 use Rattle.online.specs.Tasks.{value_of}
-use Rattle.online.specs.Replays.{replay_room, Makes, MayTake}
+use Rattle.online.specs.Replays.{max_replayed, Makes, MayTake}
 use Rattle.online.proofs.CallLemmas.{told_makes}
 use Rattle.online.proofs.calls.is_made.Goals as goal
 use Rattle.online.proofs.calls.is_made.Goals.{in-None, in-Some-next+in-Some-get, then-is_allowed}
@@ -18,7 +18,7 @@ returns-then-not-is_last_turn-clause-made c is own may =
     let place = c.args.place.now in
     let t = c.in-Some.prior.now in
     let s : ScheduleView = c.match-next.schedule in
-    let r = recorder_with replay_room place.state.now.nests place.number own in
+    let r = recorder_with max_replayed place.state.now.nests place.number own in
     let allowed = c.is_allowed.ensures r refl (c.standing.ensures.own own may.left) in
     let P : Body → Type 0 = λ b. MayTake own place b
     → Makes place.state.now.nests place.number own (value_of tasks) b in

@@ -22,7 +22,7 @@ loop-index-init g c = elim c.if-nests.branch [
         run = after_none script g.C.Context.seats c.args.thread r (view_of c.args.seat) new.thread
             (new.nests ∙ sym w.if-nests.true ∙ c.nests.ensures
             ∙ ap (λ (v : ScriptView). v.nests) c.args.shared.now.of_the_script)
-            (new.room ∙ sym c.args.shared.now.has_room) new.records c.requires.seat new.seat
+            (new.capacity ∙ sym c.args.shared.now.of_capacity) new.records c.requires.seat new.seat
             (c.args.shared.now.seated.new c.args.thread (view_of c.args.seat) c.requires.seat)
             new.known;
       })
@@ -37,7 +37,7 @@ loop-index-init g c = elim c.if-nests.branch [
         run = after_none script g.C.Context.seats c.args.thread r (view_of c.args.seat) new.thread
             (new.nests ∙ sym w.if-nests.false ∙ c.nests.ensures
             ∙ ap (λ (v : ScriptView). v.nests) c.args.shared.now.of_the_script)
-            (new.room ∙ sym c.args.shared.now.has_room) new.records c.requires.seat new.seat
+            (new.capacity ∙ sym c.args.shared.now.of_capacity) new.records c.requires.seat new.seat
             (c.args.shared.now.seated.new c.args.thread (view_of c.args.seat) c.requires.seat)
             new.known;
       })
