@@ -37,6 +37,6 @@ pub use reading_on::{read_blocks, read_on, read_packed_on};
 pub use script_reading::read_script;
 pub use scripts::{Script, Step};
 pub use streams::{FromRead, StdRead, StdWrite, ToWrite};
-pub use taking::{Taken, Taker, read_each};
+pub use taking::{MAX_NUMBERED, Taken, Taker, read_each};
 pub use upgrading::{to_version_3, upgrade, upgrade_to};
 pub use writing::{write, write_bytes};

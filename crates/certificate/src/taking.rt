@@ -14,9 +14,13 @@ use lines::ReadCause;
 use ompt_events::Record;
 use std::alloc::{AllocError, Global};
 
+/// The most records that a file has which is not kept: so many, one in each line from line 2 on, that the line
+/// past them has a number too.
+pub const MAX_NUMBERED: u32 = u32::MAX - 2;
+
 /// The last line that may have a record. In the next line, the last that has a number, a record is one too
 /// many.
-pub(crate) const LAST_RECORD_LINE: u32 = u32::MAX - 1;
+pub(crate) const LAST_RECORD_LINE: u32 = MAX_NUMBERED + 1;
 
 /// What takes the records of a file one after another.
 pub trait Taker {

@@ -3,8 +3,9 @@
 use Rattle.std.proofs.Common.{◌≡◌, ◌∙◌, ℕ, ◌+◌, List, [], ◌∷◌, ◌++◌, length, Some, None}
 use Rattle.std.proofs.Common.{refl, sym, ap, subst, arith, inl, inr}
 use Rattle.std.specs.Prelude.{slice_get}
-use Rattle.std.proofs.lemmas.Option.{none-some}
+use Rattle.std.proofs.lemmas.Option.{none-some, same_Some}
 use Rattle.ompt_events.specs.declared.records.Record.{Record}
+use Rattle.ompt_events.specs.declared.records.Body.{Body}
 use Rattle.ompt_events.specs.Dependences.{IsPredecessor}
 use Rattle.ompt_events.specs.HappensBefore.{IsStart}
 use Rattle.ompt_events.specs.Places.{at}
@@ -23,6 +24,7 @@ use Rattle.online.specs.Online.{IsDependentAt}
 use Rattle.online.specs.Replays.{IsReplayOf}
 use Rattle.online.specs.Tasks.{value_of}
 use Rattle.online.specs.Watches.{IsWatchOf, HasWatched, MustBePreceded, IsRefusedStart, HasRefusedStart}
+use Rattle.online.specs.Watches.{preceded_of, HasNoneBefore}
 use Rattle.online.proofs.AlikeLemmas.{early_alike}
 use Rattle.online.proofs.ChildLemmas.{child_high}
 use Rattle.online.proofs.KeptLists.{list_stays}
@@ -133,3 +135,11 @@ early_found w r dependent predecessor must found records refused =
           found.before.1;
       unfinished = live_unfinished (rs ++ r ∷ []) w.replay predecessor is.replay found.before.0;
     })
+
+-- ---- where none is found
+
+pub none_before : (w : Watch) (body : Body) (task : ℕ) → preceded_of body ≡ Some task
+    → ((found : ℕ) → IsFoundBefore w.lists w.replay task found → ⊥) → HasNoneBefore w body
+none_before w body task is none other found must before =
+    let P : ℕ → Type 0 = λ t. IsFoundBefore w.lists w.replay t found in
+    none found (subst P (same_Some other task (sym must ∙ is)) before)

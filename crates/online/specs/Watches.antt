@@ -22,7 +22,7 @@ use Rattle.online.specs.Ids.{has}
 use Rattle.online.specs.Items.{IsItemsOf}
 use Rattle.online.specs.Kept.{kept_by, teams_by}
 use Rattle.online.specs.Lengths.{IsLengthsOf}
-use Rattle.online.specs.Lists.{AreListsOf, AreListsInOrder}
+use Rattle.online.specs.Lists.{AreListsOf, AreListsInOrder, IsFoundBefore}
 use Rattle.online.specs.Missed.{AreCreatedOutside, AreTasksLeft}
 use Rattle.online.specs.Online.{EachRecord, ComesAfter, PassesAfter, IsSettledAfter}
 use Rattle.online.specs.Replays.{IsReplayOf}
@@ -140,6 +140,11 @@ pub record IsRefusedStart (rs : List Record) (w : Watch) : Type 0 where
   pub replay : IsReplayOf rs w.replay
   pub lists : AreListsOf rs w.lists
   pub in_order : AreListsInOrder rs
+
+-- by the lists that are kept no live task precedes the one that must be preceded at a record with this body
+abbrev pub HasNoneBefore : Watch → Body → Type 0
+HasNoneBefore w body =
+    (task found : ℕ) → preceded_of body ≡ Some task → IsFoundBefore w.lists w.replay task found → ⊥
 
 -- this is kept where a task must be preceded at the record, but for what ends of roots say of their teams
 abbrev pub HasRefusedStart : List Record → Record → Watch → Type 0

@@ -195,7 +195,5 @@ fn has_taskwait(kinds: &[SyncKind]) -> bool
 fn is_next(thread: &Thread, record: &Record) -> bool
     ensures { IsTrue result → IsNextOf thread.now «record».now }
 {
-    u64::from(record.seq) == thread.count
-        && thread.count < CAPACITY
-        && thread.state.allows(&record.body)
+    u64::from(record.seq) == thread.count && thread.state.allows(&record.body)
 }

@@ -1,5 +1,5 @@
 //! The audit of records that come one after another.
-ghost use Rattle.std.specs.Prelude.{ℕ, List, Some, None, true, ◌≡◌, ◌++◌, ◌∷◌, [], IsTrue, IfOk, IfSome};
+ghost use Rattle.std.specs.Prelude.{ℕ, List, Some, None, true, ◌≡◌, ◌++◌, ◌∷◌, [], IsTrue, IfOk, IfSome, IsNone};
 ghost use Rattle.ompt_events.specs.declared.records.Record.{Record};
 ghost use Rattle.ompt_events.specs.declared.cause.Cause.{Cause};
 ghost use Rattle.ompt_events.specs.declared.names.SyncKind.TheVariants.{Taskwait};
@@ -15,7 +15,7 @@ ghost use Rattle.online.specs.Missed.{EndsTooEarly, StartsTooEarly};
 ghost use Rattle.online.specs.Waits.{ends_region};
 ghost use Rattle.online.specs.Watches.{IsWatchOf, HasWatched, IsRefusedWatch, HasRefused, CreatesOutside};
 ghost use Rattle.online.specs.Watches.{dependent_of, parent_in, MayList, IsRefusedStart, HasRefusedStart};
-ghost use Rattle.online.specs.Watches.{MustBePreceded, preceded_of};
+ghost use Rattle.online.specs.Watches.{MustBePreceded, preceded_of, HasNoneBefore};
 
 use crate::items::Items;
 use crate::lengths::Lengths;
@@ -196,11 +196,13 @@ impl Watch {
 
     /// Returns a task that starts at the record, or a taskwait with dependences that is complete there, and a task that
     /// it depends on and that is not complete, the one of those that are found whose list of dependences came first,
-    /// where the record failed the test of predecessors just before. Returns none where it finds none.
+    /// where the record failed the test of predecessors just before. Returns none only where by the lists that are kept
+    /// no live task precedes the other one.
     pub fn missed_predecessor(&self, record: &Record) -> Option<EarlyStart>
-        ensures { IfSome result (λ found. (records : List Record)
+        ensures named { IfSome result (λ found. (records : List Record)
             → HasRefusedStart records «record».now self.now
             → StartsTooEarly records «record».now found.dependent found.predecessor) }
+        ensures none { IsNone result → HasNoneBefore self.now «record».now.body }
     {
         let dependent = preceded(&record.body)?;
         let predecessor = self.lists.first_before(&self.replay, dependent)?;

@@ -13,13 +13,10 @@ ghost use Rattle.taskaudit.specs.Reports.{place_text, record_place};
 use crate::auditing::tell;
 use crate::report::{Counts, Place, late_line, no_line, yes_line};
 use crate::work::{AuditFault, Outcome};
-use certificate::{Sink, Source, Taken, Taker, WriteFault, read_each};
+use certificate::{MAX_NUMBERED, Sink, Source, Taken, Taker, WriteFault, read_each};
 use ompt_events::Record;
 use online::{Test, Watch};
 use std::alloc::{AllocError, Global};
-
-/// No more records are counted: there are no numbers for more lines.
-const MOST: usize = u32::MAX as usize - 2;
 
 /// What is kept of the records so far.
 #[derive(Drop)]
@@ -98,7 +95,7 @@ impl Watching {
         ensures counted { IsTrue result → CountsOne self.old self.new event.now }
         ensures missed { self.new.missed ≡ self.old.missed }
     {
-        if self.count >= MOST {
+        if self.count >= MAX_NUMBERED as usize {
             return false;
         }
         let Some(counts) = self.counts.with(event) else {
